@@ -1,23 +1,9 @@
 -- An item that comes to a list: the list has room for it in its piece, and its slot behind those of the others.
-use Rattle.std.proofs.Common.{◌≡◌, ◌≢◌, ◌⊎◌, ℕ, zero, suc, ◌+◌, ◌-◌, ◌≤◌, Bool, true, false, List, [], ◌∷◌, ◌++◌, length, length-append, Option, Some, None, IsSomeAnd, slice_get, set, option_map, inl, inr, refl, sym, ◌∙◌, ap, ap₂, subst, arith}
-use Rattle.std.specs.Option.{option_and_then}
-use Rattle.std.specs.Prelude.{Result, Ok, Err, OnOk, OnErr, if◌then◌else◌}
-use Rattle.std.specs.declared.alloc.Global.{Global}
-use Rattle.std.specs.declared.boxed.Box.{Box}
-use Rattle.fr_arena.specs.Ropes.{Rope}
-use Rattle.fr_frame.specs.declared.places.Form.{Form}
-use Rattle.fr_frame.specs.declared.places.Item.{Item}
-use Rattle.fr_frame.specs.declared.places.Piece.{Piece}
-use Rattle.fr_frame.specs.declared.places.Place.{Place}
-use Rattle.fr_frame.specs.declared.places.Slot.{Slot}
-use Rattle.fr_frame.specs.declared.places.SlotId.{SlotId}
-use Rattle.fr_frame.specs.Bodies.{body_occurs}
-use Rattle.fr_frame.specs.Cells.{Cell, absent, cells_occur, placed}
-use Rattle.fr_frame.specs.Changes.{IfInUse, SameTokens, Shows}
-use Rattle.fr_frame.specs.Heap.{Node, body_of, heap_of, node_in, slots_occur, with_body}
-use Rattle.fr_frame.specs.Items.{Held, children_with, item_in, item_or, items_of, keeps_items, piece_with, place_with, slot_seen, slots_seen, value_held, with_items, with_placed, IsReserved, KeepsReserved}
-use Rattle.fr_frame.specs.Outlines.{is_list_body}
-use Rattle.fr_frame.specs.RawItems.{piece_with_placed, with_room, HasRoomIn, IsAddedIn, IsListIn, IsSeenAs, IsSeenWith}
+use Rattle.std.proofs.Common.{◌≡◌, ◌≢◌, ◌⊎◌, ℕ, zero, suc, ◌+◌, ◌-◌, ◌≤◌, Bool, true, false, List, [], ◌∷◌, ◌++◌, length, length-append, Option, Some, None, IsSomeAnd, slice_get, set, option_map, inl, inr, refl, sym, ◌∙◌, ap, ap₂, subst, arith, if◌then◌else◌}
+use Rattle.fr_frame.specs.Common.{Box, Cell, Err, Global, HasRoomIn, Held, IfInUse, IsReserved, IsSeenAs, Item, KeepsReserved, Node, Ok, OnErr, OnOk, Piece, Place, Result, Rope, SameTokens, Shows, Slot, SlotId, absent, body_occurs, body_of, cells_occur, children_with, heap_of, is_list_body, item_in, item_or, items_of, keeps_items, node_in, option_and_then, piece_with, place_with, placed, slot_seen, slots_occur, slots_seen, value_held, with_body, with_items, with_placed}
+use Rattle.fr_frame.specs.declared.places.ItemsKind.{ItemsKind}
+use Rattle.fr_frame.specs.declared.places.Tracker.{Tracker}
+use Rattle.fr_frame.specs.RawItems.{piece_with_placed, with_room, IsAddedIn, IsListIn, IsSeenWith}
 use Rattle.fr_frame.proofs.HeapLaws.{number_cases}
 use Rattle.fr_frame.proofs.PlaceLaws.{occur_change, repieced, set_as_was, shows}
 use Rattle.fr_frame.proofs.SeenLaws.{seen_get, seen_set}
@@ -79,24 +65,17 @@ piece_more : (held : Held) (n : ℕ) (piece : Piece) (items : List SlotId) (item
 piece_more held n Piece.Entered items item list room none = cc
 piece_more held n (Piece.Whole v) items item list room none = cc
 piece_more held n (Piece.Object keys cells) items item list room none = cc
-piece_more held n (Piece.Begun form cells) items item list room none = go form list
+piece_more held n (Piece.Begun tracker cells) items item list room none = go tracker list
   where
-    go : (f : Form) → is_list_body (body_of (Piece.Begun f cells)) ≡ true
+    go : (f : Tracker) → is_list_body (body_of (Piece.Begun f cells)) ≡ true
         → piece_with held n (items ++ item ∷ []) (with_room (Piece.Begun f cells))
         ≡ piece_with_placed item.0 (piece_with held n items (Piece.Begun f cells))
-    go Form.List e = ap (Piece.Begun Form.List) (children_more held n cells items item room none)
-    go Form.Slice e = ap (Piece.Begun Form.Slice) (children_more held n cells items item room none)
-    go Form.ClosedSlice e = ap (Piece.Begun Form.ClosedSlice) (children_more held n cells items item room none)
-    go Form.Struct e = cc
-    go Form.Array e = cc
-    go (Form.Variant k) e = cc
-    go Form.Some e = cc
-    go Form.Ok e = cc
-    go Form.Err e = cc
-    go Form.Pointer e = cc
-    go Form.Set e = cc
-    go (Form.Map base) e = cc
-    go Form.DynArray e = cc
+    go (Tracker.Items ItemsKind.List) e = ap (Piece.Begun (Tracker.Items ItemsKind.List)) (children_more held n cells items item room none)
+    go (Tracker.Items ItemsKind.Slice) e = ap (Piece.Begun (Tracker.Items ItemsKind.Slice)) (children_more held n cells items item room none)
+    go (Tracker.Items ItemsKind.ClosedSlice) e = ap (Piece.Begun (Tracker.Items ItemsKind.ClosedSlice)) (children_more held n cells items item room none)
+    go (Tracker.Items ItemsKind.Set) e = cc
+    go (Tracker.Items ItemsKind.Array) e = cc
+    go _ e = cc
 
 -- Calls that may be refused.
 
@@ -114,10 +93,10 @@ either_way (Err e) A B C done refused a b = refused b
 piece_none : (held : Held) (n : ℕ) (piece : Piece) → piece_with held n [] piece ≡ piece
 piece_none held n Piece.Entered = refl
 piece_none held n (Piece.Whole v) = refl
-piece_none held n (Piece.Begun form cells) = by (keeps_items form)
+piece_none held n (Piece.Begun tracker cells) = by (keeps_items tracker)
   where
-    by : (keeps : Bool) → Piece.Begun form (if keeps then children_with held n cells [] else cells) ≡ Piece.Begun form cells
-    by true = ap (Piece.Begun form) (with_none held n 0 (length cells - 0) cells)
+    by : (keeps : Bool) → Piece.Begun tracker (if keeps then children_with held n cells [] else cells) ≡ Piece.Begun tracker cells
+    by true = ap (Piece.Begun tracker) (with_none held n 0 (length cells - 0) cells)
     by false = refl
 piece_none held n (Piece.Object keys cells) = refl
 
@@ -155,9 +134,7 @@ added_in before place items now piece item used same is are room = record {
 list_of_piece : (held : Held) (n : ℕ) (items : List SlotId) (piece : Piece)
     → is_list_body (body_of (piece_with held n items piece)) ≡ is_list_body (body_of piece)
 list_of_piece held n items Piece.Entered = refl
-list_of_piece held n items (Piece.Whole v) = refl
-list_of_piece held n items (Piece.Begun form cells) = refl
-list_of_piece held n items (Piece.Object keys cells) = refl
+list_of_piece held n items _ = refl
 
 -- All slots.
 
@@ -170,27 +147,21 @@ seen_kept raw n was now here none same =
     (seen_get raw n ∙ ap (option_map (slot_seen (items_of raw) n)) here)
 
 pub none_in : (slot : Slot) → IsListIn slot → item_in slot ≡ None
-none_in (Slot.Free next) h = refl
-none_in Slot.Reserved h = refl
-none_in (Slot.Used place) h = refl
-none_in (Slot.List place items) h = refl
 none_in (Slot.Item item) h = absurd h
+none_in _ h = refl
 
 body_placed : (item : ℕ) (piece : Piece) → body_of (piece_with_placed item piece) ≡ with_placed item (body_of piece)
 body_placed item Piece.Entered = refl
-body_placed item (Piece.Whole v) = refl
-body_placed item (Piece.Begun form cells) = refl
-body_placed item (Piece.Object keys cells) = refl
+body_placed item _ = refl
 
 cells_more : (item : ℕ) (cells : List Cell) (t : ℕ) → cells_occur (cells ++ placed item ∷ []) t ≡ cells_occur cells t
 cells_more item [] t = refl
 cells_more item (c ∷ cells) t = omega (arith, cells_more item cells t)
 
 placed_occurs : (item : ℕ) (piece : Piece) (t : ℕ) → body_occurs (body_of (piece_with_placed item piece)) t ≡ body_occurs (body_of piece) t
-placed_occurs item Piece.Entered t = refl
-placed_occurs item (Piece.Whole v) t = refl
-placed_occurs item (Piece.Begun form cells) t = cells_more item cells t
+placed_occurs item (Piece.Begun tracker cells) t = cells_more item cells t
 placed_occurs item (Piece.Object keys cells) t = cells_more item cells t
+placed_occurs item _ t = refl
 
 module _ (raw slots : List Slot) (view_is : slots_seen raw ≡ slots) (n : ℕ) (was : Slot) (here : slice_get raw n ≡ Some was) where
   pub list_in : IfInUse slots n (λ (at : Node). is_list_body at.body ≡ true) → IsListIn was

@@ -1,23 +1,14 @@
 -- Children side by side: what a change of one value or of one bit does to the list that contracts see.
-use Rattle.std.proofs.Common.{◌≡◌, ◌≢◌, ℕ, zero, suc, ◌+◌, ◌-◌, ◌<◌, ◌≤◌, Bool, true, false, List, [], ◌∷◌, ◌++◌, length, map, drop, replicate, Option, Some, None, IsSome, slice_get, slice_index, set, length-set, refl, sym, ◌∙◌, ap, subst, arith}
+use Rattle.std.proofs.Common.{◌≡◌, ◌≢◌, ℕ, zero, suc, ◌+◌, ◌-◌, ◌<◌, ◌≤◌, Bool, true, false, List, [], ◌∷◌, ◌++◌, length, map, drop, replicate, Option, Some, None, IsSome, slice_get, slice_index, set, length-set, refl, sym, ◌∙◌, ap, subst, arith, ◌&&◌, ◌||◌, ◌↔◌}
 use Rattle.std.specs.FinSet as finite
-use Rattle.std.specs.List.{All}
-use Rattle.std.specs.Option.{option_and_then}
-use Rattle.std.specs.Prelude.{is_some, not, ◌&&◌, ◌||◌, ◌==◌, nat_lt, ◌↔◌, IsTrue, get_or}
+use Rattle.fr_frame.specs.Common.{All, BitSet, Cell, Room, Room_fewer, Room_risen, Room_same, RoseBy, Val, Vals, Value, absent, both, cell, cell_occurs, cells_occur, cells_of, cells_of_vals, first, given, in_slot, is_some, no_vals, occurs, one_more, option_and_then, placed, slot_at, slot_of_cell, unit, vals_occur, vals_view, value_at, value_occurs, value_of_cell, values_of, view}
+use Rattle.std.specs.Prelude.{not, ◌==◌, nat_lt, IsTrue, get_or}
 use Rattle.std.proofs.lemmas.Grind.{common_steps}
 use Rattle.std.proofs.lemmas.Bool.Decides.{nat_tests}
 use Rattle.fr_arena.specs.BitSets.{HasAllBelow}
 use Rattle.std.proofs.lemmas.List.Elements.{All-head, All-tail}
-use Rattle.fr_arena.specs.BitSets.{BitSet}
-use Rattle.fr_shape.specs.declared.value.Value.{Value}
-use Rattle.fr_shape.specs.Val.{Val, Vals, unit, token, no_vals, first}
-use Rattle.fr_shape.specs.View.{view, vals_view}
-use Rattle.fr_model.specs.Places.{one_more}
-use Rattle.fr_frame.specs.Cells.{Cell, absent, given, placed, in_slot, cell, cells_of, value_of_cell, slot_of_cell, value_at, slot_at, values_of, value_occurs, cell_occurs, cells_occur}
-use Rattle.fr_frame.specs.Bodies.{cells_of_vals}
-use Rattle.fr_shape.specs.Released.{Room, RoseBy}
-use Rattle.fr_shape.specs.TokenLaws.{both, nothing, Room_fewer, Room_same, Room_risen, RoseBy_nothing, RoseBy_same}
-use Rattle.fr_shape.specs.Tokens.{occurs, vals_occur}
+use Rattle.fr_shape.specs.Val.{token}
+use Rattle.fr_shape.specs.TokenLaws.{nothing, RoseBy_nothing, RoseBy_same}
 
 pub cells_length : (bits : BitSet) (i : ℕ) (vs : List Value) → length (cells_of bits i vs) ≡ length vs
 cells_length bits i [] = refl
@@ -313,8 +304,7 @@ occur_set (x ∷ cs) (suc k) c d t e = omega (arith, occur_set cs k c d t e)
 
 pub cell_value_occurs : (c : Cell) (t : ℕ) → cell_occurs c t ≡ value_occurs (value_of_cell c) t
 cell_value_occurs absent t = refl
-cell_value_occurs (given v) t = refl
-cell_value_occurs (placed n) t = refl
+cell_value_occurs _ t = refl
 
 pub cell_there : (cs : List Cell) (k : ℕ) → k < length cs → (c : Cell) × (slice_get cs k ≡ Some c)
 cell_there [] k h = absurd (omega arith)

@@ -1,27 +1,10 @@
 -- An item that completes: its slot has its value from then on, and contracts see its list with the value.
-use Rattle.std.proofs.Common.{◌≡◌, ◌≢◌, ◌⊎◌, ℕ, zero, suc, ◌+◌, ◌-◌, ◌<◌, ◌≤◌, Bool, true, false, List, [], ◌∷◌, length, Option, Some, None, IsSome, IsSomeAnd, slice_get, set, option_map, is_some, nat_eq, inl, inr, refl, sym, ◌∙◌, ap, ap₂, subst, arith}
-use Rattle.std.specs.Option.{option_and_then}
-use Rattle.std.specs.Prelude.{if◌then◌else◌, ◌&&◌}
-use Rattle.std.specs.declared.alloc.Global.{Global}
-use Rattle.std.specs.declared.boxed.Box.{Box}
-use Rattle.fr_arena.specs.Ropes.{Rope}
-use Rattle.fr_shape.specs.Tokens.{occurs}
-use Rattle.fr_shape.specs.Val.{Val}
-use Rattle.fr_shape.specs.declared.value.Value.{Value}
-use Rattle.fr_shape.specs.View.{view}
-use Rattle.fr_frame.specs.declared.places.Form.{Form}
-use Rattle.fr_frame.specs.declared.places.FrameOwner.{FrameOwner}
-use Rattle.fr_frame.specs.declared.places.Item.{Item}
-use Rattle.fr_frame.specs.declared.places.Piece.{Piece}
-use Rattle.fr_frame.specs.declared.places.Place.{Place}
-use Rattle.fr_frame.specs.declared.places.Slot.{Slot}
-use Rattle.fr_frame.specs.declared.places.SlotId.{SlotId}
-use Rattle.fr_frame.specs.Bodies.{Body, begun_body, body_occurs, cell_at, unlinked, unlinked_by, value_of, with_cell}
-use Rattle.fr_frame.specs.Cells.{Cell, absent, given, placed}
-use Rattle.fr_frame.specs.Changes.{IfInUse, IsInUse, SameTokens, Shows}
-use Rattle.fr_frame.specs.Heap.{Heap, Node, as_form, body_of, gives, heap_of, held_by, node_in, node_of, slot_occurs, slots_occur, unlinks, with_slot, without}
-use Rattle.fr_frame.specs.Items.{Held, children_with, item_in, item_or, items_of, keeps_items, piece_with, place_with, slot_seen, slots_seen, value_held, with_items, is_used, FreesItem, IsListed, IsListedIn, IsPlain, IsPlainAt, IsUsedAt}
-use Rattle.fr_frame.specs.RawItems.{IsBelow, IsSeenAs, IsTakenOf}
+use Rattle.std.proofs.Common.{◌≡◌, ◌≢◌, ◌⊎◌, ℕ, zero, suc, ◌+◌, ◌-◌, ◌<◌, ◌≤◌, Bool, true, false, List, [], ◌∷◌, length, Option, Some, None, IsSome, IsSomeAnd, slice_get, set, option_map, is_some, nat_eq, inl, inr, refl, sym, ◌∙◌, ap, ap₂, subst, arith, if◌then◌else◌, ◌&&◌}
+use Rattle.fr_frame.specs.Common.{Body, Box, Cell, FrameOwner, FreesItem, Global, Heap, Held, IfInUse, IsInUse, IsListedIn, IsPlain, IsPlainAt, IsSeenAs, IsUsedAt, Item, Node, Piece, Place, Rope, SameTokens, Shows, Slot, SlotId, Val, Value, absent, as_tracker, begun_body, body_occurs, body_of, cell_at, children_with, given, gives, heap_of, held_by, is_used, item_in, item_or, items_of, keeps_items, node_in, node_of, occurs, option_and_then, piece_with, place_with, placed, slot_occurs, slot_seen, slots_occur, slots_seen, unlinked, unlinks, value_held, value_of, view, with_cell, with_items, with_slot, without}
+use Rattle.fr_frame.specs.declared.places.Tracker.{Tracker}
+use Rattle.fr_frame.specs.Bodies.{unlinked_by}
+use Rattle.fr_frame.specs.Items.{IsListed}
+use Rattle.fr_frame.specs.RawItems.{IsBelow, IsTakenOf}
 use Rattle.fr_frame.proofs.AddItemLaws.{got_other, got_set, seen_kept, set_twice}
 use Rattle.fr_frame.proofs.CellLaws.{occur_set as cells_set_occur}
 use Rattle.fr_frame.proofs.HandLaws.{no_value_placed, so_of, with_body_alike, with_body_twice}
@@ -115,9 +98,9 @@ module _ (raw : List Slot) (id : ℕ) (was : Slot) (here : slice_get raw id ≡ 
       ∙ ap (λ (b : Bool). if b && nat_eq item.number item.number then Some (view item.value) else None) (same_number item.list.0)
       ∙ ap (λ (b : Bool). if b then Some (view item.value) else None) (same_number item.number)
 
-  module _ (form : Form) (cells : List Cell) (items : List SlotId) (slot : SlotId) (behind : length cells - length items ≤ item.number)
+  module _ (tracker : Tracker) (cells : List Cell) (items : List SlotId) (slot : SlotId) (behind : length cells - length items ≤ item.number)
       (inside : item.number < length cells) (listed : slice_get items (item.number - (length cells - length items)) ≡ Some slot)
-      (is : slot.0 ≡ id) (keeps : keeps_items form ≡ true) where
+      (is : slot.0 ≡ id) (keeps : keeps_items tracker ≡ true) where
     children_now : children_with (items_of (set raw id (Slot.Item item))) item.list.0 cells items
         ≡ set (children_with (items_of raw) item.list.0 cells items) item.number (given (view item.value))
     children_now =
@@ -126,10 +109,10 @@ module _ (raw : List Slot) (id : ℕ) (was : Slot) (here : slice_get raw id ≡ 
         (omega (arith, behind)) (omega arith) inside listed other_item
         (ap (λ (k : ℕ). value_held item.list.0 item.number (items_of (set raw id (Slot.Item item)) k)) is ∙ asked)
 
-    with_them : (held : Held) → piece_with held item.list.0 items (Piece.Begun form cells)
-        ≡ Piece.Begun form (children_with held item.list.0 cells items)
+    with_them : (held : Held) → piece_with held item.list.0 items (Piece.Begun tracker cells)
+        ≡ Piece.Begun tracker (children_with held item.list.0 cells items)
     with_them held =
-        ap (λ (b : Bool). Piece.Begun form (if b then children_with held item.list.0 cells items else cells)) keeps
+        ap (λ (b : Bool). Piece.Begun tracker (if b then children_with held item.list.0 cells items else cells)) keeps
 
   -- The list in its slot has the item.
   module _ (list : Place) (items : Box (Rope SlotId) Global) (above : slice_get raw item.list.0 ≡ Some (Slot.List list items))
@@ -138,26 +121,26 @@ module _ (raw : List Slot) (id : ℕ) (was : Slot) (here : slice_get raw id ≡ 
     cells_before = children_with (items_of raw) item.list.0 listed.cells items.value.items
 
     abbrev pub list_before : Place
-    list_before = record list { piece = Piece.Begun listed.form cells_before }
+    list_before = record list { piece = Piece.Begun listed.tracker cells_before }
 
     abbrev pub list_now : Place
-    list_now = record list { piece = Piece.Begun listed.form (set cells_before item.number (given (view item.value))) }
+    list_now = record list { piece = Piece.Begun listed.tracker (set cells_before item.number (given (view item.value))) }
 
     list_was : slot_seen (items_of raw) item.list.0 (Slot.List list items) ≡ Slot.Used list_before
     list_was =
         ap (λ (p : Piece). Slot.Used (record list { piece = p }))
         (ap (piece_with (items_of raw) item.list.0 items.value.items) listed.is
-        ∙ with_them listed.form listed.cells items.value.items listed.item listed.behind listed.inside listed.listed listed.slot
+        ∙ with_them listed.tracker listed.cells items.value.items listed.item listed.behind listed.inside listed.listed listed.slot
         listed.keeps (items_of raw))
 
     list_is : slot_seen (items_of (set raw id (Slot.Item item))) item.list.0 (Slot.List list items) ≡ Slot.Used list_now
     list_is =
         ap (λ (p : Piece). Slot.Used (record list { piece = p }))
         (ap (piece_with (items_of (set raw id (Slot.Item item))) item.list.0 items.value.items) listed.is
-        ∙ with_them listed.form listed.cells items.value.items listed.item listed.behind listed.inside listed.listed listed.slot
+        ∙ with_them listed.tracker listed.cells items.value.items listed.item listed.behind listed.inside listed.listed listed.slot
         listed.keeps (items_of (set raw id (Slot.Item item)))
-        ∙ ap (Piece.Begun listed.form)
-        (children_now listed.form listed.cells items.value.items listed.item listed.behind listed.inside listed.listed listed.slot
+        ∙ ap (Piece.Begun listed.tracker)
+        (children_now listed.tracker listed.cells items.value.items listed.item listed.behind listed.inside listed.listed listed.slot
         listed.keeps))
 
     list_there : slice_get (slots_seen raw) item.list.0 ≡ Some (Slot.Used list_before)
@@ -216,15 +199,15 @@ module _ (raw : List Slot) (id : ℕ) (was : Slot) (here : slice_get raw id ≡ 
         each n = at n (number_cases n item.list.0)
 
     module _ (held : slice_get cells_before item.number ≡ Some (placed id)) where
-      given_up : (form : Form)
-          → with_cell (unlinked id item.number (begun_body (as_form form) cells_before)) item.number (given (view item.value))
-          ≡ begun_body (as_form form) (set cells_before item.number (given (view item.value)))
-      given_up form =
-          ap (λ (o : Option Cell). with_cell (unlinked_by id item.number (begun_body (as_form form) cells_before) o) item.number
+      given_up : (tracker : Tracker)
+          → with_cell (unlinked id item.number (begun_body (as_tracker tracker) cells_before)) item.number (given (view item.value))
+          ≡ begun_body (as_tracker tracker) (set cells_before item.number (given (view item.value)))
+      given_up tracker =
+          ap (λ (o : Option Cell). with_cell (unlinked_by id item.number (begun_body (as_tracker tracker) cells_before) o) item.number
           (given (view item.value))) held
-          ∙ ap (λ (b : Bool). with_cell (if b then begun_body (as_form form) (set cells_before item.number absent)
-          else begun_body (as_form form) cells_before) item.number (given (view item.value))) (same_number id)
-          ∙ ap (begun_body (as_form form)) (cell_twice cells_before item.number absent (given (view item.value)))
+          ∙ ap (λ (b : Bool). with_cell (if b then begun_body (as_tracker tracker) (set cells_before item.number absent)
+          else begun_body (as_tracker tracker) cells_before) item.number (given (view item.value))) (same_number id)
+          ∙ ap (begun_body (as_tracker tracker)) (cell_twice cells_before item.number absent (given (view item.value)))
 
       pub completed_shows : Shows (slots_seen (set raw id (Slot.Item item)))
           (gives (FrameOwner.Child item.list item.number) (view item.value)
@@ -251,7 +234,7 @@ module _ (raw : List Slot) (id : ℕ) (was : Slot) (here : slice_get raw id ≡ 
           value =
               ap (option_map (λ (x : Node). record x { body = both x.body }))
               (sym (left item.list.0) ∙ ap (option_and_then node_in) list_still)
-              ∙ ap (λ (b : Body). Some (record (node_of list_now) { body = b })) (given_up listed.form)
+              ∙ ap (λ (b : Body). Some (record (node_of list_now) { body = b })) (given_up listed.tracker)
 
       pub completed_occurs : (t : ℕ)
           → slots_occur (slots_seen (set raw id (Slot.Item item))) t + slot_occurs (slot_seen (items_of raw) id was) t
@@ -283,26 +266,18 @@ module _ (raw drained slots : List Slot) (view_is : slots_seen raw ≡ slots) (i
     (complete : IfInUse slots id (λ (at : Node). IsSome (value_of at.body)))
     (owned : IfInUse slots id (λ (at : Node). held_by (heap_of slots) at.owner ≡ Some (placed id))) where
   used : (slot : Slot) (at : Node) → node_in slot ≡ Some at → is_used slot ≡ true
-  used (Slot.Free next) at e = cc
-  used Slot.Reserved at e = cc
   used (Slot.Used place) at e = refl
   used (Slot.List place items) at e = refl
-  used (Slot.Item item) at e = cc
+  used _ at e = cc
 
   the_place : (found : Option Slot) → slice_get drained id ≡ found → IsSomeAnd found IsPlain
       → (at : Place) × (slice_get drained id ≡ Some (Slot.Used at))
-  the_place None e h = absurd h
-  the_place (Some (Slot.Free next)) e h = absurd h
-  the_place (Some Slot.Reserved) e h = absurd h
   the_place (Some (Slot.Used at)) e h = (at, e)
-  the_place (Some (Slot.List at items)) e h = absurd h
-  the_place (Some (Slot.Item item)) e h = absurd h
+  the_place _ e h = absurd h
 
   -- the place that contracts see is of the same owner
   seen_owner : (slot : Slot) (at : Place) (node : Node) → node_in slot ≡ Some node
       → slot_seen (items_of raw) id slot ≡ Slot.Used at → at.owner ≡ node.owner
-  seen_owner (Slot.Free next) at node e s = cc
-  seen_owner Slot.Reserved at node e s = cc
   seen_owner (Slot.Used place) at node e s =
       let same : place ≡ at = cc in
       let is : node_of place ≡ node = cc in
@@ -311,7 +286,7 @@ module _ (raw drained slots : List Slot) (view_is : slots_seen raw ≡ slots) (i
       let same : place_with (items_of raw) id place items.value.items ≡ at = cc in
       let is : node_of place ≡ node = cc in
       ap (λ (p : Place). p.owner) (sym same) ∙ ap (λ (x : Node). x.owner) is
-  seen_owner (Slot.Item item) at node e s = cc
+  seen_owner _ at node e s = cc
 
   there_is : (at : Place) × (slice_get drained id ≡ Some (Slot.Used at))
   there_is =

@@ -1,30 +1,10 @@
 -- Fills by the rules of the end of deferred mode, child by child.
 use Rattle.std.proofs.Common.{◌≡◌, ◌⊎◌, inl, inr, ℕ, zero, suc, ◌+◌, ◌<◌, ◌≤◌, List, [], ◌∷◌, length, drop, replicate, Option, Some, None, IsSome, set, refl, sym, ◌∙◌, ap, subst, arith}
-use Rattle.std.specs.Option.{option_or}
-use Rattle.std.specs.Prelude.{Result, Ok, Err, IfErr, OnErr, OnOk}
-use Rattle.fr_shape.specs.declared.error.ReflectErrorKind.{ReflectErrorKind}
-use Rattle.fr_shape.specs.declared.shape.Def.{Def}
-use Rattle.fr_shape.specs.declared.shape.FieldRef.{FieldRef}
-use Rattle.fr_shape.specs.Checked.{IsChecked}
-use Rattle.fr_shape.specs.Fills.{preset_of}
-use Rattle.fr_shape.specs.Look.{Table, def_of, field_at}
-use Rattle.fr_shape.specs.Val.{Val, Vals}
-use Rattle.fr_model.specs.Complete.{hole_takes, made, missing_child, missing_value}
-use Rattle.fr_model.specs.Failing.{first_unmet}
-use Rattle.fr_model.specs.Places.{deferred_column, child_count, count_children, one_more}
-use Rattle.fr_model.specs.Tree.{Form, as_struct, hole, Trees, branch, holes}
-use Rattle.fr_model.specs.Well.{IsFullAs}
-use Rattle.fr_plan.specs.declared.plans.FieldPlan.{FieldPlan}
-use Rattle.fr_plan.specs.TypePlan.{Plan}
-use Rattle.fr_frame.specs.declared.places.Parts.{Parts}
-use Rattle.fr_frame.specs.Bodies.{Body, entered_body, whole_body, begun_body, as_fields, body_occurs, trees_of, AreUnplaced, IsClosed}
-use Rattle.fr_frame.specs.Cells.{Cell, absent, given, placed, value_of_cell, value_at, values_of, cell_occurs, cells_occur}
-use Rattle.fr_frame.specs.Completing.{IsFull}
-use Rattle.fr_frame.specs.Defaults.{defaulted, defaulted_by, defaulted_cell, defaulted_cells, defaulted_struct, first_absent}
-use Rattle.fr_frame.specs.FieldDefaults.{unmet_child, defaulted_nth, defaulted_first}
-use Rattle.fr_frame.specs.Filling.{IsTold}
-use Rattle.fr_frame.specs.Heap.{parts_in}
-use Rattle.fr_frame.proofs.FormLaws.{field_missing, others_missing, others_take, others_unmarked}
+use Rattle.fr_frame.specs.Common.{AreUnplaced, Body, Cell, Def, Err, FieldPlan, FieldRef, IfErr, IsChecked, IsClosed, IsFull, IsFullAs, IsTold, Ok, OnErr, OnOk, Plan, ReflectErrorKind, Result, Table, Tracker, Trees, Val, Vals, absent, as_fields, begun_body, body_occurs, cell_occurs, cells_occur, child_count, def_of, defaulted, defaulted_by, defaulted_cell, defaulted_cells, defaulted_nth, defaulted_struct, deferred_column, entered_body, field_at, fields_of_tracker, first_absent, first_unmet, given, hole_takes, holes, made, missing_child, missing_value, one_more, option_or, placed, preset_of, trees_of, unmet_child, value_at, value_of_cell, values_of, whole_body}
+use Rattle.fr_model.specs.Places.{count_children}
+use Rattle.fr_model.specs.Tree.{hole, branch}
+use Rattle.fr_frame.specs.FieldDefaults.{defaulted_first}
+use Rattle.fr_frame.proofs.TrackerLaws.{field_missing, others_missing, others_take, others_unmarked}
 use Rattle.fr_frame.proofs.FillLaws.{light_occurs, none_occur, none_placed, preset_light, takes_light}
 use Rattle.fr_frame.proofs.LackLaws.{first_none}
 
@@ -51,8 +31,7 @@ pub nth_nothing : (fill : Option Val) (i : ℕ) (cs : List Cell) → None ≡ fi
 nth_nothing fill i [] h = refl
 nth_nothing (Some v) zero (c ∷ cs) h = absurd (cc)
 nth_nothing None zero (given w ∷ cs) h = refl
-nth_nothing None zero (absent ∷ cs) h = refl
-nth_nothing None zero (placed n ∷ cs) h = refl
+nth_nothing None zero _ h = refl
 nth_nothing fill (suc i) (c ∷ cs) h = ap (λ (ds : List Cell). c ∷ ds) (nth_nothing fill i cs h)
 
 -- and one that takes something holds that
@@ -74,12 +53,12 @@ cell_closed (Some v) (given w) h = h
 cell_closed None (given w) h = h
 cell_closed fill (placed n) h = absurd h.0
 
-module _ (table : Table) (s : ℕ) (form : Form) where
+module _ (table : Table) (s : ℕ) (tracker : Tracker) where
   abbrev takes : ℕ → Option Val
-  takes i = hole_takes deferred_column table s form i
+  takes i = hole_takes deferred_column table s tracker i
 
   first_step : (i n : ℕ) (cs : List Cell)
-      → defaulted_nth (takes (i + n)) n (defaulted_first table s form i n cs) ≡ defaulted_first table s form i (suc n) cs
+      → defaulted_nth (takes (i + n)) n (defaulted_first table s tracker i n cs) ≡ defaulted_first table s tracker i (suc n) cs
   first_step i zero [] = refl
   first_step i zero (c ∷ cs) =
       let here : i + 0 ≡ i = omega arith in
@@ -87,29 +66,29 @@ module _ (table : Table) (s : ℕ) (form : Form) where
   first_step i (suc n) [] = refl
   first_step i (suc n) (c ∷ cs) =
       let here : i + suc n ≡ suc i + n = omega arith in
-      ap (λ (k : ℕ). defaulted_cell (takes i) c ∷ defaulted_nth (takes k) n (defaulted_first table s form (suc i) n cs)) here
+      ap (λ (k : ℕ). defaulted_cell (takes i) c ∷ defaulted_nth (takes k) n (defaulted_first table s tracker (suc i) n cs)) here
       ∙ ap (λ (ds : List Cell). defaulted_cell (takes i) c ∷ ds) (first_step (suc i) n cs)
 
   pub first_more : (n : ℕ) (cs : List Cell)
-      → defaulted_nth (takes n) n (defaulted_first table s form 0 n cs) ≡ defaulted_first table s form 0 (n + 1) cs
+      → defaulted_nth (takes n) n (defaulted_first table s tracker 0 n cs) ≡ defaulted_first table s tracker 0 (n + 1) cs
   first_more n cs =
       let here : n ≡ 0 + n = omega arith in
       let next : suc n ≡ n + 1 = omega arith in
-      ap (λ (k : ℕ). defaulted_nth (takes k) n (defaulted_first table s form 0 n cs)) here ∙ first_step 0 n cs
-      ∙ ap (λ (k : ℕ). defaulted_first table s form 0 k cs) next
+      ap (λ (k : ℕ). defaulted_nth (takes k) n (defaulted_first table s tracker 0 n cs)) here ∙ first_step 0 n cs
+      ∙ ap (λ (k : ℕ). defaulted_first table s tracker 0 k cs) next
 
-  pub first_all : (i n : ℕ) (cs : List Cell) → length cs ≤ n → defaulted_first table s form i n cs ≡ defaulted_cells table s form i cs
+  pub first_all : (i n : ℕ) (cs : List Cell) → length cs ≤ n → defaulted_first table s tracker i n cs ≡ defaulted_cells table s tracker i cs
   first_all i zero [] h = refl
   first_all i (suc n) [] h = refl
   first_all i zero (c ∷ cs) h = absurd (omega arith)
   first_all i (suc n) (c ∷ cs) h = ap (λ (ds : List Cell). defaulted_cell (takes i) c ∷ ds) (first_all (suc i) n cs (omega arith))
 
-  pub first_count : (i n : ℕ) (cs : List Cell) → length (defaulted_first table s form i n cs) ≡ length cs
+  pub first_count : (i n : ℕ) (cs : List Cell) → length (defaulted_first table s tracker i n cs) ≡ length cs
   first_count i zero cs = refl
   first_count i (suc n) [] = refl
   first_count i (suc n) (c ∷ cs) = ap suc (first_count (suc i) n cs)
 
-  pub first_closed : (i n : ℕ) (cs : List Cell) → AreUnplaced cs → AreUnplaced (defaulted_first table s form i n cs)
+  pub first_closed : (i n : ℕ) (cs : List Cell) → AreUnplaced cs → AreUnplaced (defaulted_first table s tracker i n cs)
   first_closed i zero cs h = h
   first_closed i (suc n) [] h = h
   first_closed i (suc n) (c ∷ cs) h = ((cell_closed (takes i) c (h.0, tt)).0, first_closed (suc i) n cs h.1)
@@ -118,7 +97,7 @@ module _ (table : Table) (s : ℕ) (form : Form) where
   cell_same checked i c t = go (takes i) refl c
     where
       go : (fill : Option Val) → takes i ≡ fill → (c : Cell) → cell_occurs (defaulted_cell fill c) t ≡ cell_occurs c t
-      go (Some v) e absent = light_occurs v t (takes_light deferred_column table s form i v checked e)
+      go (Some v) e absent = light_occurs v t (takes_light deferred_column table s tracker i v checked e)
       go None e absent = refl
       go (Some v) e (given w) = refl
       go None e (given w) = refl
@@ -126,27 +105,27 @@ module _ (table : Table) (s : ℕ) (form : Form) where
       go None e (placed n) = refl
 
   pub first_tokens : IsChecked table → (i n : ℕ) (cs : List Cell) (t : ℕ)
-      → cells_occur (defaulted_first table s form i n cs) t ≡ cells_occur cs t
+      → cells_occur (defaulted_first table s tracker i n cs) t ≡ cells_occur cs t
   first_tokens checked i zero cs t = refl
   first_tokens checked i (suc n) [] t = refl
   first_tokens checked i (suc n) (c ∷ cs) t = omega (arith, cell_same checked i c t, first_tokens checked (suc i) n cs t)
 
   -- All of them at once.
 
-  pub all_count : (i : ℕ) (cs : List Cell) → length (defaulted_cells table s form i cs) ≡ length cs
+  pub all_count : (i : ℕ) (cs : List Cell) → length (defaulted_cells table s tracker i cs) ≡ length cs
   all_count i [] = refl
   all_count i (c ∷ cs) = ap suc (all_count (suc i) cs)
 
-  pub all_closed : (i : ℕ) (cs : List Cell) → AreUnplaced cs → AreUnplaced (defaulted_cells table s form i cs)
+  pub all_closed : (i : ℕ) (cs : List Cell) → AreUnplaced cs → AreUnplaced (defaulted_cells table s tracker i cs)
   all_closed i [] h = h
   all_closed i (c ∷ cs) h = ((cell_closed (takes i) c (h.0, tt)).0, all_closed (suc i) cs h.1)
 
-  pub all_tokens : IsChecked table → (i : ℕ) (cs : List Cell) (t : ℕ) → cells_occur (defaulted_cells table s form i cs) t ≡ cells_occur cs t
+  pub all_tokens : IsChecked table → (i : ℕ) (cs : List Cell) (t : ℕ) → cells_occur (defaulted_cells table s tracker i cs) t ≡ cells_occur cs t
   all_tokens checked i [] t = refl
   all_tokens checked i (c ∷ cs) t = omega (arith, cell_same checked i c t, all_tokens checked (suc i) cs t)
 
   -- children that are all there stay, and none of them is asked
-  pub all_there_stay : (i : ℕ) (cs : List Cell) → IsSome (values_of cs) → cs ≡ defaulted_cells table s form i cs
+  pub all_there_stay : (i : ℕ) (cs : List Cell) → IsSome (values_of cs) → cs ≡ defaulted_cells table s tracker i cs
   all_there_stay i [] h = refl
   all_there_stay i (absent ∷ cs) h = absurd (cc)
   all_there_stay i (placed n ∷ cs) h = absurd (cc)
@@ -157,32 +136,30 @@ module _ (table : Table) (s : ℕ) (form : Form) where
       given_stays (Some w) = refl
       given_stays None = refl
 
-  pub all_there_met : (i : ℕ) (cs : List Cell) → IsSome (values_of cs) → first_unmet table s form i (trees_of cs) ≡ None
+  pub all_there_met : (i : ℕ) (cs : List Cell) → IsSome (values_of cs) → first_unmet table s tracker i (trees_of cs) ≡ None
   all_there_met i [] h = refl
-  all_there_met i (absent ∷ cs) h = absurd (cc)
-  all_there_met i (placed n ∷ cs) h = absurd (cc)
   all_there_met i (given v ∷ cs) h = all_there_met (suc i) cs (later_there v cs h)
+  all_there_met i _ h = absurd (cc)
 
 -- Child by child.
 
-module _ (table : Table) (s : ℕ) (form : Form) where
+module _ (table : Table) (s : ℕ) (tracker : Tracker) where
   unmet_step : (i : ℕ) (c : Cell) (cs : List Cell)
-      → first_unmet table s form i (trees_of (c ∷ cs))
-      ≡ option_or (unmet_child table s form i (value_of_cell c)) (first_unmet table s form (suc i) (trees_of cs))
+      → first_unmet table s tracker i (trees_of (c ∷ cs))
+      ≡ option_or (unmet_child table s tracker i (value_of_cell c)) (first_unmet table s tracker (suc i) (trees_of cs))
   unmet_step i absent cs = refl
-  unmet_step i (given v) cs = refl
-  unmet_step i (placed n) cs = refl
+  unmet_step i _ cs = refl
 
   unmet_next : (cs : List Cell) (k i : ℕ) → k < length cs
-      → first_unmet table s form i (trees_of (drop k cs))
-      ≡ option_or (unmet_child table s form i (value_at cs k)) (first_unmet table s form (suc i) (trees_of (drop (suc k) cs)))
+      → first_unmet table s tracker i (trees_of (drop k cs))
+      ≡ option_or (unmet_child table s tracker i (value_at cs k)) (first_unmet table s tracker (suc i) (trees_of (drop (suc k) cs)))
   unmet_next [] k i h = absurd (omega arith)
   unmet_next (c ∷ cs) zero i h = unmet_step i c cs
   unmet_next (c ∷ cs) (suc k) i h = unmet_next cs k i (omega arith)
 
-module _ (s : ℕ) (form : Form) where
+module _ (s : ℕ) (tracker : Tracker) where
   absent_here : (cs : List Cell) (k i : ℕ) → k < length cs → AreUnplaced cs → value_at cs k ≡ None
-      → first_absent s form i (drop k cs) ≡ Some (missing_child s form i)
+      → first_absent s tracker i (drop k cs) ≡ Some (missing_child s tracker i)
   absent_here [] k i h closed none = absurd (omega arith)
   absent_here (absent ∷ cs) zero i h closed none = refl
   absent_here (given v ∷ cs) zero i h closed none = absurd (cc)
@@ -190,21 +167,19 @@ module _ (s : ℕ) (form : Form) where
   absent_here (c ∷ cs) (suc k) i h closed none = absent_here cs k i (omega arith) closed.1 none
 
   absent_next : (cs : List Cell) (k i : ℕ) → IsSome (value_at cs k)
-      → first_absent s form i (drop k cs) ≡ first_absent s form (suc i) (drop (suc k) cs)
+      → first_absent s tracker i (drop k cs) ≡ first_absent s tracker (suc i) (drop (suc k) cs)
   absent_next [] k i h = absurd (cc)
-  absent_next (absent ∷ cs) zero i h = absurd (cc)
   absent_next (given v ∷ cs) zero i h = refl
-  absent_next (placed n ∷ cs) zero i h = absurd (cc)
+  absent_next _ zero i h = absurd (cc)
   absent_next (c ∷ cs) (suc k) i h = absent_next cs k i h
 
-  pub none_absent : (i : ℕ) (cs : List Cell) → IsSome (values_of cs) → first_absent s form i cs ≡ None
+  pub none_absent : (i : ℕ) (cs : List Cell) → IsSome (values_of cs) → first_absent s tracker i cs ≡ None
   none_absent i [] h = refl
-  none_absent i (absent ∷ cs) h = absurd (cc)
-  none_absent i (placed n ∷ cs) h = absurd (cc)
   none_absent i (given v ∷ cs) h = none_absent (suc i) cs (later_there v cs h)
+  none_absent i _ h = absurd (cc)
 
   -- and the other way round
-  pub none_absent_there : (i : ℕ) (cs : List Cell) → AreUnplaced cs → first_absent s form i cs ≡ None → IsSome (values_of cs)
+  pub none_absent_there : (i : ℕ) (cs : List Cell) → AreUnplaced cs → first_absent s tracker i cs ≡ None → IsSome (values_of cs)
   none_absent_there i [] closed h = refl
   none_absent_there i (absent ∷ cs) closed h = absurd (cc)
   none_absent_there i (placed n ∷ cs) closed h = absurd closed.0
@@ -214,12 +189,12 @@ module _ (s : ℕ) (form : Form) where
       go (Some vs) h = refl
       go None h = absurd (cc)
 
-pub other_absent : (s : ℕ) (form : Form) → parts_in form ≡ Parts.Others → (i : ℕ) (cs : List Cell) → AreUnplaced cs → values_of cs ≡ None
-    → first_absent s form i cs ≡ Some (missing_value s)
-other_absent s form others i [] closed h = absurd (cc)
-other_absent s form others i (absent ∷ cs) closed h = ap Some (others_missing s form others i)
-other_absent s form others i (placed n ∷ cs) closed h = absurd closed.0
-other_absent s form others i (given v ∷ cs) closed h = other_absent s form others (suc i) cs closed.1 (go (values_of cs) h)
+pub other_absent : (s : ℕ) (tracker : Tracker) → fields_of_tracker tracker ≡ None → (i : ℕ) (cs : List Cell) → AreUnplaced cs → values_of cs ≡ None
+    → first_absent s tracker i cs ≡ Some (missing_value s)
+other_absent s tracker others i [] closed h = absurd (cc)
+other_absent s tracker others i (absent ∷ cs) closed h = ap Some (others_missing s tracker others i)
+other_absent s tracker others i (placed n ∷ cs) closed h = absurd closed.0
+other_absent s tracker others i (given v ∷ cs) closed h = other_absent s tracker others (suc i) cs closed.1 (go (values_of cs) h)
   where
     go : (vs : Option Vals) → one_more (Some v) vs ≡ None → vs ≡ None
     go (Some vs) h = absurd (cc)
@@ -228,7 +203,7 @@ other_absent s form others i (given v ∷ cs) closed h = other_absent s form oth
 -- Fields, as a plan tells them.
 
 module _ (table : Table) (plan : Plan) (s : ℕ) (selected : Option ℕ) (i : ℕ) (one : FieldPlan) (is : IsTold table plan s selected i one) where
-  abbrev fields : Form
+  abbrev fields : Tracker
   fields = as_fields selected
 
   pub names_field : IsSome (field_at table one.field)
@@ -278,40 +253,40 @@ module _ (table : Table) (plan : Plan) (s : ℕ) (selected : Option ℕ) (i : �
       → first_absent s fields i (drop i cs) ≡ Some (ReflectErrorKind.UninitializedField one.field)
   absent_cause cs h closed none = absent_here s fields cs i i h closed none ∙ ap Some (sym its_name)
 
-pub absent_preserved : (s : ℕ) (form : Form) (i : ℕ) (cs : List Cell) → IsSome (value_at cs i)
-    → first_absent s form i (drop i cs) ≡ first_absent s form (i + 1) (drop (i + 1) cs)
-absent_preserved s form i cs h =
+pub absent_preserved : (s : ℕ) (tracker : Tracker) (i : ℕ) (cs : List Cell) → IsSome (value_at cs i)
+    → first_absent s tracker i (drop i cs) ≡ first_absent s tracker (i + 1) (drop (i + 1) cs)
+absent_preserved s tracker i cs h =
     let next : suc i ≡ i + 1 = omega arith in
-    absent_next s form cs i i h ∙ ap (λ (k : ℕ). first_absent s form k (drop k cs)) next
+    absent_next s tracker cs i i h ∙ ap (λ (k : ℕ). first_absent s tracker k (drop k cs)) next
 
 -- Places.
 
 -- children that aren't fields take nothing
-module _ (table : Table) (s : ℕ) (form : Form) (others : parts_in form ≡ Parts.Others) where
-  other_stays : (i : ℕ) (c : Cell) → c ≡ defaulted_cell (hole_takes deferred_column table s form i) c
-  other_stays i c = go c ∙ ap (λ (fill : Option Val). defaulted_cell fill c) (sym (others_take table s deferred_column form others i))
+module _ (table : Table) (s : ℕ) (tracker : Tracker) (others : fields_of_tracker tracker ≡ None) where
+  other_stays : (i : ℕ) (c : Cell) → c ≡ defaulted_cell (hole_takes deferred_column table s tracker i) c
+  other_stays i c = go c ∙ ap (λ (fill : Option Val). defaulted_cell fill c) (sym (others_take table s deferred_column tracker others i))
     where
       go : (c : Cell) → c ≡ defaulted_cell None c
       go absent = refl
       go (given v) = refl
       go (placed n) = refl
 
-  pub others_stay : (i : ℕ) (cs : List Cell) → cs ≡ defaulted_cells table s form i cs
+  pub others_stay : (i : ℕ) (cs : List Cell) → cs ≡ defaulted_cells table s tracker i cs
   others_stay i [] = refl
   others_stay i (c ∷ cs) =
       ap (λ (ds : List Cell). c ∷ ds) (others_stay (suc i) cs)
-      ∙ ap (λ (d : Cell). d ∷ defaulted_cells table s form (suc i) cs) (other_stays i c)
+      ∙ ap (λ (d : Cell). d ∷ defaulted_cells table s tracker (suc i) cs) (other_stays i c)
 
-  pub others_met : (i : ℕ) (cs : List Cell) → first_unmet table s form i (trees_of cs) ≡ None
+  pub others_met : (i : ℕ) (cs : List Cell) → first_unmet table s tracker i (trees_of cs) ≡ None
   others_met i [] = refl
   others_met i (absent ∷ cs) =
-      ap (λ (o : Option ReflectErrorKind). option_or o (first_unmet table s form (suc i) (trees_of cs)))
-      (others_unmarked table s form others i)
+      ap (λ (o : Option ReflectErrorKind). option_or o (first_unmet table s tracker (suc i) (trees_of cs)))
+      (others_unmarked table s tracker others i)
       ∙ others_met (suc i) cs
   others_met i (given v ∷ cs) = others_met (suc i) cs
   others_met i (placed n ∷ cs) =
-      ap (λ (o : Option ReflectErrorKind). option_or o (first_unmet table s form (suc i) (trees_of cs)))
-      (others_unmarked table s form others i)
+      ap (λ (o : Option ReflectErrorKind). option_or o (first_unmet table s tracker (suc i) (trees_of cs)))
+      (others_unmarked table s tracker others i)
       ∙ others_met (suc i) cs
 
 pub holes_are : (n : ℕ) → trees_of (replicate n absent) ≡ holes n
@@ -319,17 +294,17 @@ holes_are zero = refl
 holes_are (suc n) = ap (branch hole) (holes_are n)
 
 -- a struct has as many children as its shape says
-pub count_is : (def : Def) (n : ℕ) → IsFullAs def as_struct n → n ≡ count_children def
+pub count_is : (def : Def) (n : ℕ) → IsFullAs def (as_fields None) n → n ≡ count_children def
 count_is (Def.Struct struct) n h = h
 count_is _ n h = absurd h
 
 module _ (table : Table) (s : ℕ) where
   abbrev of_fills : List Cell
-  of_fills = defaulted_cells table s as_struct 0 (replicate (child_count table s) absent)
+  of_fills = defaulted_cells table s (as_fields None) 0 (replicate (child_count table s) absent)
 
   by_def_closed : (def : Def) (preset : Option Val) → IsClosed (defaulted_by def preset (defaulted_struct table s))
   by_def_closed (Def.Struct struct) (Some v) = tt
-  by_def_closed (Def.Struct struct) None = all_closed table s as_struct 0 (replicate (child_count table s) absent) (none_placed (child_count table s))
+  by_def_closed (Def.Struct struct) None = all_closed table s (as_fields None) 0 (replicate (child_count table s) absent) (none_placed (child_count table s))
   by_def_closed (Def.Option t) (Some v) = tt
   by_def_closed (Def.Option t) None = tt
   by_def_closed _ preset = tt
@@ -337,13 +312,13 @@ module _ (table : Table) (s : ℕ) where
   pub closed_after : (body : Body) → IsClosed body → IsClosed (defaulted table s body)
   closed_after entered_body h = by_def_closed (def_of table s) (preset_of table s)
   closed_after (whole_body v) h = h
-  closed_after (begun_body form cells) h = all_closed table s form 0 cells h
+  closed_after (begun_body tracker cells) h = all_closed table s tracker 0 cells h
 
   by_def_tokens : (def : Def) (preset : Option Val) (t : ℕ) → IsChecked table → preset_of table s ≡ preset
       → body_occurs (defaulted_by def preset (defaulted_struct table s)) t ≡ 0
   by_def_tokens (Def.Struct struct) (Some v) t checked e = light_occurs v t (preset_light table s v checked e)
   by_def_tokens (Def.Struct struct) None t checked e =
-      all_tokens table s as_struct checked 0 (replicate (child_count table s) absent) t ∙ none_occur (child_count table s) t
+      all_tokens table s (as_fields None) checked 0 (replicate (child_count table s) absent) t ∙ none_occur (child_count table s) t
   by_def_tokens (Def.Option u) (Some v) t checked e = refl
   by_def_tokens (Def.Option u) None t checked e = refl
   by_def_tokens _ preset t checked e = refl
@@ -351,14 +326,14 @@ module _ (table : Table) (s : ℕ) where
   pub tokens_after : IsChecked table → (body : Body) (t : ℕ) → body_occurs (defaulted table s body) t ≡ body_occurs body t
   tokens_after checked entered_body t = by_def_tokens (def_of table s) (preset_of table s) t checked refl
   tokens_after checked (whole_body v) t = refl
-  tokens_after checked (begun_body form cells) t = all_tokens table s form checked 0 cells t
+  tokens_after checked (begun_body tracker cells) t = all_tokens table s tracker checked 0 cells t
 
   by_def_full : (def : Def) (preset : Option Val) → count_children def ≡ child_count table s
       → def_of table s ≡ def → IsFull table s (defaulted_by def preset (defaulted_struct table s))
   by_def_full (Def.Struct struct) (Some v) e is = tt
   by_def_full (Def.Struct struct) None e is =
-      subst (λ (def : Def). IsFullAs def as_struct (length of_fills)) (sym is)
-      (all_count table s as_struct 0 (replicate (child_count table s) absent) ∙ length_replicate (child_count table s) ∙ sym e)
+      subst (λ (def : Def). IsFullAs def (as_fields None) (length of_fills)) (sym is)
+      (all_count table s (as_fields None) 0 (replicate (child_count table s) absent) ∙ length_replicate (child_count table s) ∙ sym e)
     where
       length_replicate : (n : ℕ) → length (replicate n absent) ≡ n
       length_replicate zero = refl
@@ -370,20 +345,20 @@ module _ (table : Table) (s : ℕ) where
   pub full_after : (body : Body) → IsFull table s body → IsFull table s (defaulted table s body)
   full_after entered_body h = by_def_full (def_of table s) (preset_of table s) refl refl
   full_after (whole_body v) h = h
-  full_after (begun_body form cells) h =
-      subst (IsFullAs (def_of table s) form) (sym (all_count table s form 0 cells)) h
+  full_after (begun_body tracker cells) h =
+      subst (IsFullAs (def_of table s) tracker) (sym (all_count table s tracker 0 cells)) h
 
-pub made_of_values : (form : Form) (values : Option Vals) → IsSome values → IsSome (made form values)
-made_of_values form (Some vs) h = refl
-made_of_values form None h = absurd (cc)
+pub made_of_values : (tracker : Tracker) (values : Option Vals) → IsSome values → IsSome (made tracker values)
+made_of_values tracker (Some vs) h = refl
+made_of_values tracker None h = absurd (cc)
 
 -- Results.
 
 pub why_holes : (table : Table) (s : ℕ) (kind : ReflectErrorKind) (A : Type 0) (ts us : Trees) → ts ≡ us
-    → ((kind ≡ ReflectErrorKind.OutOfMemory) × A) ⊎ (first_unmet table s as_struct 0 ts ≡ Some kind)
-    → (kind ≡ ReflectErrorKind.OutOfMemory) ⊎ (first_unmet table s as_struct 0 us ≡ Some kind)
+    → ((kind ≡ ReflectErrorKind.OutOfMemory) × A) ⊎ (first_unmet table s (as_fields None) 0 ts ≡ Some kind)
+    → (kind ≡ ReflectErrorKind.OutOfMemory) ⊎ (first_unmet table s (as_fields None) 0 us ≡ Some kind)
 why_holes table s kind A ts us are (inl h) = inl h.0
-why_holes table s kind A ts us are (inr e) = inr (ap (first_unmet table s as_struct 0) (sym are) ∙ e)
+why_holes table s kind A ts us are (inr e) = inr (ap (first_unmet table s (as_fields None) 0) (sym are) ∙ e)
 
 pub ok_so : {X E : Type 0} (r : Result X E) (P Q : Type 0) → (P → Q) → OnOk r P → OnOk r Q
 ok_so (Ok x) P Q so h = so h

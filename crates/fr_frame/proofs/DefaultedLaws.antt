@@ -1,21 +1,9 @@
 -- A place in a slot that has taken its fills: what is left of it, and what that says of the place as it was.
 use Rattle.std.proofs.Common.{◌≡◌, ◌⊎◌, ℕ, true, List, Option, Some, None, IsSomeAnd, refl, sym, ◌∙◌, subst}
-use Rattle.fr_shape.specs.declared.error.ReflectErrorKind.{ReflectErrorKind}
-use Rattle.fr_shape.specs.Checked.{IsChecked}
-use Rattle.fr_shape.specs.Hooks.{Meanings}
-use Rattle.fr_shape.specs.Look.{Table}
-use Rattle.fr_model.specs.Places.{deferred_column}
-use Rattle.fr_plan.specs.TypePlan.{Plan}
-use Rattle.fr_frame.specs.declared.places.Slot.{Slot}
-use Rattle.fr_frame.specs.Bodies.{Body, HasAllChildren}
-use Rattle.fr_frame.specs.Changes.{Becomes, IfInUse}
-use Rattle.fr_frame.specs.Completing.{shape_of, takes_template, FillsAt, IsPlanFor, MayComplete}
-use Rattle.fr_frame.specs.Defaults.{defaulted, invalid, left_out, unmet, KeepsForm, WhyNotDefault}
-use Rattle.fr_frame.specs.Filling.{IsCauseOf}
-use Rattle.fr_frame.specs.Heap.{Node, heap_of}
+use Rattle.fr_frame.specs.Common.{Becomes, Body, FillsAt, HasAllChildren, IfInUse, IsCauseOf, IsChecked, IsPlanFor, KeepsTracker, MayComplete, Meanings, Node, Plan, ReflectErrorKind, Slot, Table, WhyNotDefault, defaulted, deferred_column, heap_of, invalid, left_out, shape_of, takes_template, unmet}
 use Rattle.fr_frame.proofs.HeapLaws.{with_here}
 use Rattle.fr_frame.proofs.DefaultLaws.{closed_after, full_after}
-use Rattle.fr_frame.proofs.WhyDefaultLaws.{filled_after, keeps_form, there_after, why_invalid, why_left, why_unmet}
+use Rattle.fr_frame.proofs.WhyDefaultLaws.{filled_after, keeps_tracker, there_after, why_invalid, why_left, why_unmet}
 
 -- of a place that is there
 
@@ -94,10 +82,10 @@ module _ (table : Table) (plan : Plan) (before after : List Slot) (n : ℕ) (is 
   pub may_after : IfInUse after n (MayComplete table plan)
   may_after = in_use after n at_then (MayComplete table plan) now may_then
 
-  pub form_so : IfInUse before n (λ (at : Node). IfInUse after n (λ (x : Node). KeepsForm at.body x.body))
-  form_so =
-      in_use before n is.at (λ (at : Node). IfInUse after n (λ (x : Node). KeepsForm at.body x.body)) is.was
-      (in_use after n at_then (λ (x : Node). KeepsForm is.at.body x.body) now (keeps_form table s is.at.body))
+  pub tracker_so : IfInUse before n (λ (at : Node). IfInUse after n (λ (x : Node). KeepsTracker at.body x.body))
+  tracker_so =
+      in_use before n is.at (λ (at : Node). IfInUse after n (λ (x : Node). KeepsTracker at.body x.body)) is.was
+      (in_use after n at_then (λ (x : Node). KeepsTracker is.at.body x.body) now (keeps_tracker table s is.at.body))
 
   nothing_left : IfInUse after n (λ at. left_out (shape_of plan at.node) at.body ≡ None) → left_out s then ≡ None
   nothing_left full = of_it after n at_then (λ x. left_out (shape_of plan x.node) x.body ≡ None) now full

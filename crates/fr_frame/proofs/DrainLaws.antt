@@ -1,22 +1,10 @@
 -- Lists whose items go into them, out of slots that are free then.
-use Rattle.std.proofs.Common.{◌≡◌, ◌≢◌, ◌⊎◌, ℕ, zero, suc, ◌+◌, ◌<◌, ◌≤◌, Bool, true, false, ◌&&◌, List, [], ◌∷◌, length, Option, Some, None, IsSomeAnd, slice_get, set, get_or, is_some, nat_eq, option_map, length-set, inl, inr, refl, sym, ◌∙◌, ap, subst, arith, add-one}
-use Rattle.std.specs.Option.{option_and_then}
-use Rattle.std.specs.Prelude.{if◌then◌else◌}
-use Rattle.std.specs.declared.alloc.Global.{Global}
-use Rattle.std.specs.declared.boxed.Box.{Box}
+use Rattle.std.proofs.Common.{◌≡◌, ◌≢◌, ◌⊎◌, ℕ, zero, suc, ◌+◌, ◌<◌, ◌≤◌, Bool, true, false, ◌&&◌, List, [], ◌∷◌, length, Option, Some, None, IsSomeAnd, slice_get, set, get_or, is_some, nat_eq, option_map, length-set, inl, inr, refl, sym, ◌∙◌, ap, subst, arith, add-one, if◌then◌else◌}
+use Rattle.fr_frame.specs.Common.{Box, Cell, FreesItem, FreesItems, Global, Held, IsPlain, IsPlainAt, Item, Piece, Place, Rope, Slot, SlotId, Val, is_list, item_cell, item_in, item_or, items_of, option_and_then, piece_with, slot_seen, slots_seen, value_held, view, with_items}
 use Rattle.std.proofs.lemmas.Bool.{eq-eqb, false≢true}
 use Rattle.std.proofs.lemmas.Bool.Decides.{eqb_tells}
 use Rattle.std.proofs.lemmas.Option.{get_or_from_slice_get, slice_get_read}
-use Rattle.fr_arena.specs.Ropes.{Rope}
-use Rattle.fr_shape.specs.Val.{Val}
-use Rattle.fr_shape.specs.View.{view}
-use Rattle.fr_frame.specs.declared.places.Item.{Item}
-use Rattle.fr_frame.specs.declared.places.Piece.{Piece}
-use Rattle.fr_frame.specs.declared.places.Place.{Place}
-use Rattle.fr_frame.specs.declared.places.Slot.{Slot}
-use Rattle.fr_frame.specs.declared.places.SlotId.{SlotId}
-use Rattle.fr_frame.specs.Cells.{Cell}
-use Rattle.fr_frame.specs.Items.{Held, is_list, item_in, items_of, value_held, item_or, item_cell, piece_with, slot_seen, slots_seen, with_items, FreesItem, FreesItems, IsItemFreed, IsListAt, IsPlain, IsPlainAt}
+use Rattle.fr_frame.specs.Items.{IsItemFreed, IsListAt}
 use Rattle.fr_frame.proofs.SeenLaws.{HoldSame, items_set, seen_as_same, slot_seen_same}
 
 -- Children that are filled in, from number `at` on.
@@ -103,12 +91,8 @@ item_there slots m n i e = go (slice_get slots m) refl e
 
     go : (o : Option Slot) → slice_get slots m ≡ o → is_some (value_held n i (option_and_then item_in o)) ≡ true
         → ItemThere slots m n i
-    go None at h = absurd (false≢true h)
-    go (Some (Slot.Free next)) at h = absurd (false≢true h)
-    go (Some Slot.Reserved) at h = absurd (false≢true h)
-    go (Some (Slot.Used place)) at h = absurd (false≢true h)
-    go (Some (Slot.List place items)) at h = absurd (false≢true h)
     go (Some (Slot.Item item)) at h = numbered item at h (eqb_tells item.list.0 n) (eqb_tells item.number i)
+    go _ at h = absurd (false≢true h)
 
 module _ (slots : List Slot) (n i m at : ℕ) (slot : Slot) (is : is_some (value_held n i (items_of slots m)) ≡ true) (same : at ≡ m) (read : slot ≡ get_or slots at slot) where
   there : ItemThere slots m n i
@@ -339,8 +323,5 @@ list_read slots n at slot e read list =
 
 -- the list with its items
 pub list_in : (slot : Slot) → is_list slot ≡ true → (place : Place) × (items : Box (Rope SlotId) Global) × (slot ≡ Slot.List place items)
-list_in (Slot.Free next) e = cc
-list_in Slot.Reserved e = cc
-list_in (Slot.Used place) e = cc
 list_in (Slot.List place items) e = (place, items, refl)
-list_in (Slot.Item item) e = cc
+list_in _ e = cc

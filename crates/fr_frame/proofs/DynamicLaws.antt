@@ -1,16 +1,11 @@
 -- Values that become parts of a dynamic value, and parts that become children, one after the other.
 use Rattle.std.proofs.Common.{◌≡◌, ℕ, ◌+◌, ◌<◌, ◌≤◌, List, [], ◌∷◌, ◌++◌, length, map, take, set, refl, sym, ap, ◌∙◌, arith}
 use Rattle.std.proofs.lemmas.List.{append_assoc, append-nil, map_push, take_all, take_more_set}
-use Rattle.fr_shape.specs.declared.value.Dyn.{Dyn}
-use Rattle.fr_shape.specs.declared.value.Value.{Value}
-use Rattle.fr_shape.specs.Released.{RoseBy, Conserved, Room}
-use Rattle.fr_shape.specs.TokenLaws.{Room_fewer, Room_conserved}
-use Rattle.fr_shape.specs.Tokens.{occurs, vals_occur}
-use Rattle.fr_shape.specs.Val.{Val, Dynamic, dyn, first_dynamic, member}
-use Rattle.fr_shape.specs.View.{view, vals_view, dyn_view, dynamics_of, dynamics_view, members_of, members_view}
-use Rattle.fr_model.specs.Dynamics.{dynamic_in, dynamics_in, members_in, element_vals, member_vals, member_keys}
-use Rattle.fr_frame.specs.Bodies.{cells_of_vals}
-use Rattle.fr_frame.specs.Cells.{Cell, given}
+use Rattle.fr_frame.specs.Common.{Cell, Conserved, Dyn, Room, Room_fewer, RoseBy, Val, Value, cells_of_vals, dyn, dyn_view, dynamic_in, element_vals, given, member_keys, member_vals, occurs, vals_occur, vals_view, view}
+use Rattle.fr_shape.specs.TokenLaws.{Room_conserved}
+use Rattle.fr_shape.specs.Val.{Dynamic, first_dynamic, member}
+use Rattle.fr_shape.specs.View.{dynamics_of, dynamics_view, members_of, members_view}
+use Rattle.fr_model.specs.Dynamics.{dynamics_in, members_in}
 
 -- Parts
 

@@ -1,12 +1,7 @@
 -- The children of a whole map: the keys and values of its entries, in turn.
 use Rattle.std.proofs.Common.{◌≡◌, ℕ, zero, suc, ◌+◌, ◌≤◌, List, [], ◌∷◌, ◌++◌, length, replicate, ◌*◌, Option, Some, set, refl, sym, ◌∙◌, ap, subst, arith}
-use Rattle.std.specs.Prelude.{IfSome}
-use Rattle.fr_shape.specs.declared.value.Value.{Value}
-use Rattle.fr_shape.specs.Val.{Vals}
-use Rattle.fr_shape.specs.View.{view, entries_view}
-use Rattle.fr_model.specs.Places.{in_turn, count_entries}
-use Rattle.fr_frame.specs.Bodies.{cells_of_vals}
-use Rattle.fr_frame.specs.Cells.{Cell, absent, given}
+use Rattle.fr_frame.specs.Common.{Cell, IfSome, Vals, Value, absent, cells_of_vals, entries_view, given, in_turn, view}
+use Rattle.fr_model.specs.Places.{count_entries}
 
 abbrev pub entry_cells : List (Value × Value) → List Cell
 entry_cells es = cells_of_vals (in_turn (entries_view es))

@@ -1,33 +1,21 @@
 -- Filling the children that aren't there, one after the other.
 use Rattle.std.proofs.Common.{◌≡◌, ℕ, zero, suc, ◌+◌, ◌<◌, ◌≤◌, Bool, true, false, ◌&&◌, List, [], ◌∷◌, ◌++◌, length, replicate, Option, Some, None, IsSome, slice_get, set, refl, sym, ◌∙◌, ap, subst, arith, below_more}
 use Rattle.std.specs.List.{list_all, flat_map}
-use Rattle.std.specs.Option.{option_or, option_map, option_copied}
+use Rattle.fr_frame.specs.Common.{AreUnplaced, Cell, Column, ContentKind, Def, EntriesKind, Field, IsChecked, IsLightFill, ItemsKind, KeepGiven, Table, Tracker, Val, Vals, Value, VariantDef, absent, as_content, as_elements, as_entries, as_fields, as_items, cells_occur, deferred_column, field_in, field_of_variant, fields_of_tracker, fill_of_field, filled, given, hole_takes, is_some, occurs, one_more, option_copied, option_map, option_or, placed, preset_of, strict_column, tokens, value_at, value_occurs, value_of_cell, values_of}
 use Rattle.std.specs.Borrow.{Bor}
-use Rattle.std.specs.Prelude.{option_to_list, is_some}
-use Rattle.fr_shape.specs.declared.value.Value.{Value}
+use Rattle.std.specs.Prelude.{option_to_list}
 use Rattle.fr_shape.specs.declared.shape.Shape.{Shape}
-use Rattle.fr_shape.specs.declared.shape.Def.{Def}
-use Rattle.fr_shape.specs.declared.shape.Field.{Field}
-use Rattle.fr_shape.specs.declared.shape.VariantDef.{VariantDef}
 use Rattle.fr_shape.specs.declared.shape.DefaultSource.{DefaultSource}
-use Rattle.fr_shape.specs.Checked.{IsChecked, is_template, default_is_template, fields_of}
-use Rattle.fr_shape.specs.Fills.{preset_of, has_default, strict_fill, takes_shape_default, deferred_fill, takes_deferred_default}
+use Rattle.fr_shape.specs.Checked.{is_template, default_is_template, fields_of}
+use Rattle.fr_shape.specs.Fills.{has_default, strict_fill, takes_shape_default, deferred_fill, takes_deferred_default}
 use Rattle.fr_shape.specs.Fits.{fits}
 use Rattle.fr_shape.specs.Lists.{is_nil}
-use Rattle.fr_shape.specs.Look.{Table, def_or_other, field_in, field_of_variant}
-use Rattle.fr_shape.specs.Tokens.{tokens, times, occurs}
+use Rattle.fr_shape.specs.Look.{def_or_other}
+use Rattle.fr_shape.specs.Tokens.{times}
 use Rattle.fr_shape.specs.TokenLaws.{occurs_times}
-use Rattle.fr_shape.specs.Val.{Val, Vals}
-use Rattle.fr_model.specs.Places.{Column, strict_column, deferred_column, fill_by, fill_in, fill_of_field, one_more}
-use Rattle.fr_model.specs.Complete.{hole_takes}
-use Rattle.fr_model.specs.Tree.{Form, as_struct, as_array, as_variant, as_some, as_ok, as_err, as_pointer, as_list, as_slice, as_closed_slice, as_set, as_map, as_dyn_array, as_dyn_object}
-use Rattle.fr_frame.specs.declared.places.Parts.{Parts}
-use Rattle.fr_frame.specs.Bodies.{AreUnplaced}
-use Rattle.fr_frame.specs.Cells.{Cell, absent, given, placed, value_of_cell, value_at, values_of, value_occurs, cells_occur}
-use Rattle.fr_frame.specs.Defaults.{KeepGiven}
-use Rattle.fr_frame.specs.Filling.{child_value, filled, IsLightFill}
-use Rattle.fr_frame.specs.Heap.{parts_in}
-use Rattle.fr_frame.proofs.FormLaws.{others_take}
+use Rattle.fr_model.specs.Places.{fill_by, fill_in}
+use Rattle.fr_frame.specs.Filling.{child_value}
+use Rattle.fr_frame.proofs.TrackerLaws.{others_take}
 use Rattle.fr_frame.proofs.CellLaws.{occur_taken}
 
 -- Templates of a checked table hold no token.
@@ -174,22 +162,11 @@ fill_light column table s selected i v checked e = go (slice_get table s) refl
             field_light table s (is_some selected) field v checked own column fill
 
 -- what a child takes where it is a hole
-pub takes_light : (column : Column) (table : Table) (s : ℕ) (form : Form) (i : ℕ) (v : Val) → IsChecked table
-    → hole_takes column table s form i ≡ Some v → tokens v ≡ []
-takes_light column table s as_struct i v checked e = fill_light column table s None i v checked e
-takes_light column table s (as_variant k) i v checked e = fill_light column table s (Some k) i v checked e
-takes_light column table s as_array i v checked e = absurd (cc)
-takes_light column table s as_some i v checked e = absurd (cc)
-takes_light column table s as_ok i v checked e = absurd (cc)
-takes_light column table s as_err i v checked e = absurd (cc)
-takes_light column table s as_pointer i v checked e = absurd (cc)
-takes_light column table s as_list i v checked e = absurd (cc)
-takes_light column table s as_slice i v checked e = absurd (cc)
-takes_light column table s as_closed_slice i v checked e = absurd (cc)
-takes_light column table s as_set i v checked e = absurd (cc)
-takes_light column table s (as_map base) i v checked e = absurd (cc)
-takes_light column table s as_dyn_array i v checked e = absurd (cc)
-takes_light column table s (as_dyn_object keys) i v checked e = absurd (cc)
+pub takes_light : (column : Column) (table : Table) (s : ℕ) (tracker : Tracker) (i : ℕ) (v : Val) → IsChecked table
+    → hole_takes column table s tracker i ≡ Some v → tokens v ≡ []
+takes_light column table s (as_fields None) i v checked e = fill_light column table s None i v checked e
+takes_light column table s (as_fields (Some k)) i v checked e = fill_light column table s (Some k) i v checked e
+takes_light column table s _ i v checked e = absurd (cc)
 
 -- What the children are filled to.
 
@@ -198,45 +175,45 @@ both_there (Some v) (Some vs) h = (refl, refl)
 both_there (Some v) None h = absurd (cc)
 both_there None values h = absurd (cc)
 
-module _ (table : Table) (s : ℕ) (form : Form) where
+module _ (table : Table) (s : ℕ) (tracker : Tracker) where
   -- a child that isn't there has a fill, where all are filled
-  fill_there : (cs : List Cell) (j k : ℕ) → k < length cs → IsSome (filled table s form j cs) → value_at cs k ≡ None
-      → IsSome (hole_takes strict_column table s form (j + k))
+  fill_there : (cs : List Cell) (j k : ℕ) → k < length cs → IsSome (filled table s tracker j cs) → value_at cs k ≡ None
+      → IsSome (hole_takes strict_column table s tracker (j + k))
   fill_there [] j k h there none = absurd (omega arith)
   fill_there (c ∷ cs) j zero h there none =
       let here : j ≡ j + 0 = omega arith in
-      let own : IsSome (child_value table s form j (value_of_cell c))
-      = (both_there (child_value table s form j (value_of_cell c)) (filled table s form (suc j) cs) there).0 in
-      subst (λ (n : ℕ). IsSome (hole_takes strict_column table s form n)) here
-      (subst (λ (o : Option Val). IsSome (option_or o (hole_takes strict_column table s form j))) none own)
+      let own : IsSome (child_value table s tracker j (value_of_cell c))
+      = (both_there (child_value table s tracker j (value_of_cell c)) (filled table s tracker (suc j) cs) there).0 in
+      subst (λ (n : ℕ). IsSome (hole_takes strict_column table s tracker n)) here
+      (subst (λ (o : Option Val). IsSome (option_or o (hole_takes strict_column table s tracker j))) none own)
   fill_there (c ∷ cs) j (suc k) h there none =
       let here : suc j + k ≡ j + suc k = omega arith in
-      subst (λ (n : ℕ). IsSome (hole_takes strict_column table s form n)) here
+      subst (λ (n : ℕ). IsSome (hole_takes strict_column table s tracker n)) here
       (fill_there cs (suc j) k (omega arith)
-      (both_there (child_value table s form j (value_of_cell c)) (filled table s form (suc j) cs) there).1 none)
+      (both_there (child_value table s tracker j (value_of_cell c)) (filled table s tracker (suc j) cs) there).1 none)
 
   -- putting its fill there changes nothing of that
-  filled_set : (cs : List Cell) (j k : ℕ) (v : Val) → k < length cs → value_at cs k ≡ None → hole_takes strict_column table s form (j + k) ≡ Some v
-      → filled table s form j (set cs k (given v)) ≡ filled table s form j cs
+  filled_set : (cs : List Cell) (j k : ℕ) (v : Val) → k < length cs → value_at cs k ≡ None → hole_takes strict_column table s tracker (j + k) ≡ Some v
+      → filled table s tracker j (set cs k (given v)) ≡ filled table s tracker j cs
   filled_set [] j k v h none takes = absurd (omega arith)
   filled_set (c ∷ cs) j zero v h none takes =
       let here : j + 0 ≡ j = omega arith in
-      ap (λ (o : Option Val). one_more o (filled table s form (suc j) cs))
-      (sym takes ∙ ap (hole_takes strict_column table s form) here ∙ sym (ap (λ (o : Option Val). option_or o (hole_takes strict_column table s form j)) none))
+      ap (λ (o : Option Val). one_more o (filled table s tracker (suc j) cs))
+      (sym takes ∙ ap (hole_takes strict_column table s tracker) here ∙ sym (ap (λ (o : Option Val). option_or o (hole_takes strict_column table s tracker j)) none))
   filled_set (c ∷ cs) j (suc k) v h none takes =
       let here : suc j + k ≡ j + suc k = omega arith in
-      ap (one_more (child_value table s form j (value_of_cell c)))
-      (filled_set cs (suc j) k v (omega arith) none (ap (hole_takes strict_column table s form) here ∙ takes))
+      ap (one_more (child_value table s tracker j (value_of_cell c)))
+      (filled_set cs (suc j) k v (omega arith) none (ap (hole_takes strict_column table s tracker) here ∙ takes))
 
   -- children that are all there are filled to their values
   filled_there : (cs : List Cell) (j : ℕ) → ((k : ℕ) → k < length cs → IsSome (value_at cs k))
-      → values_of cs ≡ filled table s form j cs
+      → values_of cs ≡ filled table s tracker j cs
   filled_there [] j there = refl
   filled_there (c ∷ cs) j there =
       ap (one_more (value_of_cell c)) (filled_there cs (suc j) (λ k h. there (suc k) (omega arith)))
-      ∙ ap (λ (o : Option Val). one_more o (filled table s form (suc j) cs)) (own (value_of_cell c) (there 0 (omega arith)))
+      ∙ ap (λ (o : Option Val). one_more o (filled table s tracker (suc j) cs)) (own (value_of_cell c) (there 0 (omega arith)))
     where
-      own : (o : Option Val) → IsSome o → o ≡ option_or o (hole_takes strict_column table s form j)
+      own : (o : Option Val) → IsSome o → o ≡ option_or o (hole_takes strict_column table s tracker j)
       own (Some v) h = refl
       own None h = absurd (cc)
 
@@ -268,23 +245,22 @@ keep_same (placed n ∷ cs) = keep_same cs
 keep_set : (old new : List Cell) (k : ℕ) (v : Val) → KeepGiven old new → value_at new k ≡ None → KeepGiven old (set new k (given v))
 keep_set [] new k v h none = tt
 keep_set (c ∷ cs) [] k v h none = tt
-keep_set (absent ∷ cs) (d ∷ ds) zero v h none = h
 keep_set (given w ∷ cs) (d ∷ ds) zero v h none = let there : value_of_cell d ≡ Some w = ap value_of_cell h.0 in absurd (cc)
-keep_set (placed n ∷ cs) (d ∷ ds) zero v h none = h
+keep_set _ (d ∷ ds) zero v h none = h
 keep_set (absent ∷ cs) (d ∷ ds) (suc k) v h none = keep_set cs ds k v h none
 keep_set (given w ∷ cs) (d ∷ ds) (suc k) v h none = (h.0, keep_set cs ds k v h.1 none)
 keep_set (placed n ∷ cs) (d ∷ ds) (suc k) v h none = keep_set cs ds k v h none
 
 -- Filling in order: the children before i are there, and what all come to is the same as in the beginning.
-pub record Filling (table : Table) (s : ℕ) (form : Form) (initial now : List Cell) (i : ℕ) : Type 0 where
-  pub same : filled table s form 0 now ≡ filled table s form 0 initial
+pub record Filling (table : Table) (s : ℕ) (tracker : Tracker) (initial now : List Cell) (i : ℕ) : Type 0 where
+  pub same : filled table s tracker 0 now ≡ filled table s tracker 0 initial
   pub there : (k : ℕ) → k < i → IsSome (value_at now k)
   pub same_tokens : (t : ℕ) → cells_occur now t ≡ cells_occur initial t
   pub closed : AreUnplaced initial → AreUnplaced now
   pub kept : KeepGiven initial now
 
-pub filling_begins : (table : Table) (s : ℕ) (form : Form) (initial : List Cell) → Filling table s form initial initial 0
-filling_begins table s form initial = record {
+pub filling_begins : (table : Table) (s : ℕ) (tracker : Tracker) (initial : List Cell) → Filling table s tracker initial initial 0
+filling_begins table s tracker initial = record {
   same = refl;
   there = λ k h. absurd (omega arith);
   same_tokens = λ t. refl;
@@ -292,8 +268,8 @@ filling_begins table s form initial = record {
   kept = keep_same initial;
 }
 
-module _ (table : Table) (s : ℕ) (form : Form) (initial now : List Cell) (i : ℕ) (so_far : Filling table s form initial now i) where
-  pub filling_there : IsSome (value_at now i) → Filling table s form initial now (i + 1)
+module _ (table : Table) (s : ℕ) (tracker : Tracker) (initial now : List Cell) (i : ℕ) (so_far : Filling table s tracker initial now i) where
+  pub filling_there : IsSome (value_at now i) → Filling table s tracker initial now (i + 1)
   filling_there here = record {
     same = so_far.same;
     there = below_more (λ (k : ℕ). IsSome (value_at now k)) i so_far.there here;
@@ -302,51 +278,50 @@ module _ (table : Table) (s : ℕ) (form : Form) (initial now : List Cell) (i : 
     kept = so_far.kept;
   }
 
-  pub filling_light : IsChecked table → i < length now → IsSome (filled table s form 0 initial) → value_at now i ≡ None
-      → IsLightFill (hole_takes strict_column table s form i)
-  filling_light checked h fills none = go (hole_takes strict_column table s form i) refl (fill_there table s form now 0 i h (subst IsSome (sym so_far.same) fills) none)
+  pub filling_light : IsChecked table → i < length now → IsSome (filled table s tracker 0 initial) → value_at now i ≡ None
+      → IsLightFill (hole_takes strict_column table s tracker i)
+  filling_light checked h fills none = go (hole_takes strict_column table s tracker i) refl (fill_there table s tracker now 0 i h (subst IsSome (sym so_far.same) fills) none)
     where
-      go : (fill : Option Val) → hole_takes strict_column table s form i ≡ fill → IsSome (hole_takes strict_column table s form (0 + i)) → IsLightFill fill
-      go (Some v) e there = takes_light strict_column table s form i v checked e
+      go : (fill : Option Val) → hole_takes strict_column table s tracker i ≡ fill → IsSome (hole_takes strict_column table s tracker (0 + i)) → IsLightFill fill
+      go (Some v) e there = takes_light strict_column table s tracker i v checked e
       go None e there =
           let here : 0 + i ≡ i = omega arith in
-          let none_there : hole_takes strict_column table s form (0 + i) ≡ None = ap (hole_takes strict_column table s form) here ∙ e in
+          let none_there : hole_takes strict_column table s tracker (0 + i) ≡ None = ap (hole_takes strict_column table s tracker) here ∙ e in
           absurd (cc)
 
-  pub filling_set : (v : Val) → IsChecked table → i < length now → value_at now i ≡ None → hole_takes strict_column table s form i ≡ Some v
-      → Filling table s form initial (set now i (given v)) (i + 1)
+  pub filling_set : (v : Val) → IsChecked table → i < length now → value_at now i ≡ None → hole_takes strict_column table s tracker i ≡ Some v
+      → Filling table s tracker initial (set now i (given v)) (i + 1)
   filling_set v checked h none takes =
       let here : 0 + i ≡ i = omega arith in
       record {
-        same = filled_set table s form now 0 i v h none (ap (hole_takes strict_column table s form) here ∙ takes) ∙ so_far.same;
+        same = filled_set table s tracker now 0 i v h none (ap (hole_takes strict_column table s tracker) here ∙ takes) ∙ so_far.same;
         there = λ k l. there_set now i v h k l (λ m. so_far.there k m);
         same_tokens = λ t.
-            let light : occurs v t ≡ 0 = light_occurs v t (takes_light strict_column table s form i v checked takes) in
+            let light : occurs v t ≡ 0 = light_occurs v t (takes_light strict_column table s tracker i v checked takes) in
             let gone : value_occurs (value_at now i) t ≡ 0 = ap (λ (o : Option Val). value_occurs o t) none in
             omega (arith, occur_taken now i (given v) t h, so_far.same_tokens t);
         closed = λ l. unplaced_set now i v (so_far.closed l);
         kept = keep_set initial now i v so_far.kept none;
       }
 
-  pub filling_ends : length now ≤ i → values_of now ≡ filled table s form 0 initial
-  filling_ends h = filled_there table s form now 0 (λ k l. so_far.there k (omega arith)) ∙ so_far.same
+  pub filling_ends : length now ≤ i → values_of now ≡ filled table s tracker 0 initial
+  filling_ends h = filled_there table s tracker now 0 (λ k l. so_far.there k (omega arith)) ∙ so_far.same
 
 -- children that are there already take nothing, nor do those for which there are no fills
 
 module _ (table : Table) (s : ℕ) where
-  pub values_filled : (form : Form) (i : ℕ) (cs : List Cell) → IsSome (values_of cs) → values_of cs ≡ filled table s form i cs
-  values_filled form i [] h = refl
-  values_filled form i (absent ∷ cs) h = absurd (cc)
-  values_filled form i (placed n ∷ cs) h = absurd (cc)
-  values_filled form i (given v ∷ cs) h =
-      ap (one_more (Some v)) (values_filled form (suc i) cs (both_there (Some v) (values_of cs) h).1)
+  pub values_filled : (tracker : Tracker) (i : ℕ) (cs : List Cell) → IsSome (values_of cs) → values_of cs ≡ filled table s tracker i cs
+  values_filled tracker i [] h = refl
+  values_filled tracker i (given v ∷ cs) h =
+      ap (one_more (Some v)) (values_filled tracker (suc i) cs (both_there (Some v) (values_of cs) h).1)
+  values_filled tracker i _ h = absurd (cc)
 
-  module _ (form : Form) (others : parts_in form ≡ Parts.Others) where
-    nothing_filled : (i : ℕ) (cs : List Cell) → None ≡ one_more (hole_takes strict_column table s form i) (filled table s form (suc i) cs)
+  module _ (tracker : Tracker) (others : fields_of_tracker tracker ≡ None) where
+    nothing_filled : (i : ℕ) (cs : List Cell) → None ≡ one_more (hole_takes strict_column table s tracker i) (filled table s tracker (suc i) cs)
     nothing_filled i cs =
-        sym (ap (λ (o : Option Val). one_more o (filled table s form (suc i) cs)) (others_take table s strict_column form others i))
+        sym (ap (λ (o : Option Val). one_more o (filled table s tracker (suc i) cs)) (others_take table s strict_column tracker others i))
 
-    pub others_filled : (i : ℕ) (cs : List Cell) → values_of cs ≡ filled table s form i cs
+    pub others_filled : (i : ℕ) (cs : List Cell) → values_of cs ≡ filled table s tracker i cs
     others_filled i [] = refl
     others_filled i (absent ∷ cs) = nothing_filled i cs
     others_filled i (placed n ∷ cs) = nothing_filled i cs

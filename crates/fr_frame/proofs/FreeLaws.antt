@@ -1,9 +1,6 @@
 -- Slots with nothing to let go: those that are free, and those from whose place its piece was taken.
 use Rattle.std.proofs.Common.{◌≡◌, ℕ, zero, suc, ◌<◌, List, [], ◌∷◌, length, length-set, Option, Some, IsSomeAnd, get_or, set, slice_get, refl, sym, ap, ◌∙◌, subst, arith}
-use Rattle.fr_frame.specs.declared.places.Piece.{Piece}
-use Rattle.fr_frame.specs.declared.places.Place.{Place}
-use Rattle.fr_frame.specs.declared.places.Slot.{Slot}
-use Rattle.fr_frame.specs.declared.places.SlotId.{SlotId}
+use Rattle.fr_frame.specs.Common.{Piece, Place, Slot, SlotId}
 use Rattle.fr_frame.specs.RawSlots.{IsEmptied, IsFree, IsFreeAt}
 use Rattle.fr_frame.proofs.PlaceLaws.{repieced}
 use Rattle.fr_frame.proofs.SlotLaws.{get_set, read, there}

@@ -2,12 +2,9 @@
 use Rattle.std.proofs.Common.{◌≡◌, ℕ, suc, ◌+◌, ◌*◌, ◌<◌, ◌≤◌, Bool, true, false, ◌||◌, cond, List, [], ◌∷◌, ◌++◌, length, map, drop, get_or, Option, Some, None, unwrap_or, refl, sym, ap, ◌∙◌, arith}
 use Rattle.std.specs.Prelude.{option_map}
 use Rattle.std.proofs.lemmas.List.{drop_more, append_assoc, append-nil, length-drop}
-use Rattle.fr_shape.specs.declared.value.Value.{Value}
-use Rattle.fr_shape.specs.Val.{Val, Vals, Entries, first, no_entries, entry}
-use Rattle.fr_shape.specs.View.{view, vals_of, vals_view}
-use Rattle.fr_shape.specs.Same.{same}
-use Rattle.fr_model.specs.Gathering.{is_there, and_last_val, with_item_in, with_entry_in}
-use Rattle.fr_frame.specs.KeyPlaces.{place, with_key, places_of, item_place, item_places, entry_place, entry_places}
+use Rattle.fr_frame.specs.Common.{Entries, Val, Vals, Value, entry, entry_place, entry_places, first, is_there, item_place, item_places, no_entries, place, places_of, same, vals_view, view, with_entry_in, with_item_in, with_key}
+use Rattle.fr_shape.specs.View.{vals_of}
+use Rattle.fr_model.specs.Gathering.{and_last_val}
 
 -- the keys of entries whose parts come in turn
 abbrev pub turn_keys : List Value → List Val

@@ -1,14 +1,8 @@
 -- A place that gets one child more, and the item that is entered there.
 use Rattle.std.proofs.Common.{◌≡◌, ℕ, ◌+◌, List, [], ◌∷◌, ◌++◌, Option, Some, None, IsSomeAnd, refl, ◌∙◌, ap}
-use Rattle.std.specs.Prelude.{Result, Ok, Err, OnOk, OnErr, false}
-use Rattle.fr_shape.specs.declared.shape.Def.{Def}
-use Rattle.fr_plan.specs.declared.nodes.NodeId.{NodeId}
-use Rattle.fr_frame.specs.declared.places.FrameOwner.{FrameOwner}
-use Rattle.fr_frame.specs.declared.places.Slot.{Slot}
-use Rattle.fr_frame.specs.Bodies.{Body, linked, taken_over}
-use Rattle.fr_frame.specs.Cells.{Cell, absent, cell_occurs, cells_occur}
-use Rattle.fr_frame.specs.Heap.{Node, Heap, depth_above, depth_below, entered_node, heap_of, held_by, item_owner, links, with_body, with_entered, with_slot}
-use Rattle.fr_frame.specs.Changes.{IfInUse, Shows}
+use Rattle.fr_frame.specs.Common.{Body, Cell, Def, Err, FrameOwner, Heap, IfInUse, Node, NodeId, Ok, OnErr, OnOk, Result, Shows, Slot, absent, cell_occurs, cells_occur, depth_below, false, heap_of, held_by, item_owner, linked, links, with_body, with_entered, with_slot}
+use Rattle.fr_frame.specs.Bodies.{taken_over}
+use Rattle.fr_frame.specs.Heap.{depth_above, entered_node}
 use Rattle.fr_frame.proofs.HandLaws.{held_alike, with_body_alike}
 use Rattle.fr_frame.proofs.HeapLaws.{Alike, with_slot_alike}
 

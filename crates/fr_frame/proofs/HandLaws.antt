@@ -1,17 +1,8 @@
 -- A place that hands its value to its owner.
-use Rattle.std.proofs.Common.{◌≡◌, ◌≢◌, ◌⊎◌, ℕ, zero, suc, ◌+◌, Bool, true, false, List, [], ◌∷◌, Option, Some, None, IsSome, IsSomeAnd, slice_get, set, option_map, nat_eq, inl, inr, refl, sym, ◌∙◌, ap, subst, arith}
-use Rattle.std.specs.Option.{option_and_then}
-use Rattle.std.specs.Prelude.{if◌then◌else◌}
-use Rattle.fr_shape.specs.Released.{Conserved, RoseBy}
-use Rattle.fr_shape.specs.Val.{Val, Vals}
-use Rattle.fr_model.specs.Complete.{made}
-use Rattle.fr_model.specs.Places.{one_more}
-use Rattle.fr_frame.specs.declared.places.FrameOwner.{FrameOwner}
-use Rattle.fr_frame.specs.declared.places.Slot.{Slot}
-use Rattle.fr_frame.specs.Bodies.{Body, entered_body, whole_body, begun_body, and_item_cell, can_make, cell_at, unlinked, unlinked_by, value_of, with_cell, with_ended, without_cell, IsSetBody}
-use Rattle.fr_frame.specs.Cells.{Cell, absent, given, placed, value_of_cell, values_of}
-use Rattle.fr_frame.specs.Heap.{Node, Heap, ends, gives, heap_of, held_by, unlinks, with_body, with_slot, without, IsItemOf}
-use Rattle.fr_frame.specs.Changes.{IfInUse, Shows}
+use Rattle.std.proofs.Common.{◌≡◌, ◌≢◌, ◌⊎◌, ℕ, zero, suc, ◌+◌, Bool, true, false, List, [], ◌∷◌, Option, Some, None, IsSome, IsSomeAnd, slice_get, set, option_map, nat_eq, inl, inr, refl, sym, ◌∙◌, ap, subst, arith, if◌then◌else◌}
+use Rattle.fr_frame.specs.Common.{Body, Cell, Conserved, FrameOwner, Heap, IfInUse, IsSetBody, Node, RoseBy, Shows, Slot, Val, Vals, absent, and_item_cell, begun_body, cell_at, entered_body, given, gives, heap_of, held_by, made, one_more, option_and_then, placed, unlinked, unlinks, value_of, value_of_cell, values_of, whole_body, with_body, with_cell, with_ended, with_slot, without, without_cell}
+use Rattle.fr_frame.specs.Bodies.{can_make, unlinked_by}
+use Rattle.fr_frame.specs.Heap.{ends, IsItemOf}
 use Rattle.fr_frame.proofs.HeapLaws.{Alike, number_cases, same_number, with_here, with_other, with_slot_alike}
 
 -- Places and their children.
@@ -23,9 +14,8 @@ set_nth (x ∷ cells) (suc i) c d e = set_nth cells i c d e
 
 -- a child that a place has is what it was changed to
 pub cell_changed : (body : Body) (i : ℕ) (c d : Cell) → cell_at body i ≡ Some c → cell_at (with_cell body i d) i ≡ Some d
-cell_changed entered_body i c d e = cc
-cell_changed (whole_body v) i c d e = cc
-cell_changed (begun_body form cells) i c d e = set_nth cells i c d e
+cell_changed (begun_body tracker cells) i c d e = set_nth cells i c d e
+cell_changed _ i c d e = cc
 
 -- a place with a child in a slot has no value
 no_value_among : (cells : List Cell) (i n : ℕ) → slice_get cells i ≡ Some (placed n) → values_of cells ≡ None
@@ -43,10 +33,10 @@ no_value_among (c ∷ cells) (suc i) n e =
 pub no_value_placed : (body : Body) (i n : ℕ) → cell_at body i ≡ Some (placed n) → value_of body ≡ None
 no_value_placed entered_body i n e = cc
 no_value_placed (whole_body v) i n e = cc
-no_value_placed (begun_body form cells) i n e = without_values (can_make form cells) (values_of cells) (no_value_among cells i n e)
+no_value_placed (begun_body tracker cells) i n e = without_values (can_make tracker cells) (values_of cells) (no_value_among cells i n e)
   where
-    without_values : (can : Bool) (values : Option Vals) → values ≡ None → (if can then made form values else None) ≡ None
-    without_values true values none = ap (made form) none
+    without_values : (can : Bool) (values : Option Vals) → values ≡ None → (if can then made tracker values else None) ≡ None
+    without_values true values none = ap (made tracker) none
     without_values false values none = refl
 
 -- a child that leaves its slot isn't there
@@ -164,17 +154,15 @@ module _ (slots : List Slot) (n : ℕ) (owner : FrameOwner) (body : Body) (taken
 set_unlinked : (n i : ℕ) (body : Body) → IsSetBody body → IsSetBody (unlinked n i body)
 set_unlinked n i entered_body h = h
 set_unlinked n i (whole_body v) h = h
-set_unlinked n i (begun_body form cells) h = go (slice_get cells i)
+set_unlinked n i (begun_body tracker cells) h = go (slice_get cells i)
   where
-    by : (b : Bool) → IsSetBody (if b then begun_body form (set cells i absent) else begun_body form cells)
+    by : (b : Bool) → IsSetBody (if b then begun_body tracker (set cells i absent) else begun_body tracker cells)
     by true = h
     by false = h
 
-    go : (found : Option Cell) → IsSetBody (unlinked_by n i (begun_body form cells) found)
-    go None = h
-    go (Some absent) = h
-    go (Some (given v)) = h
+    go : (found : Option Cell) → IsSetBody (unlinked_by n i (begun_body tracker cells) found)
     go (Some (placed m)) = by (nat_eq m n)
+    go _ = h
 
 -- where its item left its slot, a set is still begun as one
 pub set_left : (heap : Heap) (n : ℕ) (at : Node) → heap n ≡ Some at → IsSome (value_of at.body)
@@ -222,18 +210,16 @@ without_set (x ∷ cells) (suc i) c = ap (λ (l : List Cell). x ∷ l) (without_
 ended_unlinked : (n i : ℕ) (v : Val) (body : Body) → with_ended i v (unlinked n i body) ≡ with_ended i v body
 ended_unlinked n i v entered_body = refl
 ended_unlinked n i v (whole_body u) = refl
-ended_unlinked n i v (begun_body form cells) = go (slice_get cells i)
+ended_unlinked n i v (begun_body tracker cells) = go (slice_get cells i)
   where
-    by : (b : Bool) → with_ended i v (if b then begun_body form (set cells i absent) else begun_body form cells)
-        ≡ with_ended i v (begun_body form cells)
-    by true = ap (λ (l : List Cell). begun_body form (and_item_cell l v)) (without_set cells i absent)
+    by : (b : Bool) → with_ended i v (if b then begun_body tracker (set cells i absent) else begun_body tracker cells)
+        ≡ with_ended i v (begun_body tracker cells)
+    by true = ap (λ (l : List Cell). begun_body tracker (and_item_cell l v)) (without_set cells i absent)
     by false = refl
 
-    go : (found : Option Cell) → with_ended i v (unlinked_by n i (begun_body form cells) found) ≡ with_ended i v (begun_body form cells)
-    go None = refl
-    go (Some absent) = refl
-    go (Some (given u)) = refl
+    go : (found : Option Cell) → with_ended i v (unlinked_by n i (begun_body tracker cells) found) ≡ with_ended i v (begun_body tracker cells)
     go (Some (placed m)) = by (nat_eq m n)
+    go _ = refl
 
 -- one change after another of the same place
 pub with_body_twice : (heap : Heap) (p : ℕ) (first then_next both_in_one : Body → Body)

@@ -1,13 +1,8 @@
 -- Lists of slots as heaps: what a change of one slot does.
-use Rattle.std.proofs.Common.{◌≡◌, ◌≢◌, ◌⊎◌, ℕ, zero, suc, ◌+◌, ◌<◌, ◌≤◌, true, false, List, [], ◌∷◌, ◌++◌, length, Option, Some, None, slice_get, set, get_or, option_map, nat_eq, inl, inr, refl, sym, ◌∙◌, ap, arith}
-use Rattle.std.specs.Option.{option_and_then}
-use Rattle.std.specs.Prelude.{if◌then◌else◌}
+use Rattle.std.proofs.Common.{◌≡◌, ◌≢◌, ◌⊎◌, ℕ, zero, suc, ◌+◌, ◌<◌, ◌≤◌, true, false, List, [], ◌∷◌, ◌++◌, length, Option, Some, None, slice_get, set, get_or, option_map, nat_eq, inl, inr, refl, sym, ◌∙◌, ap, arith, if◌then◌else◌}
+use Rattle.fr_frame.specs.Common.{Body, Heap, IsInUse, Node, Shows, Slot, heap_of, node_in, option_and_then, slot_occurs, slots_occur, with_body, with_slot}
 use Rattle.std.proofs.lemmas.Grind.{common_steps}
 use Rattle.std.proofs.lemmas.Bool.Decides.{nat_tests}
-use Rattle.fr_frame.specs.declared.places.Slot.{Slot}
-use Rattle.fr_frame.specs.Bodies.{Body}
-use Rattle.fr_frame.specs.Heap.{Node, Heap, node_in, heap_of, slot_occurs, slots_occur, with_slot, with_body}
-use Rattle.fr_frame.specs.Changes.{Shows, IsInUse}
 
 -- Heaps.
 
@@ -70,11 +65,9 @@ got (y ∷ xs) (suc n) x h e = got xs n x (omega arith) e
 
 -- a slot that no place is in holds nothing
 pub free_holds : (slot : Slot) (t : ℕ) → node_in slot ≡ None → slot_occurs slot t ≡ 0
-free_holds (Slot.Free next) t e = refl
-free_holds Slot.Reserved t e = refl
 free_holds (Slot.Used place) t e = cc
 free_holds (Slot.List place items) t e = cc
-free_holds (Slot.Item item) t e = refl
+free_holds _ t e = refl
 
 -- Heaps that are alike.
 

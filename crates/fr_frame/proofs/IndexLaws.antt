@@ -1,19 +1,10 @@
 -- What the index of a begun place still has when its children change, and what it tells of them.
-use Rattle.std.proofs.Common.{◌≡◌, ◌≢◌, ℕ, zero, suc, ◌+◌, ◌-◌, ◌<◌, ◌≤◌, Bool, true, false, List, [], ◌∷◌, ◌++◌, length, take, drop, set, min, refl, sym, ap, subst, ◌∙◌, arith, length-append, length-set}
+use Rattle.std.proofs.Common.{◌≡◌, ◌≢◌, ℕ, zero, suc, ◌+◌, ◌-◌, ◌<◌, ◌≤◌, Bool, true, false, List, [], ◌∷◌, ◌++◌, length, take, drop, set, min, refl, sym, ap, subst, ◌∙◌, arith, length-append, length-set, ◌||◌}
 use Rattle.std.specs.FinSet as finite
-use Rattle.std.specs.Prelude.{◌||◌}
+use Rattle.fr_frame.specs.Common.{BitSet, Cell, Indexes, IsIndexed, Val, Value, cell, cells_of, has_same_cell, is_same_cell, is_there, same, vals_view, view}
 use Rattle.std.proofs.lemmas.List.{take-set, take-append-le, length-take, length-take-le}
 use Rattle.std.proofs.Math.Seq.{take-length}
-use Rattle.fr_arena.specs.BitSets.{BitSet}
-use Rattle.fr_shape.specs.declared.value.Value.{Value}
-use Rattle.fr_shape.specs.Same.{same}
-use Rattle.fr_shape.specs.Val.{Val}
-use Rattle.fr_shape.specs.View.{view, vals_view}
-use Rattle.fr_model.specs.Gathering.{is_there}
-use Rattle.fr_frame.specs.Bodies.{has_same_cell, is_same_cell}
-use Rattle.fr_frame.specs.Cells.{Cell, cell, cells_of}
-use Rattle.fr_frame.specs.ChildIndex.{IsIndexed, IsCutAt}
-use Rattle.fr_frame.specs.Indexing.{Indexes}
+use Rattle.fr_frame.specs.ChildIndex.{IsCutAt}
 use Rattle.fr_frame.specs.declared.value_index.ValueIndex.{ValueIndex}
 
 -- the first of the first ones

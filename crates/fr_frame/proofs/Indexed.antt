@@ -7,21 +7,13 @@ use Rattle.std.proofs.lemmas.List.Elements.{All-nil, All-cons}
 use Rattle.std.proofs.lemmas.Bool.{cases_lt}
 use Rattle.std.proofs.lemmas.Map.Views.{exact_unsigned_eq}
 use Rattle.std.specs.Cmp.{IsTotalOrder, IsStrictWeakOrder, nat_eq_equiv, nat_cmp_total, on_total, then_total}
-use Rattle.std.specs.List.{All}
-use Rattle.std.specs.List.Sorted.{IsPermutation, IsSortedBy}
+use Rattle.fr_frame.specs.Common.{All, ByContents, Greater, IsPermutation, IsRun, Less, Val, Value, compare, has_number, is_held, is_there, joined, same, same_tied, unit, val_at, vals_view, view}
+use Rattle.std.specs.List.Sorted.{IsSortedBy}
 use Rattle.std.specs.declared.cmp.Ordering.{Ordering}
-use Rattle.std.specs.declared.cmp.Ordering.TheVariants.{Less, Equal, Greater}
+use Rattle.std.specs.declared.cmp.Ordering.TheVariants.{Equal}
 use Rattle.std.specs.Ordering.{is_lt, is_eq, ordering_reverse, ordering_then, nat_cmp}
-use Rattle.fr_shape.specs.declared.value.Value.{Value}
-use Rattle.fr_shape.specs.Compare.{compare}
 use Rattle.fr_shape.specs.CompareLaws.{compare_total}
-use Rattle.fr_shape.specs.CompareSame.{same_tied}
-use Rattle.fr_shape.specs.Same.{same}
-use Rattle.fr_shape.specs.Val.{Val, unit}
-use Rattle.fr_shape.specs.View.{view, vals_view}
-use Rattle.fr_frame.specs.declared.contents.ByContents.{ByContents}
-use Rattle.fr_model.specs.Gathering.{is_there}
-use Rattle.fr_frame.specs.Indexing.{val_at, has_number, is_held, joined, IsRun, AreRuns}
+use Rattle.fr_frame.specs.Indexing.{AreRuns}
 
 -- Numbers
 

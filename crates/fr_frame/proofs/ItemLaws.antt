@@ -1,17 +1,8 @@
 -- A set's children: one that moves behind the others, and the search for a value that is `same`.
-use Rattle.std.proofs.Common.{◌≡◌, ℕ, zero, suc, ◌+◌, ◌-◌, ◌<◌, ◌≤◌, Bool, true, false, List, [], ◌∷◌, ◌++◌, length, drop, take, Option, Some, None, slice_get, set, refl, sym, ◌∙◌, ap, subst, arith}
+use Rattle.std.proofs.Common.{◌≡◌, ℕ, zero, suc, ◌+◌, ◌-◌, ◌<◌, ◌≤◌, Bool, true, false, List, [], ◌∷◌, ◌++◌, length, drop, take, Option, Some, None, slice_get, set, refl, sym, ◌∙◌, ap, subst, arith, if◌then◌else◌, ◌||◌}
 use Rattle.std.specs.FinSet as finite
-use Rattle.std.specs.Option.{option_and_then}
-use Rattle.std.specs.Prelude.{◌||◌, if◌then◌else◌}
-use Rattle.fr_arena.specs.BitSets.{BitSet}
-use Rattle.fr_shape.specs.declared.value.Value.{Value}
-use Rattle.fr_shape.specs.Released.{Conserved, RoseBy}
-use Rattle.fr_shape.specs.Same.{same}
-use Rattle.fr_shape.specs.Tokens.{occurs}
-use Rattle.fr_shape.specs.Val.{Val}
-use Rattle.fr_shape.specs.View.{view}
-use Rattle.fr_frame.specs.Bodies.{and_item_cell, has_same_cell, is_same_cell, without_cell}
-use Rattle.fr_frame.specs.Cells.{Cell, absent, given, placed, cell, cells_of, cell_occurs, cells_occur, slot_at, slot_of_cell, swapped, value_at, value_of_cell}
+use Rattle.fr_frame.specs.Common.{BitSet, Cell, Conserved, RoseBy, Val, Value, absent, and_item_cell, cell, cell_occurs, cells_occur, cells_of, given, has_same_cell, is_same_cell, occurs, option_and_then, placed, same, slot_at, slot_of_cell, value_at, value_of_cell, view, without_cell}
+use Rattle.fr_frame.specs.Cells.{swapped}
 use Rattle.fr_frame.proofs.CellLaws.{same_length}
 
 -- The child of number i, moved so many steps back.
@@ -265,9 +256,8 @@ value_same v u cs i c e g =
     ap (is_same_cell v) is
 
 pub none_same : (v : Val) (cs : List Cell) (i : ℕ) (c : Cell) → None ≡ value_at cs i → slice_get cs i ≡ Some c → false ≡ is_same_cell v c
-none_same v cs i absent e g = refl
-none_same v cs i (placed n) e g = refl
 none_same v cs i (given u) e g = let no : None ≡ Some u = e ∙ ap (option_and_then value_of_cell) g in cc
+none_same v cs i _ e g = refl
 
 pub same_here : (v : Val) (cs : List Cell) (i : ℕ) (b : Bool) → i < length cs
     → ((c : Cell) → slice_get cs i ≡ Some c → b ≡ is_same_cell v c) → b ≡ true → has_same_cell v (drop i cs) ≡ true

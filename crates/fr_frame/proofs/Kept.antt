@@ -1,15 +1,9 @@
 -- One more entry or item, at its place.
 use Rattle.std.proofs.Common.{◌≡◌, ℕ, zero, suc, ◌+◌, ◌<◌, ◌≤◌, Bool, true, false, ◌||◌, cond, List, [], ◌∷◌, ◌++◌, length, get_or, set, drop, refl, sym, ap, ◌∙◌, arith}
 use Rattle.std.proofs.lemmas.List.{drop-drop}
-use Rattle.fr_shape.specs.declared.value.Value.{Value}
-use Rattle.fr_shape.specs.Val.{Val, Entries, first, entry}
-use Rattle.fr_shape.specs.View.{view, vals_view, entries_view}
-use Rattle.fr_shape.specs.Same.{same}
-use Rattle.fr_shape.specs.Tokens.{occurs, vals_occur, entries_occur}
-use Rattle.fr_shape.specs.Released.{RoseBy, Conserved, Room}
-use Rattle.fr_shape.specs.TokenLaws.{both, Room_fewer, Room_conserved}
-use Rattle.fr_model.specs.Gathering.{is_there, and_last_val, with_item_in, with_entry_in}
-use Rattle.fr_frame.specs.KeyPlaces.{item_place, entry_place, entry_places}
+use Rattle.fr_frame.specs.Common.{Conserved, Entries, Room, Room_fewer, RoseBy, Val, Value, both, entries_occur, entries_view, entry, entry_place, entry_places, first, is_there, item_place, occurs, same, vals_occur, vals_view, view, with_entry_in, with_item_in}
+use Rattle.fr_shape.specs.TokenLaws.{Room_conserved}
+use Rattle.fr_model.specs.Gathering.{and_last_val}
 
 -- Items
 

@@ -1,18 +1,12 @@
 -- Finding a key by the index of the names.
 use Rattle.std.proofs.Common.{◌≡◌, ℕ, zero, suc, ◌<◌, Bool, true, false, not, ◌&&◌, ◌||◌, true≢false, List, [], ◌∷◌, length, map, Option, Some, None, is_some, IfSome, refl, sym, ap, subst, ◌∙◌, arith}
-use Rattle.std.specs.Option.{option_map}
+use Rattle.fr_frame.specs.Common.{Val, Value, entry_found, is_there, keys_apart, names_of, option_map, same, val_at, vals_view, view}
 use Rattle.std.specs.Str.{bytes_eq}
 use Rattle.std.proofs.lemmas.List.{length-map}
 use Rattle.std.proofs.lemmas.Slice.Eq.{bytes_eq-Decides}
-use Rattle.fr_shape.specs.declared.value.Value.{Value}
-use Rattle.fr_shape.specs.Same.{same}
-use Rattle.fr_shape.specs.Val.{Val, text}
-use Rattle.fr_shape.specs.View.{view, vals_of, vals_view}
-use Rattle.fr_model.specs.DynamicPlaces.{entry_found}
-use Rattle.fr_model.specs.Dynamics.{lacks, keys_apart}
-use Rattle.fr_model.specs.Gathering.{is_there}
-use Rattle.fr_frame.specs.Indexing.{val_at}
-use Rattle.fr_frame.specs.KeyNames.{names_of}
+use Rattle.fr_shape.specs.Val.{text}
+use Rattle.fr_shape.specs.View.{vals_of}
+use Rattle.fr_model.specs.Dynamics.{lacks}
 
 bytes_are : (xs ys : List ℕ) → bytes_eq xs ys ≡ true → xs ≡ ys
 bytes_are xs ys e = (bytes_eq-Decides xs ys).0 e

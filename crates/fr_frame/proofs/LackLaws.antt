@@ -1,38 +1,21 @@
 -- What a place lacks and what it makes, by what each of its children lacks and makes.
-use Rattle.std.proofs.Common.{◌≡◌, ℕ, zero, suc, ◌+◌, ◌-◌, ◌<◌, Bool, true, false, ◌||◌, not, List, [], ◌∷◌, length, map, drop, replicate, Option, Some, None, IsSome, slice_get, get_or, inl, inr, refl, sym, ◌∙◌, ap, subst, arith}
+use Rattle.std.proofs.Common.{◌≡◌, ℕ, zero, suc, ◌+◌, ◌-◌, ◌<◌, Bool, true, false, ◌||◌, not, List, [], ◌∷◌, length, map, drop, replicate, Option, Some, None, IsSome, slice_get, get_or, inl, inr, refl, sym, ◌∙◌, ap, subst, arith, if◌then◌else◌}
 use Rattle.std.specs.List.{list_any}
-use Rattle.std.specs.Option.{option_or, option_map_or}
-use Rattle.std.specs.Prelude.{Result, Ok, Err, IfErr, slice_index_or, if◌then◌else◌}
-use Rattle.fr_shape.specs.declared.error.ReflectErrorKind.{ReflectErrorKind}
-use Rattle.fr_shape.specs.declared.shape.Def.{Def}
-use Rattle.fr_shape.specs.declared.shape.Field.{Field}
-use Rattle.fr_shape.specs.declared.shape.FieldRef.{FieldRef}
+use Rattle.fr_frame.specs.Common.{AreTold, Body, Cell, Column, Def, Err, Field, FieldPlan, FieldRef, IfErr, IsCauseOf, IsTold, Meanings, Ok, Plan, ReflectErrorKind, Result, Table, Tracker, Val, Vals, VariantDef, absent, as_fields, begun_body, child_count, complete, def_of, entered_body, failing_child, field_in, field_of_variant, fields_of_tracker, fill_told, filled, filled_body, first_refused, given, has_validators, lack, lack_among, lack_of_child, lack_of_holes, made, missing_child, missing_value, one_more, option_or, own_tree, part_of, placed, preset_of, strict_column, trees_of, value_at, value_of_cell, values_of, whole_body}
+use Rattle.std.specs.Option.{option_map_or}
+use Rattle.std.specs.Prelude.{slice_index_or}
 use Rattle.fr_shape.specs.declared.shape.ScalarKind.{ScalarKind}
 use Rattle.fr_shape.specs.declared.shape.ValidatorDef.{ValidatorDef}
-use Rattle.fr_shape.specs.declared.shape.VariantDef.{VariantDef}
-use Rattle.fr_shape.specs.Fills.{preset_of}
-use Rattle.fr_shape.specs.Hooks.{Meanings}
 use Rattle.fr_shape.specs.Lists.{is_nil}
-use Rattle.fr_shape.specs.Look.{Table, def_of, field_in, field_of_variant}
-use Rattle.fr_shape.specs.Val.{Val, Vals}
 use Rattle.fr_shape.specs.Validators.{passes, passes_at, message, kind_of}
 use Rattle.fr_rules.specs.declared.validators.PrecomputedValidator.{PrecomputedValidator}
-use Rattle.fr_rules.specs.FillRules.{fill_told}
-use Rattle.fr_rules.specs.Pools.{part_of}
 use Rattle.fr_rules.specs.Validators.{passes_held, validator_of}
-use Rattle.fr_model.specs.Complete.{complete, complete_all, made, made_by, made_of_fills, lack, lack_among, lack_by, lack_of_hole, lack_of_holes, failing_child, failing_field, first_failing, valid_child, unless_failing, unless_there, missing_child, missing_value}
-use Rattle.fr_model.specs.Places.{Column, strict_column, child_count, fill_at, one_more, each_child}
-use Rattle.fr_model.specs.Tree.{Form, as_struct}
-use Rattle.fr_plan.specs.declared.plans.FieldPlan.{FieldPlan}
-use Rattle.fr_plan.specs.Fields.{fields_in, has_validator, has_validators}
+use Rattle.fr_model.specs.Complete.{complete_all, made_by, made_of_fills, lack_by, lack_of_hole, failing_field, first_failing, valid_child, unless_failing, unless_there}
+use Rattle.fr_model.specs.Places.{fill_at, each_child}
+use Rattle.fr_plan.specs.Fields.{fields_in, has_validator}
 use Rattle.fr_plan.specs.Plans.{precomputed, with_kind, kind_of as kind_in_plan}
-use Rattle.fr_plan.specs.TypePlan.{Plan}
-use Rattle.fr_frame.specs.declared.places.Parts.{Parts}
-use Rattle.fr_frame.specs.Bodies.{Body, entered_body, whole_body, begun_body, as_fields, own_tree, trees_of}
-use Rattle.fr_frame.specs.Cells.{Cell, absent, given, placed, value_of_cell, value_at, values_of}
-use Rattle.fr_frame.specs.Filling.{IsTold, IsToldAt, AreTold, child_value, filled, filled_body, lack_of_child, first_refused, IsCauseOf}
-use Rattle.fr_frame.specs.Heap.{parts_in}
-use Rattle.fr_frame.proofs.FormLaws.{field_fails_by, field_missing, field_takes, others_missing, others_pass, others_take}
+use Rattle.fr_frame.specs.Filling.{IsToldAt, child_value}
+use Rattle.fr_frame.proofs.TrackerLaws.{field_fails_by, field_missing, field_takes, others_missing, others_pass, others_take}
 
 -- What fails.
 
@@ -43,23 +26,11 @@ kinds_agree def = refl
 held_passes : (checks : ℕ → Val → Bool) (kind : ScalarKind) (validator : ValidatorDef) (v : Val)
     → passes_held checks (with_kind kind validator) v ≡ passes checks kind validator v
 held_passes checks kind (ValidatorDef.Custom hook) v = refl
-held_passes checks kind (ValidatorDef.Min low) v = refl
-held_passes checks kind (ValidatorDef.Max high) v = refl
-held_passes checks kind (ValidatorDef.MinLength low) v = refl
-held_passes checks kind (ValidatorDef.MaxLength high) v = refl
-held_passes checks kind ValidatorDef.Url v = refl
-held_passes checks kind (ValidatorDef.Regex pattern) v = refl
-held_passes checks kind (ValidatorDef.Contains needle) v = refl
+held_passes checks kind _ v = refl
 
 held_is : (kind : ScalarKind) (validator : ValidatorDef) → validator_of (with_kind kind validator) ≡ validator
 held_is kind (ValidatorDef.Custom hook) = refl
-held_is kind (ValidatorDef.Min low) = refl
-held_is kind (ValidatorDef.Max high) = refl
-held_is kind (ValidatorDef.MinLength low) = refl
-held_is kind (ValidatorDef.MaxLength high) = refl
-held_is kind ValidatorDef.Url = refl
-held_is kind (ValidatorDef.Regex pattern) = refl
-held_is kind (ValidatorDef.Contains needle) = refl
+held_is kind _ = refl
 
 abbrev meant_field : ℕ → (selected : Option ℕ) → ℕ → FieldRef
 meant_field s selected i = record { shape = record { 0 = s }; variant = selected; index = i }
@@ -184,90 +155,88 @@ module _ (table : Table) (plan : Plan) (s : ℕ) (selected : Option ℕ) (i : �
 
 -- Children.
 
-module _ (means : Meanings) (table : Table) (s : ℕ) (form : Form) where
+module _ (means : Meanings) (table : Table) (s : ℕ) (tracker : Tracker) where
   lack_step : (i : ℕ) (c : Cell) (cs : List Cell)
-      → lack_among means table s form i (trees_of (c ∷ cs))
-      ≡ option_or (lack_of_child means table s form i (value_of_cell c)) (lack_among means table s form (suc i) (trees_of cs))
+      → lack_among means table s tracker i (trees_of (c ∷ cs))
+      ≡ option_or (lack_of_child means table s tracker i (value_of_cell c)) (lack_among means table s tracker (suc i) (trees_of cs))
   lack_step i absent cs = refl
-  lack_step i (given v) cs = refl
-  lack_step i (placed n) cs = refl
+  lack_step i _ cs = refl
 
   made_step : (i : ℕ) (c : Cell) (cs : List Cell)
-      → complete_all strict_column means table s form i (trees_of (c ∷ cs))
-      ≡ one_more (valid_child means table s form i (child_value table s form i (value_of_cell c)))
-      (complete_all strict_column means table s form (suc i) (trees_of cs))
+      → complete_all strict_column means table s tracker i (trees_of (c ∷ cs))
+      ≡ one_more (valid_child means table s tracker i (child_value table s tracker i (value_of_cell c)))
+      (complete_all strict_column means table s tracker (suc i) (trees_of cs))
   made_step i absent cs = refl
-  made_step i (given v) cs = refl
-  made_step i (placed n) cs = refl
+  made_step i _ cs = refl
 
   pub lack_next : (cs : List Cell) (k i : ℕ) → k < length cs
-      → lack_among means table s form i (trees_of (drop k cs))
-      ≡ option_or (lack_of_child means table s form i (value_at cs k)) (lack_among means table s form (suc i) (trees_of (drop (suc k) cs)))
+      → lack_among means table s tracker i (trees_of (drop k cs))
+      ≡ option_or (lack_of_child means table s tracker i (value_at cs k)) (lack_among means table s tracker (suc i) (trees_of (drop (suc k) cs)))
   lack_next [] k i h = absurd (omega arith)
   lack_next (c ∷ cs) zero i h = lack_step i c cs
   lack_next (c ∷ cs) (suc k) i h = lack_next cs k i (omega arith)
 
   -- children that lack nothing make what they are filled to
-  pub made_whole : (i : ℕ) (cs : List Cell) → lack_among means table s form i (trees_of cs) ≡ None
-      → (complete_all strict_column means table s form i (trees_of cs) ≡ filled table s form i cs) × IsSome (filled table s form i cs)
+  pub made_whole : (i : ℕ) (cs : List Cell) → lack_among means table s tracker i (trees_of cs) ≡ None
+      → (complete_all strict_column means table s tracker i (trees_of cs) ≡ filled table s tracker i cs) × IsSome (filled table s tracker i cs)
   made_whole i [] h = (refl, refl)
   made_whole i (c ∷ cs) h =
-      let both : (lack_of_child means table s form i (value_of_cell c) ≡ None)
-      × (lack_among means table s form (suc i) (trees_of cs) ≡ None)
-      = or_none (lack_of_child means table s form i (value_of_cell c)) (lack_among means table s form (suc i) (trees_of cs))
+      let both : (lack_of_child means table s tracker i (value_of_cell c) ≡ None)
+      × (lack_among means table s tracker (suc i) (trees_of cs) ≡ None)
+      = or_none (lack_of_child means table s tracker i (value_of_cell c)) (lack_among means table s tracker (suc i) (trees_of cs))
       (sym (lack_step i c cs) ∙ h) in
-      let here : (valid_child means table s form i (child_value table s form i (value_of_cell c)) ≡ child_value table s form i (value_of_cell c))
-      × IsSome (child_value table s form i (value_of_cell c))
-      = value_there (missing_child s form i) (child_value table s form i (value_of_cell c)) (failing_child means table s form i) both.0 in
-      let rest : (complete_all strict_column means table s form (suc i) (trees_of cs) ≡ filled table s form (suc i) cs) × IsSome (filled table s form (suc i) cs)
+      let here : (valid_child means table s tracker i (child_value table s tracker i (value_of_cell c)) ≡ child_value table s tracker i (value_of_cell c))
+      × IsSome (child_value table s tracker i (value_of_cell c))
+      = value_there (missing_child s tracker i) (child_value table s tracker i (value_of_cell c)) (failing_child means table s tracker i) both.0 in
+      let rest : (complete_all strict_column means table s tracker (suc i) (trees_of cs) ≡ filled table s tracker (suc i) cs) × IsSome (filled table s tracker (suc i) cs)
       = made_whole (suc i) cs both.1 in (
         made_step i c cs
-            ∙ ap (λ (value : Option Val). one_more value (complete_all strict_column means table s form (suc i) (trees_of cs))) here.0
-            ∙ ap (one_more (child_value table s form i (value_of_cell c))) rest.0,
-        more_there (child_value table s form i (value_of_cell c)) (filled table s form (suc i) cs) here.1 rest.1,
+            ∙ ap (λ (value : Option Val). one_more value (complete_all strict_column means table s tracker (suc i) (trees_of cs))) here.0
+            ∙ ap (one_more (child_value table s tracker i (value_of_cell c))) rest.0,
+        more_there (child_value table s tracker i (value_of_cell c)) (filled table s tracker (suc i) cs) here.1 rest.1,
       )
 
   -- and none is made where something is lacking
-  pub not_made : (i : ℕ) (cs : List Cell) (kind : ReflectErrorKind) → lack_among means table s form i (trees_of cs) ≡ Some kind
-      → complete_all strict_column means table s form i (trees_of cs) ≡ None
+  pub not_made : (i : ℕ) (cs : List Cell) (kind : ReflectErrorKind) → lack_among means table s tracker i (trees_of cs) ≡ Some kind
+      → complete_all strict_column means table s tracker i (trees_of cs) ≡ None
   not_made i [] kind h = absurd (cc)
   not_made i (c ∷ cs) kind h =
       made_step i c cs
-      ∙ go (lack_of_child means table s form i (value_of_cell c)) refl (sym (lack_step i c cs) ∙ h) (not_made (suc i) cs kind)
+      ∙ go (lack_of_child means table s tracker i (value_of_cell c)) refl (sym (lack_step i c cs) ∙ h) (not_made (suc i) cs kind)
     where
-      go : (here : Option ReflectErrorKind) → lack_of_child means table s form i (value_of_cell c) ≡ here
-          → option_or (lack_of_child means table s form i (value_of_cell c)) (lack_among means table s form (suc i) (trees_of cs)) ≡ Some kind
-          → (lack_among means table s form (suc i) (trees_of cs) ≡ Some kind → complete_all strict_column means table s form (suc i) (trees_of cs) ≡ None)
-          → one_more (valid_child means table s form i (child_value table s form i (value_of_cell c)))
-          (complete_all strict_column means table s form (suc i) (trees_of cs)) ≡ None
+      go : (here : Option ReflectErrorKind) → lack_of_child means table s tracker i (value_of_cell c) ≡ here
+          → option_or (lack_of_child means table s tracker i (value_of_cell c)) (lack_among means table s tracker (suc i) (trees_of cs)) ≡ Some kind
+          → (lack_among means table s tracker (suc i) (trees_of cs) ≡ Some kind → complete_all strict_column means table s tracker (suc i) (trees_of cs) ≡ None)
+          → one_more (valid_child means table s tracker i (child_value table s tracker i (value_of_cell c)))
+          (complete_all strict_column means table s tracker (suc i) (trees_of cs)) ≡ None
       go (Some cause) e all rest =
-          ap (λ (value : Option Val). one_more value (complete_all strict_column means table s form (suc i) (trees_of cs)))
-          (value_lacks (missing_child s form i) (child_value table s form i (value_of_cell c)) (failing_child means table s form i) cause e)
+          ap (λ (value : Option Val). one_more value (complete_all strict_column means table s tracker (suc i) (trees_of cs)))
+          (value_lacks (missing_child s tracker i) (child_value table s tracker i (value_of_cell c)) (failing_child means table s tracker i) cause e)
       go None e all rest =
-          ap (one_more (valid_child means table s form i (child_value table s form i (value_of_cell c))))
-          (rest (sym (first_none (lack_of_child means table s form i (value_of_cell c)) (lack_among means table s form (suc i) (trees_of cs)) e) ∙ all))
-          ∙ none_more (valid_child means table s form i (child_value table s form i (value_of_cell c)))
+          ap (one_more (valid_child means table s tracker i (child_value table s tracker i (value_of_cell c))))
+          (rest (sym (first_none (lack_of_child means table s tracker i (value_of_cell c)) (lack_among means table s tracker (suc i) (trees_of cs)) e) ∙ all))
+          ∙ none_more (valid_child means table s tracker i (child_value table s tracker i (value_of_cell c)))
 
   pub no_children_lack : (count i : ℕ)
-      → lack_of_holes means table s form count i ≡ lack_among means table s form i (trees_of (replicate count absent))
+      → lack_of_holes means table s tracker count i ≡ lack_among means table s tracker i (trees_of (replicate count absent))
   no_children_lack zero i = refl
   no_children_lack (suc count) i =
-      ap (option_or (lack_of_hole means table s form i)) (no_children_lack count (suc i))
+      ap (option_or (lack_of_hole means table s tracker i)) (no_children_lack count (suc i))
 
-pub holes_next : (means : Meanings) (table : Table) (s : ℕ) (form : Form) (count left i : ℕ) → left ≡ suc count
-    → lack_of_holes means table s form left i
-    ≡ option_or (lack_of_child means table s form i None) (lack_of_holes means table s form count (suc i))
-holes_next means table s form count left i e = ap (λ (n : ℕ). lack_of_holes means table s form n i) e
+pub holes_next : (means : Meanings) (table : Table) (s : ℕ) (tracker : Tracker) (count left i : ℕ) → left ≡ suc count
+    → lack_of_holes means table s tracker left i
+    ≡ option_or (lack_of_child means table s tracker i None) (lack_of_holes means table s tracker count (suc i))
+holes_next means table s tracker count left i e = ap (λ (n : ℕ). lack_of_holes means table s tracker n i) e
 
 -- Places.
 
 module _ (means : Meanings) (table : Table) (s : ℕ) where
   pub no_children_made : (column : Column) (count i : ℕ)
-      → each_child (λ k. valid_child means table s as_struct k (fill_at column table s k)) count i
-      ≡ complete_all column means table s as_struct i (trees_of (replicate count absent))
+      → each_child (λ k. valid_child means table s (as_fields None) k (fill_at column table s k)) count i
+      ≡ complete_all column means table s (as_fields None) i (trees_of (replicate count absent))
   no_children_made column zero i = refl
   no_children_made column (suc count) i =
-      ap (one_more (valid_child means table s as_struct i (fill_at column table s i))) (no_children_made column count (suc i))
+      ap (one_more (valid_child means table s (as_fields None) i (fill_at column table s i))) (no_children_made column count (suc i))
 
   abbrev holes : List Cell
   holes = replicate (child_count table s) absent
@@ -290,45 +259,45 @@ module _ (means : Meanings) (table : Table) (s : ℕ) where
   by_def_lacks (Def.Option t) None lacking made_up kind h so = refl
   by_def_lacks _ preset lacking made_up kind h so = refl
 
-  made_up_is : made_of_fills strict_column means table s ≡ made as_struct (complete_all strict_column means table s as_struct 0 (trees_of holes))
-  made_up_is = ap (made as_struct) (no_children_made strict_column (child_count table s) 0)
+  made_up_is : made_of_fills strict_column means table s ≡ made (as_fields None) (complete_all strict_column means table s (as_fields None) 0 (trees_of holes))
+  made_up_is = ap (made (as_fields None)) (no_children_made strict_column (child_count table s) 0)
 
-  pub made_there : (form : Form) (values : Option Vals) → IsSome values → IsSome (made form values)
-  made_there form (Some vs) h = refl
-  made_there form None h = absurd (cc)
+  pub made_there : (tracker : Tracker) (values : Option Vals) → IsSome values → IsSome (made tracker values)
+  made_there tracker (Some vs) h = refl
+  made_there tracker None h = absurd (cc)
 
-  pub made_none : (form : Form) → made form None ≡ None
-  made_none form = refl
+  pub made_none : (tracker : Tracker) → made tracker None ≡ None
+  made_none tracker = refl
 
   -- a place that lacks nothing makes what it is filled to
   pub body_whole : (body : Body) → lack means table s (own_tree body) ≡ None
       → (complete strict_column means table s (own_tree body) ≡ filled_body table s body) × IsSome (filled_body table s body)
   body_whole entered_body h =
-      by_def_whole (def_of table s) (preset_of table s) (lack_of_holes means table s as_struct (child_count table s) 0)
-      (made_of_fills strict_column means table s) (made as_struct (filled table s as_struct 0 holes)) h
+      by_def_whole (def_of table s) (preset_of table s) (lack_of_holes means table s (as_fields None) (child_count table s) 0)
+      (made_of_fills strict_column means table s) (made (as_fields None) (filled table s (as_fields None) 0 holes)) h
       (λ e.
-      let so : (complete_all strict_column means table s as_struct 0 (trees_of holes) ≡ filled table s as_struct 0 holes) × IsSome (filled table s as_struct 0 holes)
-      = made_whole means table s as_struct 0 holes (sym (no_children_lack means table s as_struct (child_count table s) 0) ∙ e) in
-      (made_up_is ∙ ap (made as_struct) so.0, made_there as_struct (filled table s as_struct 0 holes) so.1))
+      let so : (complete_all strict_column means table s (as_fields None) 0 (trees_of holes) ≡ filled table s (as_fields None) 0 holes) × IsSome (filled table s (as_fields None) 0 holes)
+      = made_whole means table s (as_fields None) 0 holes (sym (no_children_lack means table s (as_fields None) (child_count table s) 0) ∙ e) in
+      (made_up_is ∙ ap (made (as_fields None)) so.0, made_there (as_fields None) (filled table s (as_fields None) 0 holes) so.1))
   body_whole (whole_body v) h = (refl, refl)
-  body_whole (begun_body form cells) h =
-      let so : (complete_all strict_column means table s form 0 (trees_of cells) ≡ filled table s form 0 cells) × IsSome (filled table s form 0 cells)
-      = made_whole means table s form 0 cells h in
-      (ap (made form) so.0, made_there form (filled table s form 0 cells) so.1)
+  body_whole (begun_body tracker cells) h =
+      let so : (complete_all strict_column means table s tracker 0 (trees_of cells) ≡ filled table s tracker 0 cells) × IsSome (filled table s tracker 0 cells)
+      = made_whole means table s tracker 0 cells h in
+      (ap (made tracker) so.0, made_there tracker (filled table s tracker 0 cells) so.1)
 
   -- and one that lacks something makes nothing
   pub body_lacks : (body : Body) (kind : ReflectErrorKind) → lack means table s (own_tree body) ≡ Some kind
       → complete strict_column means table s (own_tree body) ≡ None
   body_lacks entered_body kind h =
-      by_def_lacks (def_of table s) (preset_of table s) (lack_of_holes means table s as_struct (child_count table s) 0)
+      by_def_lacks (def_of table s) (preset_of table s) (lack_of_holes means table s (as_fields None) (child_count table s) 0)
       (made_of_fills strict_column means table s) kind h
       (λ e.
       made_up_is
-      ∙ ap (made as_struct)
-      (not_made means table s as_struct 0 holes kind (sym (no_children_lack means table s as_struct (child_count table s) 0) ∙ e)))
+      ∙ ap (made (as_fields None))
+      (not_made means table s (as_fields None) 0 holes kind (sym (no_children_lack means table s (as_fields None) (child_count table s) 0) ∙ e)))
   body_lacks (whole_body v) kind h = absurd (cc)
-  body_lacks (begun_body form cells) kind h =
-      ap (made form) (not_made means table s form 0 cells kind h) ∙ made_none form
+  body_lacks (begun_body tracker cells) kind h =
+      ap (made tracker) (not_made means table s tracker 0 cells kind h) ∙ made_none tracker
 
 -- Children that are all there, of fields without validators.
 
@@ -391,43 +360,41 @@ module _ (means : Meanings) (table : Table) (s : ℕ) (selected : Option ℕ) (n
   pub no_validator_lacks : (j : ℕ) (cs : List Cell) → IsSome (values_of cs)
       → lack_among means table s (as_fields selected) j (trees_of cs) ≡ None
   no_validator_lacks j [] there = refl
-  no_validator_lacks j (absent ∷ cs) there = absurd (cc)
-  no_validator_lacks j (placed n ∷ cs) there = absurd (cc)
   no_validator_lacks j (given v ∷ cs) there =
       ap (λ (o : Option ReflectErrorKind). option_or o (lack_among means table s (as_fields selected) (suc j) (trees_of cs)))
       (passes_all j v)
       ∙ no_validator_lacks (suc j) cs (all_later v (values_of cs) there)
+  no_validator_lacks j _ there = absurd (cc)
 
 -- a place without fields lacks its value where a child isn't there, and else nothing
 
-module _ (means : Meanings) (table : Table) (s : ℕ) (form : Form) (others : parts_in form ≡ Parts.Others) where
-  pub others_there : (i : ℕ) (cs : List Cell) → IsSome (values_of cs) → lack_among means table s form i (trees_of cs) ≡ None
+module _ (means : Meanings) (table : Table) (s : ℕ) (tracker : Tracker) (others : fields_of_tracker tracker ≡ None) where
+  pub others_there : (i : ℕ) (cs : List Cell) → IsSome (values_of cs) → lack_among means table s tracker i (trees_of cs) ≡ None
   others_there i [] h = refl
-  others_there i (absent ∷ cs) h = absurd (cc)
-  others_there i (placed n ∷ cs) h = absurd (cc)
   others_there i (given v ∷ cs) h =
-      ap (λ (o : Option ReflectErrorKind). option_or o (lack_among means table s form (suc i) (trees_of cs)))
-      (others_pass table s means form others i (Some v))
+      ap (λ (o : Option ReflectErrorKind). option_or o (lack_among means table s tracker (suc i) (trees_of cs)))
+      (others_pass table s means tracker others i (Some v))
       ∙ others_there (suc i) cs (all_later v (values_of cs) h)
+  others_there i _ h = absurd (cc)
 
   hole_lacks : (i : ℕ) (cs : List Cell)
-      → option_or (lack_of_hole means table s form i) (lack_among means table s form (suc i) (trees_of cs)) ≡ Some (missing_value s)
+      → option_or (lack_of_hole means table s tracker i) (lack_among means table s tracker (suc i) (trees_of cs)) ≡ Some (missing_value s)
   hole_lacks i cs =
       ap
       (λ (fill : Option Val).
-      option_or (option_or (unless_there fill (missing_child s form i)) (failing_child means table s form i fill))
-      (lack_among means table s form (suc i) (trees_of cs)))
-      (others_take table s strict_column form others i)
-      ∙ ap Some (others_missing s form others i)
+      option_or (option_or (unless_there fill (missing_child s tracker i)) (failing_child means table s tracker i fill))
+      (lack_among means table s tracker (suc i) (trees_of cs)))
+      (others_take table s strict_column tracker others i)
+      ∙ ap Some (others_missing s tracker others i)
 
   pub others_lack : (i : ℕ) (cs : List Cell) → values_of cs ≡ None
-      → lack_among means table s form i (trees_of cs) ≡ Some (missing_value s)
+      → lack_among means table s tracker i (trees_of cs) ≡ Some (missing_value s)
   others_lack i [] h = absurd (cc)
   others_lack i (absent ∷ cs) h = hole_lacks i cs
   others_lack i (placed n ∷ cs) h = hole_lacks i cs
   others_lack i (given v ∷ cs) h =
-      ap (λ (o : Option ReflectErrorKind). option_or o (lack_among means table s form (suc i) (trees_of cs)))
-      (others_pass table s means form others i (Some v))
+      ap (λ (o : Option ReflectErrorKind). option_or o (lack_among means table s tracker (suc i) (trees_of cs)))
+      (others_pass table s means tracker others i (Some v))
       ∙ others_lack (suc i) cs (go (values_of cs) h)
     where
       go : (vs : Option Vals) → one_more (Some v) vs ≡ None → vs ≡ None
@@ -447,54 +414,54 @@ err_so (Err kind) P Q so h = so kind h
 
 module _ (means : Meanings) (table : Table) (plan : Plan) (s : ℕ) (selected : Option ℕ) (i : ℕ) (one : FieldPlan)
     (is : IsTold table plan s selected i one) where
-  abbrev form : Form
-  form = as_fields selected
+  abbrev tracker : Tracker
+  tracker = as_fields selected
 
   abbrev its_lack : Option Val → Option ReflectErrorKind
   its_lack own = lack_of_child means table one.field.shape.0 (as_fields one.field.variant) one.field.index own
 
   holes_left : (n : ℕ) → i < n
-      → lack_of_holes means table s form (n - i) i
-      ≡ option_or (its_lack None) (lack_of_holes means table s form (n - (i + 1)) (suc i))
+      → lack_of_holes means table s tracker (n - i) i
+      ≡ option_or (its_lack None) (lack_of_holes means table s tracker (n - (i + 1)) (suc i))
   holes_left n h =
       let left : n - i ≡ suc (n - (i + 1)) = omega arith in
-      holes_next means table s form (n - (i + 1)) (n - i) i left
-      ∙ ap (λ (o : Option ReflectErrorKind). option_or o (lack_of_holes means table s form (n - (i + 1)) (suc i)))
+      holes_next means table s tracker (n - (i + 1)) (n - i) i left
+      ∙ ap (λ (o : Option ReflectErrorKind). option_or o (lack_of_holes means table s tracker (n - (i + 1)) (suc i)))
       (sym (lack_itself table plan s selected i one is means None))
 
   pub holes_preserved : (n : ℕ) → i < n → its_lack None ≡ None
-      → lack_of_holes means table s form (n - i) i ≡ lack_of_holes means table s form (n - (i + 1)) (i + 1)
+      → lack_of_holes means table s tracker (n - i) i ≡ lack_of_holes means table s tracker (n - (i + 1)) (i + 1)
   holes_preserved n h passes =
       let next : suc i ≡ i + 1 = omega arith in
-      holes_left n h ∙ first_none (its_lack None) (lack_of_holes means table s form (n - (i + 1)) (suc i)) passes
-      ∙ ap (λ (k : ℕ). lack_of_holes means table s form (n - (i + 1)) k) next
+      holes_left n h ∙ first_none (its_lack None) (lack_of_holes means table s tracker (n - (i + 1)) (suc i)) passes
+      ∙ ap (λ (k : ℕ). lack_of_holes means table s tracker (n - (i + 1)) k) next
 
   pub holes_cause : (n : ℕ) → i < n → (kind : ReflectErrorKind) → IsCauseOf (its_lack None) kind
-      → IsCauseOf (lack_of_holes means table s form (n - i) i) kind
+      → IsCauseOf (lack_of_holes means table s tracker (n - i) i) kind
   holes_cause n h kind cause =
       subst (λ (o : Option ReflectErrorKind). IsCauseOf o kind) (sym (holes_left n h))
-      (cause_first (its_lack None) (lack_of_holes means table s form (n - (i + 1)) (suc i)) kind cause)
+      (cause_first (its_lack None) (lack_of_holes means table s tracker (n - (i + 1)) (suc i)) kind cause)
 
   fields_left : (cs : List Cell) (own : Option Val) → i < length cs → own ≡ value_at cs i
-      → lack_among means table s form i (trees_of (drop i cs))
-      ≡ option_or (its_lack own) (lack_among means table s form (suc i) (trees_of (drop (suc i) cs)))
+      → lack_among means table s tracker i (trees_of (drop i cs))
+      ≡ option_or (its_lack own) (lack_among means table s tracker (suc i) (trees_of (drop (suc i) cs)))
   fields_left cs own h e =
-      lack_next means table s form cs i i h
+      lack_next means table s tracker cs i i h
       ∙ ap
-      (λ (o : Option ReflectErrorKind). option_or o (lack_among means table s form (suc i) (trees_of (drop (suc i) cs))))
-      (ap (lack_of_child means table s form i) (sym e) ∙ sym (lack_itself table plan s selected i one is means own))
+      (λ (o : Option ReflectErrorKind). option_or o (lack_among means table s tracker (suc i) (trees_of (drop (suc i) cs))))
+      (ap (lack_of_child means table s tracker i) (sym e) ∙ sym (lack_itself table plan s selected i one is means own))
 
   pub fields_preserved : (cs : List Cell) (own : Option Val) → i < length cs → own ≡ value_at cs i → its_lack own ≡ None
-      → lack_among means table s form i (trees_of (drop i cs))
-      ≡ lack_among means table s form (i + 1) (trees_of (drop (i + 1) cs))
+      → lack_among means table s tracker i (trees_of (drop i cs))
+      ≡ lack_among means table s tracker (i + 1) (trees_of (drop (i + 1) cs))
   fields_preserved cs own h e passes =
       let next : suc i ≡ i + 1 = omega arith in
       fields_left cs own h e
-      ∙ first_none (its_lack own) (lack_among means table s form (suc i) (trees_of (drop (suc i) cs))) passes
-      ∙ ap (λ (k : ℕ). lack_among means table s form k (trees_of (drop k cs))) next
+      ∙ first_none (its_lack own) (lack_among means table s tracker (suc i) (trees_of (drop (suc i) cs))) passes
+      ∙ ap (λ (k : ℕ). lack_among means table s tracker k (trees_of (drop k cs))) next
 
   pub fields_cause : (cs : List Cell) (own : Option Val) → i < length cs → own ≡ value_at cs i → (kind : ReflectErrorKind)
-      → IsCauseOf (its_lack own) kind → IsCauseOf (lack_among means table s form i (trees_of (drop i cs))) kind
+      → IsCauseOf (its_lack own) kind → IsCauseOf (lack_among means table s tracker i (trees_of (drop i cs))) kind
   fields_cause cs own h e kind cause =
       subst (λ (o : Option ReflectErrorKind). IsCauseOf o kind) (sym (fields_left cs own h e))
-      (cause_first (its_lack own) (lack_among means table s form (suc i) (trees_of (drop (suc i) cs))) kind cause)
+      (cause_first (its_lack own) (lack_among means table s tracker (suc i) (trees_of (drop (suc i) cs))) kind cause)

@@ -8,7 +8,7 @@ pub mod DrainLaws
 pub mod DynamicLaws
 pub mod EntryLaws
 pub mod FillLaws
-pub mod FormLaws
+pub mod TrackerLaws
 pub mod FreeLaws
 pub mod Gathered
 pub mod GrowLaws

@@ -1,23 +1,10 @@
 -- An item that is entered into a list: it gets its room and its slot at once.
-use Rattle.std.proofs.Common.{◌≡◌, ◌≢◌, ◌⊎◌, ℕ, ◌+◌, Bool, true, false, List, [], ◌∷◌, ◌++◌, length, Option, Some, None, IsSomeAnd, slice_get, set, option_map, inl, inr, refl, sym, ◌∙◌, ap}
-use Rattle.std.specs.Prelude.{unwrap_or, if◌then◌else◌}
-use Rattle.fr_shape.specs.declared.shape.Def.{Def}
+use Rattle.std.proofs.Common.{◌≡◌, ◌≢◌, ◌⊎◌, ℕ, ◌+◌, Bool, true, false, List, [], ◌∷◌, ◌++◌, length, Option, Some, None, IsSomeAnd, slice_get, set, option_map, inl, inr, refl, sym, ◌∙◌, ap, if◌then◌else◌}
+use Rattle.fr_frame.specs.Common.{Body, Cell, Def, FrameOwner, Heap, IfInUse, Node, NodeId, Plan, Shows, Slot, Table, TypePlanNode, absent, added, begun_body, body_occurs, cell_at, count_cells, def_of, depth_below, entered_body, heap_of, held_by, is_list_body, item_owner, linked, links, no_vals, placed, product, shape_of, unwrap_or, whole_body, with_body, with_entered, with_placed, with_slot}
 use Rattle.fr_shape.specs.Fills.{is_empty_struct}
-use Rattle.fr_shape.specs.Val.{product, no_vals}
-use Rattle.fr_shape.specs.Look.{Table, def_of}
-use Rattle.fr_plan.specs.declared.nodes.NodeId.{NodeId}
-use Rattle.fr_plan.specs.declared.nodes.TypePlanNode.{TypePlanNode}
 use Rattle.fr_plan.specs.Lookups.{node_at}
-use Rattle.fr_plan.specs.TypePlan.{Plan}
-use Rattle.fr_frame.specs.declared.places.FrameOwner.{FrameOwner}
-use Rattle.fr_frame.specs.declared.places.Slot.{Slot}
-use Rattle.fr_frame.specs.Bodies.{Body, entered_body, whole_body, begun_body, added, body_occurs, cell_at, count_cells, fresh_body, linked, linked_by, taken_over}
-use Rattle.fr_frame.specs.Cells.{Cell, absent, placed}
-use Rattle.fr_frame.specs.Changes.{IfInUse, Shows}
-use Rattle.fr_frame.specs.Completing.{shape_of}
-use Rattle.fr_frame.specs.Heap.{Node, Heap, depth_above, depth_below, entered_node, heap_of, held_by, item_owner, links, with_body, with_entered, with_slot}
-use Rattle.fr_frame.specs.Items.{with_placed}
-use Rattle.fr_frame.specs.Outlines.{is_list_body}
+use Rattle.fr_frame.specs.Bodies.{fresh_body, linked_by, taken_over}
+use Rattle.fr_frame.specs.Heap.{depth_above, entered_node}
 use Rattle.fr_frame.proofs.HandLaws.{with_body_alike}
 use Rattle.fr_frame.proofs.HeapLaws.{Alike, number_cases, with_here, with_other, with_slot_alike}
 
@@ -31,16 +18,14 @@ last_set (z ∷ xs) x y = ap (λ (l : List _). z ∷ l) (last_set xs x y)
 
 -- the child that was added isn't there
 held_last : (body : Body) → is_list_body body ≡ true → cell_at (added body) (count_cells body) ≡ Some absent
-held_last entered_body list = cc
-held_last (whole_body v) list = cc
-held_last (begun_body form cells) list = last_there cells absent
+held_last (begun_body tracker cells) list = last_there cells absent
+held_last _ list = cc
 
 linked_last : (id : ℕ) (body : Body) → is_list_body body ≡ true → linked id (count_cells body) (added body) ≡ with_placed id body
-linked_last id entered_body list = cc
-linked_last id (whole_body v) list = cc
-linked_last id (begun_body form cells) list =
-    ap (linked_by id (length cells) (begun_body form (cells ++ absent ∷ []))) (last_there cells absent)
-    ∙ ap (begun_body form) (last_set cells absent (placed id))
+linked_last id (begun_body tracker cells) list =
+    ap (linked_by id (length cells) (begun_body tracker (cells ++ absent ∷ []))) (last_there cells absent)
+    ∙ ap (begun_body tracker) (last_set cells absent (placed id))
+linked_last id _ list = cc
 
 module _ (heap : Heap) (parent : ℕ) (above : Node) (here : heap parent ≡ Some above) (list : is_list_body above.body ≡ true) where
   abbrev grown : Heap

@@ -1,15 +1,10 @@
 -- Dynamic values that are begun, and the entry that is entered.
 use Rattle.std.proofs.Common.{◌≡◌, ◌⊎◌, ◌≢◌, ℕ, List, [], ◌∷◌, ◌++◌, Option, Some, None, IsSomeAnd, option_map, inl, inr, refl, sym, ◌∙◌, ap, subst, arith}
-use Rattle.fr_shape.specs.Tokens.{occurs}
-use Rattle.fr_shape.specs.Val.{Val, Dynamic, Dynamics, Members, dyn, dyn_array, dyn_object, no_dynamics, first_dynamic, no_members, member}
-use Rattle.fr_model.specs.DynamicPlaces.{entry_found, number_or_last}
-use Rattle.fr_model.specs.Dynamics.{dynamic_in, elements_in, element_vals, members_of_object, member_keys, member_vals}
-use Rattle.fr_model.specs.Tree.{as_dyn_array, as_dyn_object}
-use Rattle.fr_frame.specs.Bodies.{Body, entered_body, whole_body, begun_body, cells_of_vals, count_cells, entry_in, keys_in, opened_elements, opened_members, with_entry_for, with_entry_unless}
-use Rattle.fr_frame.specs.Cells.{Cell, absent, cells_occur}
-use Rattle.fr_frame.specs.declared.places.Slot.{Slot}
-use Rattle.fr_frame.specs.Changes.{IfInUse}
-use Rattle.fr_frame.specs.Heap.{Node, Heap, heap_of, with_body, with_slot}
+use Rattle.fr_frame.specs.Common.{Body, Cell, EntriesKind, Heap, IfInUse, ItemsKind, Node, Slot, Val, absent, as_entries, as_items, begun_body, cells_occur, cells_of_vals, count_cells, dyn, dynamic_in, element_vals, entered_body, entry_found, heap_of, keys_in, member_keys, member_vals, occurs, whole_body, with_body, with_entry_for, with_slot}
+use Rattle.fr_shape.specs.Val.{Dynamic, Dynamics, Members, dyn_array, dyn_object, no_dynamics, first_dynamic, no_members, member}
+use Rattle.fr_model.specs.DynamicPlaces.{number_or_last}
+use Rattle.fr_model.specs.Dynamics.{elements_in, members_of_object}
+use Rattle.fr_frame.specs.Bodies.{entry_in, opened_elements, opened_members, with_entry_unless}
 use Rattle.fr_frame.proofs.HeapLaws.{Alike, with_here, with_other, number_cases}
 use Rattle.fr_frame.proofs.PlaceLaws.{in_use_so}
 
@@ -50,30 +45,29 @@ object_occurs _ cells t e = let no : None ≡ Some cells = e in cc
 -- They are begun with their parts.
 
 pub array_opened : (v : Val) (parts : Option Dynamics) (cells : List Cell) → option_map (λ ds. cells_of_vals (element_vals ds)) parts ≡ Some cells
-    → begun_body as_dyn_array cells ≡ opened_elements v parts
+    → begun_body (as_items ItemsKind.Array) cells ≡ opened_elements v parts
 array_opened v (Some ds) cells e =
     let same : cells_of_vals (element_vals ds) ≡ cells = cc in
-    ap (begun_body as_dyn_array) (sym same)
+    ap (begun_body (as_items ItemsKind.Array)) (sym same)
 array_opened v None cells e = absurd (cc)
 
 pub object_opened : (v : Val) (parts : Option Members) (keys : List (List ℕ)) (cells : List Cell) → option_map member_keys parts ≡ Some keys
-    → option_map (λ ms. cells_of_vals (member_vals ms)) parts ≡ Some cells → begun_body (as_dyn_object keys) cells ≡ opened_members v parts
+    → option_map (λ ms. cells_of_vals (member_vals ms)) parts ≡ Some cells → begun_body (as_entries (EntriesKind.Object keys)) cells ≡ opened_members v parts
 object_opened v (Some ms) keys cells e f =
     let same : cells_of_vals (member_vals ms) ≡ cells = cc in
     let names : member_keys ms ≡ keys = cc in
-    ap (λ (ks : List (List ℕ)). begun_body (as_dyn_object ks) cells) (sym names) ∙ ap (begun_body (as_dyn_object (member_keys ms))) (sym same)
+    ap (λ (ks : List (List ℕ)). begun_body (as_entries (EntriesKind.Object ks)) cells) (sym names) ∙ ap (begun_body (as_entries (EntriesKind.Object (member_keys ms)))) (sym same)
 object_opened v None keys cells e f = absurd (cc)
 
 -- An entry under a key.
 
 pub entry_added : (key : List ℕ) (keys : List (List ℕ)) (cells : List Cell) → entry_found key keys ≡ None
-    → begun_body (as_dyn_object (keys ++ key ∷ [])) (cells ++ absent ∷ []) ≡ with_entry_for key (begun_body (as_dyn_object keys) cells)
-entry_added key keys cells e = sym (ap (with_entry_unless key (as_dyn_object keys) cells) e)
+    → begun_body (as_entries (EntriesKind.Object (keys ++ key ∷ []))) (cells ++ absent ∷ []) ≡ with_entry_for key (begun_body (as_entries (EntriesKind.Object keys)) cells)
+entry_added key keys cells e = sym (ap (with_entry_unless key (as_entries (EntriesKind.Object keys)) cells) e)
 
 pub entry_kept : (key : List ℕ) (body : Body) (i : ℕ) → Some i ≡ entry_found key (keys_in body) → with_entry_for key body ≡ body
-entry_kept key entered_body i e = refl
-entry_kept key (whole_body v) i e = refl
-entry_kept key (begun_body form cells) i e = sym (ap (with_entry_unless key form cells) e)
+entry_kept key (begun_body tracker cells) i e = sym (ap (with_entry_unless key tracker cells) e)
+entry_kept key _ i e = refl
 
 as_it_was : (found : Option Node) (change : Body → Body) → IsSomeAnd found (λ (at : Node). change at.body ≡ at.body)
     → option_map (λ (at : Node). record at { body = change at.body }) found ≡ found

@@ -1,22 +1,10 @@
 -- What a place lacks and what it makes by the rules of the end of deferred mode, by what becomes of it as its holes take their fills.
 use Rattle.std.proofs.Common.{◌≡◌, ℕ, suc, Bool, true, false, List, [], ◌∷◌, replicate, Option, Some, None, IsSome, refl, sym, ◌∙◌, ap, subst}
-use Rattle.std.specs.Option.{option_or}
-use Rattle.fr_shape.specs.declared.error.ReflectErrorKind.{ReflectErrorKind}
-use Rattle.fr_shape.specs.declared.shape.Def.{Def}
-use Rattle.fr_shape.specs.declared.shape.Field.{Field}
-use Rattle.fr_shape.specs.Fills.{DeferredRule, filled, marked_without_default, missing, deferred_rule, by_deferred_rule, preset_of}
-use Rattle.fr_shape.specs.Hooks.{Meanings}
-use Rattle.fr_shape.specs.Look.{Table, def_of, field_in}
-use Rattle.fr_shape.specs.Val.{Val, Vals}
-use Rattle.fr_model.specs.Complete.{complete, complete_all, failing_child, hole_takes, lack_by, made, made_by, made_of_fills, missing_child, missing_value, unless_failing, unless_there, valid_child}
-use Rattle.fr_model.specs.Failing.{first_invalid, first_missing, first_unmet, lack_of_begun, own_lack, unmet_by, unmet_mark, unmet_mark_of}
-use Rattle.fr_model.specs.Places.{deferred_column, child_count, fill_of_field, one_more}
-use Rattle.fr_model.specs.Tree.{Form, as_struct, as_array, as_variant, as_some, as_ok, as_err, as_pointer, as_list, as_slice, as_closed_slice, as_set, as_map, as_dyn_array, as_dyn_object, Trees, holes}
-use Rattle.fr_model.specs.Well.{IsFullAs}
-use Rattle.fr_frame.specs.Bodies.{Body, entered_body, whole_body, begun_body, own_tree, trees_of, value_of, AreUnplaced, IsClosed}
-use Rattle.fr_frame.specs.Cells.{Cell, absent, given, placed, value_of_cell, values_of}
-use Rattle.fr_frame.specs.Completing.{IsFull}
-use Rattle.fr_frame.specs.Defaults.{defaulted, defaulted_by, defaulted_cell, defaulted_cells, defaulted_struct, first_absent, invalid, left_out, unmet, unmet_entered}
+use Rattle.fr_frame.specs.Common.{AreUnplaced, Body, Cell, ContentKind, Def, EntriesKind, Field, IsClosed, IsFull, IsFullAs, ItemsKind, Meanings, ReflectErrorKind, Table, Tracker, Trees, Val, Vals, absent, as_content, as_elements, as_entries, as_fields, as_items, begun_body, child_count, complete, def_of, defaulted, defaulted_by, defaulted_cell, defaulted_cells, defaulted_struct, deferred_column, entered_body, failing_child, field_in, fill_of_field, first_absent, first_invalid, first_unmet, given, hole_takes, holes, invalid, left_out, made, missing_child, missing_value, one_more, option_or, own_tree, placed, preset_of, trees_of, unmet, unmet_mark, value_of, value_of_cell, values_of, whole_body}
+use Rattle.fr_shape.specs.Fills.{DeferredRule, filled, marked_without_default, missing, deferred_rule, by_deferred_rule}
+use Rattle.fr_model.specs.Complete.{complete_all, lack_by, made_by, made_of_fills, unless_failing, unless_there, valid_child}
+use Rattle.fr_model.specs.Failing.{first_missing, lack_of_begun, own_lack, unmet_by, unmet_mark_of}
+use Rattle.fr_frame.specs.Defaults.{unmet_entered}
 use Rattle.fr_frame.proofs.BodyLaws.{full_value}
 use Rattle.fr_frame.proofs.FillLaws.{none_placed}
 use Rattle.fr_frame.proofs.LackLaws.{made_none, made_there, no_children_made, or_none}
@@ -55,9 +43,9 @@ either (Some found) b kind P e here later = here found refl
 either None b kind P e here later = later e
 
 -- a field that is marked to take a default that there isn't takes nothing
-unmet_takes : (table : Table) (s : ℕ) (form : Form) (i : ℕ) (kind : ReflectErrorKind) → unmet_mark table s form i ≡ Some kind
-    → hole_takes deferred_column table s form i ≡ None
-unmet_takes table s form i kind e = go form e
+unmet_takes : (table : Table) (s : ℕ) (tracker : Tracker) (i : ℕ) (kind : ReflectErrorKind) → unmet_mark table s tracker i ≡ Some kind
+    → hole_takes deferred_column table s tracker i ≡ None
+unmet_takes table s tracker i kind e = go tracker e
   where
     by_rule : (field : Field) (rule : DeferredRule) → unmet_by field rule ≡ Some kind → by_deferred_rule table field rule ≡ None
     by_rule field (filled template) e = absurd (cc)
@@ -69,21 +57,10 @@ unmet_takes table s form i kind e = go form e
     at of_variant (Some field) e = by_rule field (deferred_rule table s field) e
     at of_variant None e = refl
 
-    go : (form : Form) → unmet_mark table s form i ≡ Some kind → hole_takes deferred_column table s form i ≡ None
-    go as_struct e = at false (field_in (def_of table s) None i) e
-    go (as_variant k) e = at true (field_in (def_of table s) (Some k) i) e
-    go as_array e = refl
-    go as_some e = refl
-    go as_ok e = refl
-    go as_err e = refl
-    go as_pointer e = refl
-    go as_list e = refl
-    go as_slice e = refl
-    go as_closed_slice e = refl
-    go as_set e = refl
-    go (as_map base) e = refl
-    go as_dyn_array e = refl
-    go (as_dyn_object keys) e = refl
+    go : (tracker : Tracker) → unmet_mark table s tracker i ≡ Some kind → hole_takes deferred_column table s tracker i ≡ None
+    go (as_fields None) e = at false (field_in (def_of table s) None i) e
+    go (as_fields (Some k)) e = at true (field_in (def_of table s) (Some k) i) e
+    go _ e = refl
 
 -- Children.
 
@@ -101,41 +78,39 @@ after_given None v = refl
 after_twice : (fill : Option Val) (c : Cell) → after fill (defaulted_cell fill c) ≡ after fill c
 after_twice (Some v) absent = refl
 after_twice None absent = refl
-after_twice (Some v) (given w) = refl
-after_twice None (given w) = refl
-after_twice (Some v) (placed n) = refl
-after_twice None (placed n) = refl
+after_twice (Some v) _ = refl
+after_twice None _ = refl
 
-module _ (means : Meanings) (table : Table) (s : ℕ) (form : Form) where
+module _ (means : Meanings) (table : Table) (s : ℕ) (tracker : Tracker) where
   abbrev takes : ℕ → Option Val
-  takes i = hole_takes deferred_column table s form i
+  takes i = hole_takes deferred_column table s tracker i
 
   abbrev fails : ℕ → Option Val → Option ReflectErrorKind
-  fails i value = failing_child means table s form i value
+  fails i value = failing_child means table s tracker i value
 
   abbrev values : ℕ → List Cell → Option Vals
-  values i cs = complete_all deferred_column means table s form i (trees_of cs)
+  values i cs = complete_all deferred_column means table s tracker i (trees_of cs)
 
   abbrev misses : ℕ → List Cell → Option ReflectErrorKind
-  misses i cs = first_missing table s form i (trees_of cs)
+  misses i cs = first_missing table s tracker i (trees_of cs)
 
   abbrev refused : ℕ → List Cell → Option ReflectErrorKind
-  refused i cs = first_invalid means table s form i (trees_of cs)
+  refused i cs = first_invalid means table s tracker i (trees_of cs)
 
   made_step : (i : ℕ) (c : Cell) (cs : List Cell) → AreUnplaced (c ∷ cs)
-      → values i (c ∷ cs) ≡ one_more (valid_child means table s form i (after (takes i) c)) (values (suc i) cs)
+      → values i (c ∷ cs) ≡ one_more (valid_child means table s tracker i (after (takes i) c)) (values (suc i) cs)
   made_step i absent cs closed =
-      ap (λ (v : Option Val). one_more (valid_child means table s form i v) (values (suc i) cs)) (after_absent (takes i))
+      ap (λ (v : Option Val). one_more (valid_child means table s tracker i v) (values (suc i) cs)) (after_absent (takes i))
   made_step i (given w) cs closed =
-      ap (λ (v : Option Val). one_more (valid_child means table s form i v) (values (suc i) cs)) (after_given (takes i) w)
+      ap (λ (v : Option Val). one_more (valid_child means table s tracker i v) (values (suc i) cs)) (after_given (takes i) w)
   made_step i (placed n) cs closed = absurd closed.0
 
   missing_step : (i : ℕ) (c : Cell) (cs : List Cell) → AreUnplaced (c ∷ cs)
-      → misses i (c ∷ cs) ≡ option_or (unless_there (after (takes i) c) (missing_child s form i)) (misses (suc i) cs)
+      → misses i (c ∷ cs) ≡ option_or (unless_there (after (takes i) c) (missing_child s tracker i)) (misses (suc i) cs)
   missing_step i absent cs closed =
-      ap (λ (v : Option Val). option_or (unless_there v (missing_child s form i)) (misses (suc i) cs)) (after_absent (takes i))
+      ap (λ (v : Option Val). option_or (unless_there v (missing_child s tracker i)) (misses (suc i) cs)) (after_absent (takes i))
   missing_step i (given w) cs closed =
-      ap (λ (v : Option Val). option_or (unless_there v (missing_child s form i)) (misses (suc i) cs)) (after_given (takes i) w)
+      ap (λ (v : Option Val). option_or (unless_there v (missing_child s tracker i)) (misses (suc i) cs)) (after_given (takes i) w)
   missing_step i (placed n) cs closed = absurd closed.0
 
   invalid_step : (i : ℕ) (c : Cell) (cs : List Cell) → AreUnplaced (c ∷ cs)
@@ -149,42 +124,42 @@ module _ (means : Meanings) (table : Table) (s : ℕ) (form : Form) where
   -- Children that have values, all valid, make these.
 
   made_whole : (i : ℕ) (cs : List Cell) → AreUnplaced cs → misses i cs ≡ None → refused i cs ≡ None
-      → (values i cs ≡ values_of (defaulted_cells table s form i cs)) × IsSome (values_of (defaulted_cells table s form i cs))
+      → (values i cs ≡ values_of (defaulted_cells table s tracker i cs)) × IsSome (values_of (defaulted_cells table s tracker i cs))
   made_whole i [] closed m r = (refl, refl)
   made_whole i (c ∷ cs) closed m r =
-      let missing_none : (unless_there (after (takes i) c) (missing_child s form i) ≡ None) × (misses (suc i) cs ≡ None)
-      = or_none (unless_there (after (takes i) c) (missing_child s form i)) (misses (suc i) cs) (sym (missing_step i c cs closed) ∙ m) in
+      let missing_none : (unless_there (after (takes i) c) (missing_child s tracker i) ≡ None) × (misses (suc i) cs ≡ None)
+      = or_none (unless_there (after (takes i) c) (missing_child s tracker i)) (misses (suc i) cs) (sym (missing_step i c cs closed) ∙ m) in
       let refused_none : (fails i (after (takes i) c) ≡ None) × (refused (suc i) cs ≡ None)
       = or_none (fails i (after (takes i) c)) (refused (suc i) cs) (sym (invalid_step i c cs closed) ∙ r) in
-      let rest : (values (suc i) cs ≡ values_of (defaulted_cells table s form (suc i) cs))
-      × IsSome (values_of (defaulted_cells table s form (suc i) cs))
+      let rest : (values (suc i) cs ≡ values_of (defaulted_cells table s tracker (suc i) cs))
+      × IsSome (values_of (defaulted_cells table s tracker (suc i) cs))
       = made_whole (suc i) cs closed.1 missing_none.1 refused_none.1 in (
         made_step i c cs closed
             ∙ ap (λ (f : Option ReflectErrorKind). one_more (unless_failing f (after (takes i) c)) (values (suc i) cs)) refused_none.0
             ∙ ap (one_more (after (takes i) c)) rest.0,
-        more_there (after (takes i) c) (values_of (defaulted_cells table s form (suc i) cs))
-            (is_there (after (takes i) c) (missing_child s form i) missing_none.0) rest.1,
+        more_there (after (takes i) c) (values_of (defaulted_cells table s tracker (suc i) cs))
+            (is_there (after (takes i) c) (missing_child s tracker i) missing_none.0) rest.1,
       )
 
   -- And none are made where one is marked, misses or fails.
 
   nothing_here : (i : ℕ) (c : Cell) (cs : List Cell) → AreUnplaced (c ∷ cs)
-      → valid_child means table s form i (after (takes i) c) ≡ None → values i (c ∷ cs) ≡ None
+      → valid_child means table s tracker i (after (takes i) c) ≡ None → values i (c ∷ cs) ≡ None
   nothing_here i c cs closed e =
       made_step i c cs closed ∙ ap (λ (v : Option Val). one_more v (values (suc i) cs)) e
 
   nothing_later : (i : ℕ) (c : Cell) (cs : List Cell) → AreUnplaced (c ∷ cs) → values (suc i) cs ≡ None → values i (c ∷ cs) ≡ None
   nothing_later i c cs closed e =
-      made_step i c cs closed ∙ ap (one_more (valid_child means table s form i (after (takes i) c))) e
-      ∙ after_none (valid_child means table s form i (after (takes i) c))
+      made_step i c cs closed ∙ ap (one_more (valid_child means table s tracker i (after (takes i) c))) e
+      ∙ after_none (valid_child means table s tracker i (after (takes i) c))
 
   missing_makes_none : (i : ℕ) (cs : List Cell) (kind : ReflectErrorKind) → AreUnplaced cs → misses i cs ≡ Some kind → values i cs ≡ None
   missing_makes_none i [] kind closed e = absurd (cc)
   missing_makes_none i (c ∷ cs) kind closed e =
-      either (unless_there (after (takes i) c) (missing_child s form i)) (misses (suc i) cs) kind (values i (c ∷ cs) ≡ None)
+      either (unless_there (after (takes i) c) (missing_child s tracker i)) (misses (suc i) cs) kind (values i (c ∷ cs) ≡ None)
       (sym (missing_step i c cs closed) ∙ e)
       (λ found h.
-      nothing_here i c cs closed (no_value (fails i) (after (takes i) c) (not_there (after (takes i) c) (missing_child s form i) found h)))
+      nothing_here i c cs closed (no_value (fails i) (after (takes i) c) (not_there (after (takes i) c) (missing_child s tracker i) found h)))
       (λ h. nothing_later i c cs closed (missing_makes_none (suc i) cs kind closed.1 h))
 
   invalid_makes_none : (i : ℕ) (cs : List Cell) (kind : ReflectErrorKind) → AreUnplaced cs → refused i cs ≡ Some kind → values i cs ≡ None
@@ -197,13 +172,13 @@ module _ (means : Meanings) (table : Table) (s : ℕ) (form : Form) where
       (λ h. nothing_later i c cs closed (invalid_makes_none (suc i) cs kind closed.1 h))
 
   unmet_makes_none : (i : ℕ) (cs : List Cell) (kind : ReflectErrorKind) → AreUnplaced cs
-      → first_unmet table s form i (trees_of cs) ≡ Some kind → values i cs ≡ None
+      → first_unmet table s tracker i (trees_of cs) ≡ Some kind → values i cs ≡ None
   unmet_makes_none i [] kind closed e = absurd (cc)
   unmet_makes_none i (absent ∷ cs) kind closed e =
-      either (unmet_mark table s form i) (first_unmet table s form (suc i) (trees_of cs)) kind (values i (absent ∷ cs) ≡ None) e
+      either (unmet_mark table s tracker i) (first_unmet table s tracker (suc i) (trees_of cs)) kind (values i (absent ∷ cs) ≡ None) e
       (λ found h.
       nothing_here i absent cs closed
-      (no_value (fails i) (after (takes i) absent) (sym (after_absent (takes i)) ∙ unmet_takes table s form i found h)))
+      (no_value (fails i) (after (takes i) absent) (sym (after_absent (takes i)) ∙ unmet_takes table s tracker i found h)))
       (λ h. nothing_later i absent cs closed (unmet_makes_none (suc i) cs kind closed.1 h))
   unmet_makes_none i (given v ∷ cs) kind closed e =
       nothing_later i (given v) cs closed (unmet_makes_none (suc i) cs kind closed.1 e)
@@ -212,53 +187,52 @@ module _ (means : Meanings) (table : Table) (s : ℕ) (form : Form) where
   -- The same, told of the children that have taken their fills.
 
   absent_step : (i : ℕ) (c : Cell) (cs : List Cell) → AreUnplaced (c ∷ [])
-      → first_absent s form i (c ∷ cs) ≡ option_or (unless_there (value_of_cell c) (missing_child s form i)) (first_absent s form (suc i) cs)
-  absent_step i absent cs closed = refl
-  absent_step i (given v) cs closed = refl
+      → first_absent s tracker i (c ∷ cs) ≡ option_or (unless_there (value_of_cell c) (missing_child s tracker i)) (first_absent s tracker (suc i) cs)
   absent_step i (placed n) cs closed = absurd closed.0
+  absent_step i _ cs closed = refl
 
-  pub absent_is : (i : ℕ) (cs : List Cell) → AreUnplaced cs → first_absent s form i (defaulted_cells table s form i cs) ≡ misses i cs
+  pub absent_is : (i : ℕ) (cs : List Cell) → AreUnplaced cs → first_absent s tracker i (defaulted_cells table s tracker i cs) ≡ misses i cs
   absent_is i [] closed = refl
   absent_is i (c ∷ cs) closed =
-      absent_step i (defaulted_cell (takes i) c) (defaulted_cells table s form (suc i) cs) (cell_closed (takes i) c (closed.0, tt))
-      ∙ ap (option_or (unless_there (after (takes i) c) (missing_child s form i))) (absent_is (suc i) cs closed.1)
+      absent_step i (defaulted_cell (takes i) c) (defaulted_cells table s tracker (suc i) cs) (cell_closed (takes i) c (closed.0, tt))
+      ∙ ap (option_or (unless_there (after (takes i) c) (missing_child s tracker i))) (absent_is (suc i) cs closed.1)
       ∙ sym (missing_step i c cs closed)
 
-  pub invalid_is : (i : ℕ) (cs : List Cell) → AreUnplaced cs → refused i (defaulted_cells table s form i cs) ≡ refused i cs
+  pub invalid_is : (i : ℕ) (cs : List Cell) → AreUnplaced cs → refused i (defaulted_cells table s tracker i cs) ≡ refused i cs
   invalid_is i [] closed = refl
   invalid_is i (c ∷ cs) closed =
-      invalid_step i (defaulted_cell (takes i) c) (defaulted_cells table s form (suc i) cs)
-      ((cell_closed (takes i) c (closed.0, tt)).0, all_closed table s form (suc i) cs closed.1)
-      ∙ ap (λ (v : Option Val). option_or (fails i v) (refused (suc i) (defaulted_cells table s form (suc i) cs))) (after_twice (takes i) c)
+      invalid_step i (defaulted_cell (takes i) c) (defaulted_cells table s tracker (suc i) cs)
+      ((cell_closed (takes i) c (closed.0, tt)).0, all_closed table s tracker (suc i) cs closed.1)
+      ∙ ap (λ (v : Option Val). option_or (fails i v) (refused (suc i) (defaulted_cells table s tracker (suc i) cs))) (after_twice (takes i) c)
       ∙ ap (option_or (fails i (after (takes i) c))) (invalid_is (suc i) cs closed.1)
       ∙ sym (invalid_step i c cs closed)
 
   abbrev lacks : List Cell → Option ReflectErrorKind
-  lacks cs = lack_of_begun means table s form (trees_of cs)
+  lacks cs = lack_of_begun means table s tracker (trees_of cs)
 
   lacks_is : (cs : List Cell) → AreUnplaced cs
       → lacks cs
-      ≡ option_or (first_unmet table s form 0 (trees_of cs))
-      (option_or (first_absent s form 0 (defaulted_cells table s form 0 cs)) (refused 0 (defaulted_cells table s form 0 cs)))
+      ≡ option_or (first_unmet table s tracker 0 (trees_of cs))
+      (option_or (first_absent s tracker 0 (defaulted_cells table s tracker 0 cs)) (refused 0 (defaulted_cells table s tracker 0 cs)))
   lacks_is cs closed =
-      ap (λ (o : Option ReflectErrorKind). option_or (first_unmet table s form 0 (trees_of cs)) (option_or o (refused 0 cs)))
+      ap (λ (o : Option ReflectErrorKind). option_or (first_unmet table s tracker 0 (trees_of cs)) (option_or o (refused 0 cs)))
       (sym (absent_is 0 cs closed))
       ∙ ap
       (λ (o : Option ReflectErrorKind).
-      option_or (first_unmet table s form 0 (trees_of cs)) (option_or (first_absent s form 0 (defaulted_cells table s form 0 cs)) o))
+      option_or (first_unmet table s tracker 0 (trees_of cs)) (option_or (first_absent s tracker 0 (defaulted_cells table s tracker 0 cs)) o))
       (sym (invalid_is 0 cs closed))
 
   lacks_nothing : (cs : List Cell) → AreUnplaced cs → lacks cs ≡ None
-      → (values 0 cs ≡ values_of (defaulted_cells table s form 0 cs)) × IsSome (values_of (defaulted_cells table s form 0 cs))
+      → (values 0 cs ≡ values_of (defaulted_cells table s tracker 0 cs)) × IsSome (values_of (defaulted_cells table s tracker 0 cs))
   lacks_nothing cs closed e =
-      let met : (first_unmet table s form 0 (trees_of cs) ≡ None) × (option_or (misses 0 cs) (refused 0 cs) ≡ None)
-      = or_none (first_unmet table s form 0 (trees_of cs)) (option_or (misses 0 cs) (refused 0 cs)) e in
+      let met : (first_unmet table s tracker 0 (trees_of cs) ≡ None) × (option_or (misses 0 cs) (refused 0 cs) ≡ None)
+      = or_none (first_unmet table s tracker 0 (trees_of cs)) (option_or (misses 0 cs) (refused 0 cs)) e in
       let both : (misses 0 cs ≡ None) × (refused 0 cs ≡ None) = or_none (misses 0 cs) (refused 0 cs) met.1 in
       made_whole 0 cs closed both.0 both.1
 
   lacks_something : (cs : List Cell) (kind : ReflectErrorKind) → AreUnplaced cs → lacks cs ≡ Some kind → values 0 cs ≡ None
   lacks_something cs kind closed e =
-      either (first_unmet table s form 0 (trees_of cs)) (option_or (misses 0 cs) (refused 0 cs)) kind (values 0 cs ≡ None) e
+      either (first_unmet table s tracker 0 (trees_of cs)) (option_or (misses 0 cs) (refused 0 cs)) kind (values 0 cs ≡ None) e
       (λ found h. unmet_makes_none 0 cs found closed h)
       (λ h.
       either (misses 0 cs) (refused 0 cs) kind (values 0 cs ≡ None) h
@@ -272,22 +246,22 @@ module _ (means : Meanings) (table : Table) (s : ℕ) where
   no_fields = replicate (child_count table s) absent
 
   abbrev lack_of_fields : Option ReflectErrorKind
-  lack_of_fields = lack_of_begun means table s as_struct (holes (child_count table s))
+  lack_of_fields = lack_of_begun means table s (as_fields None) (holes (child_count table s))
 
-  fields_lack : lacks means table s as_struct no_fields ≡ lack_of_fields
-  fields_lack = ap (lack_of_begun means table s as_struct) (holes_are (child_count table s))
+  fields_lack : lacks means table s (as_fields None) no_fields ≡ lack_of_fields
+  fields_lack = ap (lack_of_begun means table s (as_fields None)) (holes_are (child_count table s))
 
   by_def_lack : (def : Def) (preset : Option Val)
       → lack_by def preset lack_of_fields (missing_value s)
-      ≡ option_or (unmet_entered def preset (first_unmet table s as_struct 0 (holes (child_count table s))))
+      ≡ option_or (unmet_entered def preset (first_unmet table s (as_fields None) 0 (holes (child_count table s))))
       (option_or (left_out s (defaulted_by def preset (defaulted_struct table s)))
       (invalid means table s (defaulted_by def preset (defaulted_struct table s))))
   by_def_lack (Def.Struct struct) (Some v) = refl
   by_def_lack (Def.Struct struct) None =
-      sym fields_lack ∙ lacks_is means table s as_struct no_fields (none_placed (child_count table s))
+      sym fields_lack ∙ lacks_is means table s (as_fields None) no_fields (none_placed (child_count table s))
       ∙ ap
       (λ (ts : Trees).
-      option_or (first_unmet table s as_struct 0 ts)
+      option_or (first_unmet table s (as_fields None) 0 ts)
       (option_or (left_out s (defaulted_struct table s)) (invalid means table s (defaulted_struct table s))))
       (holes_are (child_count table s))
   by_def_lack (Def.Option t) (Some v) = refl
@@ -301,23 +275,23 @@ module _ (means : Meanings) (table : Table) (s : ℕ) where
       (option_or (left_out s (defaulted table s body)) (invalid means table s (defaulted table s body)))
   own_lack_is entered_body closed = by_def_lack (def_of table s) (preset_of table s)
   own_lack_is (whole_body v) closed = refl
-  own_lack_is (begun_body form cells) closed = lacks_is means table s form cells closed
+  own_lack_is (begun_body tracker cells) closed = lacks_is means table s tracker cells closed
 
   made_up_is : made_of_fills deferred_column means table s
-      ≡ made as_struct (complete_all deferred_column means table s as_struct 0 (trees_of no_fields))
-  made_up_is = ap (made as_struct) (no_children_made means table s deferred_column (child_count table s) 0)
+      ≡ made (as_fields None) (complete_all deferred_column means table s (as_fields None) 0 (trees_of no_fields))
+  made_up_is = ap (made (as_fields None)) (no_children_made means table s deferred_column (child_count table s) 0)
 
   by_def_whole : (def : Def) (preset : Option Val) → lack_by def preset lack_of_fields (missing_value s) ≡ None
       → (made_by def preset (made_of_fills deferred_column means table s) ≡ value_of (defaulted_by def preset (defaulted_struct table s)))
       × IsSome (value_of (defaulted_by def preset (defaulted_struct table s)))
   by_def_whole (Def.Struct struct) (Some v) e = (refl, refl)
   by_def_whole (Def.Struct struct) None e =
-      let so : (complete_all deferred_column means table s as_struct 0 (trees_of no_fields)
-      ≡ values_of (defaulted_cells table s as_struct 0 no_fields))
-      × IsSome (values_of (defaulted_cells table s as_struct 0 no_fields))
-      = lacks_nothing means table s as_struct no_fields (none_placed (child_count table s)) (fields_lack ∙ e) in (
-        made_up_is ∙ ap (made as_struct) so.0,
-        made_there means table s as_struct (values_of (defaulted_cells table s as_struct 0 no_fields)) so.1,
+      let so : (complete_all deferred_column means table s (as_fields None) 0 (trees_of no_fields)
+      ≡ values_of (defaulted_cells table s (as_fields None) 0 no_fields))
+      × IsSome (values_of (defaulted_cells table s (as_fields None) 0 no_fields))
+      = lacks_nothing means table s (as_fields None) no_fields (none_placed (child_count table s)) (fields_lack ∙ e) in (
+        made_up_is ∙ ap (made (as_fields None)) so.0,
+        made_there means table s (as_fields None) (values_of (defaulted_cells table s (as_fields None) 0 no_fields)) so.1,
       )
   by_def_whole (Def.Option t) (Some v) e = (refl, refl)
   by_def_whole (Def.Option t) None e = absurd (cc)
@@ -329,7 +303,7 @@ module _ (means : Meanings) (table : Table) (s : ℕ) where
   by_def_nothing (Def.Struct struct) (Some v) kind e = absurd (cc)
   by_def_nothing (Def.Struct struct) None kind e =
       made_up_is
-      ∙ ap (made as_struct) (lacks_something means table s as_struct no_fields kind (none_placed (child_count table s)) (fields_lack ∙ e))
+      ∙ ap (made (as_fields None)) (lacks_something means table s (as_fields None) no_fields kind (none_placed (child_count table s)) (fields_lack ∙ e))
   by_def_nothing (Def.Option t) (Some v) kind e = absurd (cc)
   by_def_nothing (Def.Option t) None kind e = refl
   by_def_nothing _ preset kind e = refl
@@ -339,15 +313,15 @@ module _ (means : Meanings) (table : Table) (s : ℕ) where
       → (complete deferred_column means table s (own_tree body) ≡ value_of (defaulted table s body)) × IsSome (value_of (defaulted table s body))
   own_whole entered_body full closed e = by_def_whole (def_of table s) (preset_of table s) e
   own_whole (whole_body v) full closed e = (refl, refl)
-  own_whole (begun_body form cells) full closed e =
-      let so : (complete_all deferred_column means table s form 0 (trees_of cells) ≡ values_of (defaulted_cells table s form 0 cells))
-      × IsSome (values_of (defaulted_cells table s form 0 cells))
-      = lacks_nothing means table s form cells closed e in
-      let held : value_of (begun_body form (defaulted_cells table s form 0 cells)) ≡ made form (values_of (defaulted_cells table s form 0 cells))
-      = full_value (def_of table s) form (defaulted_cells table s form 0 cells)
-      (subst (IsFullAs (def_of table s) form) (sym (all_count table s form 0 cells)) full) in (
-        ap (made form) so.0 ∙ sym held,
-        subst IsSome (sym held) (made_there means table s form (values_of (defaulted_cells table s form 0 cells)) so.1),
+  own_whole (begun_body tracker cells) full closed e =
+      let so : (complete_all deferred_column means table s tracker 0 (trees_of cells) ≡ values_of (defaulted_cells table s tracker 0 cells))
+      × IsSome (values_of (defaulted_cells table s tracker 0 cells))
+      = lacks_nothing means table s tracker cells closed e in
+      let held : value_of (begun_body tracker (defaulted_cells table s tracker 0 cells)) ≡ made tracker (values_of (defaulted_cells table s tracker 0 cells))
+      = full_value (def_of table s) tracker (defaulted_cells table s tracker 0 cells)
+      (subst (IsFullAs (def_of table s) tracker) (sym (all_count table s tracker 0 cells)) full) in (
+        ap (made tracker) so.0 ∙ sym held,
+        subst IsSome (sym held) (made_there means table s tracker (values_of (defaulted_cells table s tracker 0 cells)) so.1),
       )
 
   -- and one that lacks something makes nothing
@@ -355,5 +329,5 @@ module _ (means : Meanings) (table : Table) (s : ℕ) where
       → complete deferred_column means table s (own_tree body) ≡ None
   own_nothing entered_body kind closed e = by_def_nothing (def_of table s) (preset_of table s) kind e
   own_nothing (whole_body v) kind closed e = absurd (cc)
-  own_nothing (begun_body form cells) kind closed e =
-      ap (made form) (lacks_something means table s form cells kind closed e) ∙ made_none means table s form
+  own_nothing (begun_body tracker cells) kind closed e =
+      ap (made tracker) (lacks_something means table s tracker cells kind closed e) ∙ made_none means table s tracker

@@ -1,11 +1,6 @@
 -- A place that is changed in its slot.
 use Rattle.std.proofs.Common.{◌≡◌, ◌≢◌, ◌⊎◌, ℕ, zero, suc, ◌+◌, Bool, List, [], ◌∷◌, Option, Some, None, IsSomeAnd, slice_get, set, option_map, inl, inr, refl, sym, ◌∙◌, ap, subst}
-use Rattle.fr_frame.specs.declared.places.Piece.{Piece}
-use Rattle.fr_frame.specs.declared.places.Place.{Place}
-use Rattle.fr_frame.specs.declared.places.Slot.{Slot}
-use Rattle.fr_frame.specs.Bodies.{Body, body_occurs}
-use Rattle.fr_frame.specs.Heap.{Node, body_of, node_of, node_in, heap_of, slots_occur, with_slot, with_body, with_mark}
-use Rattle.fr_frame.specs.Changes.{Shows, IfInUse, Becomes}
+use Rattle.fr_frame.specs.Common.{Becomes, Body, IfInUse, Node, Piece, Place, Shows, Slot, body_occurs, body_of, heap_of, node_in, node_of, slots_occur, with_body, with_mark, with_slot}
 use Rattle.fr_frame.proofs.HeapLaws.{with_here, with_other, number_cases, occur_set, free_there}
 
 set_here : (slots : List Slot) (n : ℕ) (was now : Slot) → slice_get slots n ≡ Some was → heap_of (set slots n now) n ≡ node_in now

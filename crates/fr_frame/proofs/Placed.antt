@@ -3,7 +3,7 @@ use Rattle.std.proofs.Common.{◌≡◌, ℕ, suc, ◌+◌, ◌<◌, Bool, true,
 use Rattle.std.specs.Prelude.{option_map}
 use Rattle.std.proofs.lemmas.List.{take_more, drop_more, append_assoc}
 use Rattle.std.specs.Cmp.{IsEquivalence}
-use Rattle.fr_frame.specs.KeyPlaces.{place, with_key, places_of}
+use Rattle.fr_frame.specs.Common.{place, places_of, with_key}
 
 -- the distinct keys when more have come
 abbrev pub keys_after : {K : Type 0} → (eq : K → K → Bool) → List K → List K → List K

@@ -1,24 +1,12 @@
 -- One slot that is changed where a list's items lie in slots of their own, and what contracts see of that.
-use Rattle.std.proofs.Common.{◌≡◌, ℕ, zero, suc, ◌+◌, ◌-◌, ◌<◌, ◌≤◌, Bool, true, false, List, [], ◌∷◌, length, Option, Some, None, IsSome, is_some, get_or, slice_get, set, option_map, refl, sym, ◌∙◌, ap, ap₂, subst, arith}
-use Rattle.std.specs.Option.{option_and_then}
-use Rattle.std.specs.Prelude.{if◌then◌else◌}
-use Rattle.std.specs.declared.alloc.Global.{Global}
-use Rattle.std.specs.declared.boxed.Box.{Box}
-use Rattle.fr_arena.specs.Ropes.{Rope}
-use Rattle.fr_shape.specs.Val.{Val}
-use Rattle.fr_model.specs.Tree.{Form as TreeForm}
-use Rattle.fr_frame.specs.declared.places.Form.{Form}
-use Rattle.fr_frame.specs.declared.places.Piece.{Piece}
-use Rattle.fr_frame.specs.declared.places.Place.{Place}
-use Rattle.fr_frame.specs.declared.places.Slot.{Slot}
-use Rattle.fr_frame.specs.declared.places.SlotId.{SlotId}
-use Rattle.fr_frame.specs.Bodies.{Body, entered_body, whole_body, begun_body, body_occurs, cell_at, count_cells, reformed}
-use Rattle.fr_frame.specs.Cells.{Cell, slot_of_cell}
-use Rattle.fr_frame.specs.Changes.{IsInUse, SameTokens, Shows}
-use Rattle.fr_frame.specs.Heap.{Node, as_form, body_of, child_slot, heap_of, node_in, slots_occur, with_body, with_mark}
-use Rattle.fr_frame.specs.Items.{Held, children_with, is_used, item_cell, item_or, items_of, keeps_items, piece_with, place_with, slot_seen, slots_seen, value_held, with_items}
-use Rattle.fr_frame.specs.Outlines.{has_items, is_list_body}
-use Rattle.fr_frame.specs.RawSlots.{body_with, with_stored, IsReformed}
+use Rattle.std.proofs.Common.{◌≡◌, ℕ, zero, suc, ◌+◌, ◌-◌, ◌<◌, ◌≤◌, Bool, true, false, List, [], ◌∷◌, length, Option, Some, None, IsSome, is_some, get_or, slice_get, set, option_map, refl, sym, ◌∙◌, ap, ap₂, subst, arith, if◌then◌else◌}
+use Rattle.fr_frame.specs.Common.{Body, Box, Cell, Global, Held, IsInUse, Node, Piece, Place, Rope, SameTokens, Shows, Slot, SlotId, Val, as_tracker, begun_body, body_occurs, body_of, body_with, cell_at, children_with, count_cells, entered_body, heap_of, is_list_body, is_used, item_cell, item_or, items_of, keeps_items, node_in, option_and_then, piece_with, place_with, reformed, slot_of_cell, slot_seen, slots_occur, slots_seen, value_held, whole_body, with_body, with_items, with_mark}
+use Rattle.fr_model.specs.Trackers.{Tracker as TreeTracker}
+use Rattle.fr_frame.specs.declared.places.ItemsKind.{ItemsKind}
+use Rattle.fr_frame.specs.declared.places.Tracker.{Tracker}
+use Rattle.fr_frame.specs.Heap.{child_slot}
+use Rattle.fr_frame.specs.Outlines.{has_items}
+use Rattle.fr_frame.specs.RawSlots.{with_stored, IsReformed}
 use Rattle.fr_frame.proofs.HeapLaws.{inside, occur_set, past_end}
 use Rattle.fr_frame.proofs.PlaceLaws.{marks, occur_change, set_as_was, shows}
 use Rattle.fr_frame.proofs.SeenLaws.{seen_get, seen_length, seen_set}
@@ -26,40 +14,29 @@ use Rattle.fr_frame.proofs.SlotLaws.{read}
 
 -- What was put at a place.
 
-pub keeps_same : (form : Form) → keeps_items form ≡ has_items (as_form form)
-keeps_same Form.Struct = refl
-keeps_same Form.Array = refl
-keeps_same (Form.Variant k) = refl
-keeps_same Form.Some = refl
-keeps_same Form.Ok = refl
-keeps_same Form.Err = refl
-keeps_same Form.Pointer = refl
-keeps_same Form.List = refl
-keeps_same Form.Slice = refl
-keeps_same Form.ClosedSlice = refl
-keeps_same Form.Set = refl
-keeps_same (Form.Map base) = refl
-keeps_same Form.DynArray = refl
+pub keeps_same : (tracker : Tracker) → keeps_items tracker ≡ has_items (as_tracker tracker)
+keeps_same (Tracker.Items ItemsKind.List) = refl
+keeps_same (Tracker.Items ItemsKind.Slice) = refl
+keeps_same (Tracker.Items ItemsKind.ClosedSlice) = refl
+keeps_same (Tracker.Items ItemsKind.Set) = refl
+keeps_same (Tracker.Items ItemsKind.Array) = refl
+keeps_same _ = refl
 
 pub body_of_with : (held : Held) (n : ℕ) (items : List SlotId) (piece : Piece)
     → body_of (piece_with held n items piece) ≡ body_with held n items (body_of piece)
-body_of_with held n items Piece.Entered = refl
-body_of_with held n items (Piece.Whole v) = refl
-body_of_with held n items (Piece.Begun form children) =
-    ap (λ (kept : Bool). begun_body (as_form form) (if kept then children_with held n children items else children)) (keeps_same form)
-body_of_with held n items (Piece.Object keys children) = refl
+body_of_with held n items (Piece.Begun tracker children) =
+    ap (λ (kept : Bool). begun_body (as_tracker tracker) (if kept then children_with held n children items else children)) (keeps_same tracker)
+body_of_with held n items _ = refl
 
-reformed_with : (held : Held) (n : ℕ) (items : List SlotId) (form : TreeForm) (body : Body) → has_items form ≡ true
-    → is_list_body body ≡ true → body_with held n items (reformed form body) ≡ reformed form (body_with held n items body)
-reformed_with held n items form entered_body kept list = refl
-reformed_with held n items form (whole_body v) kept list = refl
-reformed_with held n items form (begun_body before cells) kept list =
-    ap (λ (has : Bool). begun_body form (if has then children_with held n cells items else cells)) (kept ∙ sym list)
+reformed_with : (held : Held) (n : ℕ) (items : List SlotId) (tracker : TreeTracker) (body : Body) → has_items tracker ≡ true
+    → is_list_body body ≡ true → body_with held n items (reformed tracker body) ≡ reformed tracker (body_with held n items body)
+reformed_with held n items tracker (begun_body before cells) kept list =
+    ap (λ (has : Bool). begun_body tracker (if has then children_with held n cells items else cells)) (kept ∙ sym list)
+reformed_with held n items tracker _ kept list = refl
 
-reformed_occurs : (form : TreeForm) (body : Body) (t : ℕ) → body_occurs (reformed form body) t ≡ body_occurs body t
-reformed_occurs form entered_body t = refl
-reformed_occurs form (whole_body v) t = refl
-reformed_occurs form (begun_body before cells) t = refl
+reformed_occurs : (tracker : TreeTracker) (body : Body) (t : ℕ) → body_occurs (reformed tracker body) t ≡ body_occurs body t
+reformed_occurs tracker entered_body t = refl
+reformed_occurs tracker _ t = refl
 
 -- Children.
 
@@ -110,12 +87,12 @@ module _ (held : Held) (n : ℕ) (items : List SlotId) (body : Body) (k : ℕ) w
       go : (b : Body) → is_list_body b ≡ false → cell_at (body_with held n items b) k ≡ cell_at b k
       go entered_body plain = refl
       go (whole_body v) plain = refl
-      go (begun_body form cells) plain =
+      go (begun_body tracker cells) plain =
           ap (λ (has : Bool). slice_get (if has then children_with held n cells items else cells) k) plain
 
-  either : (form : TreeForm) (cells : List Cell) → slice_get (children_with held n cells items) k ≡ slice_get cells k
-      → slice_get (if has_items form then children_with held n cells items else cells) k ≡ slice_get cells k
-  either form cells same = go (has_items form)
+  either : (tracker : TreeTracker) (cells : List Cell) → slice_get (children_with held n cells items) k ≡ slice_get cells k
+      → slice_get (if has_items tracker then children_with held n cells items else cells) k ≡ slice_get cells k
+  either tracker cells same = go (has_items tracker)
     where
       go : (has : Bool) → slice_get (if has then children_with held n cells items else cells) k ≡ slice_get cells k
       go true = same
@@ -127,23 +104,22 @@ module _ (held : Held) (n : ℕ) (items : List SlotId) (body : Body) (k : ℕ) w
       go : (b : Body) → k < count_cells b - length items → cell_at (body_with held n items b) k ≡ cell_at b k
       go entered_body h = refl
       go (whole_body v) h = refl
-      go (begun_body form cells) h = either form cells (below held n 0 (length cells - length items) cells items k h)
+      go (begun_body tracker cells) h = either tracker cells (below held n 0 (length cells - length items) cells items k h)
 
   pub cell_past : count_cells body ≤ k → cell_at (body_with held n items body) k ≡ None
   cell_past = go body
     where
-      both : (form : TreeForm) (cells : List Cell) → length cells ≤ k
-          → slice_get (if has_items form then children_with held n cells items else cells) k ≡ None
-      both form cells h = by (has_items form)
+      both : (tracker : TreeTracker) (cells : List Cell) → length cells ≤ k
+          → slice_get (if has_items tracker then children_with held n cells items else cells) k ≡ None
+      both tracker cells h = by (has_items tracker)
         where
           by : (has : Bool) → slice_get (if has then children_with held n cells items else cells) k ≡ None
           by true = behind held n 0 (length cells - length items) cells items k h
           by false = past cells k h
 
       go : (b : Body) → count_cells b ≤ k → cell_at (body_with held n items b) k ≡ None
-      go entered_body h = refl
-      go (whole_body v) h = refl
-      go (begun_body form cells) h = both form cells h
+      go (begun_body tracker cells) h = both tracker cells h
+      go _ h = refl
 
   pub cell_item : (slot : SlotId) → is_list_body body ≡ true → count_cells body - length items ≤ k → k < count_cells body
       → slice_get items (k - (count_cells body - length items)) ≡ Some slot
@@ -155,7 +131,7 @@ module _ (held : Held) (n : ℕ) (items : List SlotId) (body : Body) (k : ℕ) w
           → cell_at (body_with held n items b) k ≡ Some (item_cell held n k slot)
       go entered_body list from to e = cc
       go (whole_body v) list from to e = cc
-      go (begun_body form cells) list from to e =
+      go (begun_body tracker cells) list from to e =
           ap (λ (has : Bool). slice_get (if has then children_with held n cells items else cells) k) list
           ∙ among held n 0 (length cells - length items) cells items (k - (length cells - length items)) k k slot (omega arith) to
           (omega arith) e
@@ -186,9 +162,6 @@ module _ (raw : List Slot) (n : ℕ) (stored : Bool) where
   mark_seen : (slot : Slot) → slice_get raw n ≡ Some slot → is_used slot ≡ true
       → Shows (slots_seen (set raw n (with_stored stored slot))) (with_mark (heap_of (slots_seen raw)) n stored)
       × SameTokens (slots_seen raw) (slots_seen (set raw n (with_stored stored slot)))
-  mark_seen (Slot.Free next) there used = cc
-  mark_seen Slot.Reserved there used = cc
-  mark_seen (Slot.Item item) there used = cc
   mark_seen (Slot.Used place) there used =
       by_mark (Slot.Used place) place (seen_there raw n (Slot.Used place) there)
       (seen_set raw n (Slot.Used place) (Slot.Used (record place { stored = stored })) there refl refl)
@@ -196,10 +169,11 @@ module _ (raw : List Slot) (n : ℕ) (stored : Bool) where
       by_mark (Slot.List place items) (place_with (items_of raw) n place items.value.items)
       (seen_there raw n (Slot.List place items) there)
       (seen_set raw n (Slot.List place items) (Slot.List (record place { stored = stored }) items) there refl refl)
+  mark_seen _ there used = cc
 
 -- a list whose form keeps items gets another form that keeps them
-module _ (raw : List Slot) (n : ℕ) (form : Form) (was now : Slot) (there : slice_get raw n ≡ Some was)
-    (made : IsReformed form was now) where
+module _ (raw : List Slot) (n : ℕ) (tracker : Tracker) (was now : Slot) (there : slice_get raw n ≡ Some was)
+    (made : IsReformed tracker was now) where
   abbrev before : Place
   before = place_with (items_of raw) n made.place made.items.value.items
 
@@ -215,22 +189,22 @@ module _ (raw : List Slot) (n : ℕ) (form : Form) (was now : Slot) (there : sli
       ∙ seen_set raw n (Slot.List made.place made.items) (Slot.List (record made.place { piece = made.piece }) made.items)
       (there ∙ ap (λ (slot : Slot). Some slot) made.was) refl refl
 
-  body_is : body_of piece ≡ reformed (as_form form) (body_of before.piece)
+  body_is : body_of piece ≡ reformed (as_tracker tracker) (body_of before.piece)
   body_is =
       body_of_with (items_of raw) n made.items.value.items made.piece
       ∙ ap (body_with (items_of raw) n made.items.value.items) made.body
-      ∙ reformed_with (items_of raw) n made.items.value.items (as_form form) (body_of made.place.piece) (sym (keeps_same form) ∙ made.keeps) made.list
-      ∙ ap (reformed (as_form form)) (sym (body_of_with (items_of raw) n made.items.value.items made.place.piece))
+      ∙ reformed_with (items_of raw) n made.items.value.items (as_tracker tracker) (body_of made.place.piece) (sym (keeps_same tracker) ∙ made.keeps) made.list
+      ∙ ap (reformed (as_tracker tracker)) (sym (body_of_with (items_of raw) n made.items.value.items made.place.piece))
 
-  reform_seen : Shows (slots_seen (set raw n now)) (with_body (heap_of (slots_seen raw)) n (reformed (as_form form)))
+  reform_seen : Shows (slots_seen (set raw n now)) (with_body (heap_of (slots_seen raw)) n (reformed (as_tracker tracker)))
   reform_seen m =
       ap (λ (slots : List Slot). heap_of slots m) seen_now
-      ∙ shows (slots_seen raw) n before was_there piece (reformed (as_form form)) body_is m
+      ∙ shows (slots_seen raw) n before was_there piece (reformed (as_tracker tracker)) body_is m
 
   reform_tokens : SameTokens (slots_seen raw) (slots_seen (set raw n now))
   reform_tokens t =
       let same : body_occurs (body_of piece) t ≡ body_occurs (body_of before.piece) t
-      = ap (λ (b : Body). body_occurs b t) body_is ∙ reformed_occurs (as_form form) (body_of before.piece) t in
+      = ap (λ (b : Body). body_occurs b t) body_is ∙ reformed_occurs (as_tracker tracker) (body_of before.piece) t in
       let changed : slots_occur (set (slots_seen raw) n (Slot.Used (record before { piece = piece }))) t ≡ slots_occur (slots_seen raw) t
       = omega (arith, occur_change (slots_seen raw) n before was_there piece t, same) in
       ap (λ (slots : List Slot). slots_occur slots t) seen_now ∙ changed
@@ -254,11 +228,9 @@ used_there raw seen n slot same there used =
 
     go : (s : Slot) → heap_of (slots_seen raw) n ≡ node_in (slot_seen (items_of raw) n s) → IsInUse (slots_seen raw) n
         → is_used s ≡ true
-    go (Slot.Free next) e some = absurd (absent (heap_of (slots_seen raw) n) e some)
-    go Slot.Reserved e some = absurd (absent (heap_of (slots_seen raw) n) e some)
-    go (Slot.Item item) e some = absurd (absent (heap_of (slots_seen raw) n) e some)
     go (Slot.Used place) e some = refl
     go (Slot.List place items) e some = refl
+    go _ e some = absurd (absent (heap_of (slots_seen raw) n) e some)
 
 -- The slot of a child.
 
@@ -337,15 +309,15 @@ module _ (raw seen : List Slot) (is : slots_seen raw ≡ seen) (n at : ℕ) (slo
         ∙ (mark_seen raw n stored slot slot_there slot_used).1 t
         ∙ ap (λ (slots : List Slot). slots_occur slots t) is
 
-  module _ (form : Form) (made : IsReformed form slot now) where
-    pub reform_shows : Shows (slots_seen (set raw at now)) (with_body (heap_of seen) n (reformed (as_form form)))
+  module _ (tracker : Tracker) (made : IsReformed tracker slot now) where
+    pub reform_shows : Shows (slots_seen (set raw at now)) (with_body (heap_of seen) n (reformed (as_tracker tracker)))
     reform_shows m =
         ap (λ (k : ℕ). heap_of (slots_seen (set raw k now)) m) number
-        ∙ reform_seen raw n form slot now slot_there made m
-        ∙ ap (λ (slots : List Slot). with_body (heap_of slots) n (reformed (as_form form)) m) is
+        ∙ reform_seen raw n tracker slot now slot_there made m
+        ∙ ap (λ (slots : List Slot). with_body (heap_of slots) n (reformed (as_tracker tracker)) m) is
 
     pub reform_same : SameTokens seen (slots_seen (set raw at now))
     reform_same t =
         ap (λ (k : ℕ). slots_occur (slots_seen (set raw k now)) t) number
-        ∙ reform_tokens raw n form slot now slot_there made t
+        ∙ reform_tokens raw n tracker slot now slot_there made t
         ∙ ap (λ (slots : List Slot). slots_occur slots t) is

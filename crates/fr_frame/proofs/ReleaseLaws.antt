@@ -2,11 +2,7 @@
 use Rattle.std.proofs.Common.{◌≡◌, ◌≢◌, ◌⊎◌, ℕ, suc, ◌+◌, ◌<◌, ◌≤◌, List, [], ◌∷◌, length, None, inl, inr, refl, ◌∙◌, ap, arith}
 use Rattle.std.proofs.lemmas.Bool.{cases_lt}
 use Rattle.std.specs.Prelude.{slice_index}
-use Rattle.fr_shape.specs.Released.{Room, RoseBy}
-use Rattle.fr_shape.specs.TokenLaws.{both, Room_fewer, Room_same, Room_risen}
-use Rattle.fr_frame.specs.declared.places.Slot.{Slot}
-use Rattle.fr_frame.specs.Changes.{Shows}
-use Rattle.fr_frame.specs.Heap.{heap_of, slot_occurs, slots_occur, with_slot}
+use Rattle.fr_frame.specs.Common.{Room, Room_fewer, Room_risen, Room_same, RoseBy, Shows, Slot, both, heap_of, slot_occurs, slots_occur, with_slot}
 use Rattle.fr_frame.proofs.HeapLaws.{free_holds, number_cases, past_end, with_here, with_other}
 
 -- of so many slots no place is in the first n, nor in any behind the last

@@ -1,8 +1,6 @@
 -- Slots that are kept for a place stay so where another changes.
 use Rattle.std.proofs.Common.{◌≡◌, ℕ, zero, suc, List, [], ◌∷◌, Some, slice_get, set}
-use Rattle.fr_frame.specs.declared.places.Place.{Place}
-use Rattle.fr_frame.specs.declared.places.Slot.{Slot}
-use Rattle.fr_frame.specs.Items.{KeepsReserved}
+use Rattle.fr_frame.specs.Common.{KeepsReserved, Place, Slot}
 
 pub keeps_reserved : (slots : List Slot) (n : ℕ) (was : Place) (now : Slot) → slice_get slots n ≡ Some (Slot.Used was)
     → KeepsReserved slots (set slots n now)

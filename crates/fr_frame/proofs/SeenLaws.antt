@@ -1,12 +1,7 @@
 -- Slots as contracts see them: what one change of a slot does to that.
 use Rattle.std.proofs.Common.{◌≡◌, ℕ, zero, suc, ◌+◌, ◌-◌, List, [], ◌∷◌, ◌++◌, length, Option, Some, None, slice_get, set, option_map, if◌then◌else◌, refl, sym, ◌∙◌, ap, ap₂, add-zero, zero-add, arith}
-use Rattle.std.specs.Option.{option_and_then}
-use Rattle.fr_frame.specs.declared.places.Piece.{Piece}
-use Rattle.fr_frame.specs.declared.places.Slot.{Slot}
-use Rattle.fr_frame.specs.declared.places.SlotId.{SlotId}
-use Rattle.fr_frame.specs.Cells.{Cell}
-use Rattle.fr_frame.specs.Heap.{heap_of, node_in}
-use Rattle.fr_frame.specs.Items.{Held, item_in, item_or, items_of, keeps_items, piece_with, seen_from, slot_seen, slots_seen, value_held, with_items}
+use Rattle.fr_frame.specs.Common.{Cell, Held, Piece, Slot, SlotId, heap_of, item_in, item_or, items_of, keeps_items, node_in, option_and_then, piece_with, slot_seen, slots_seen, value_held, with_items}
+use Rattle.fr_frame.specs.Items.{seen_from}
 
 -- what two hold of the items of the list in slot n is the same
 abbrev pub HoldSame : (a b : Held) → (n : ℕ) → Type 0
@@ -22,20 +17,15 @@ cells_same a b n same i zero (c ∷ cells) (slot ∷ items) =
 
 piece_same : (a b : Held) (n : ℕ) (items : List SlotId) (piece : Piece) → HoldSame a b n
     → piece_with a n items piece ≡ piece_with b n items piece
-piece_same a b n items Piece.Entered same = refl
-piece_same a b n items (Piece.Whole v) same = refl
-piece_same a b n items (Piece.Begun form children) same =
-    ap (λ (l : List Cell). Piece.Begun form (if keeps_items form then l else children))
+piece_same a b n items (Piece.Begun tracker children) same =
+    ap (λ (l : List Cell). Piece.Begun tracker (if keeps_items tracker then l else children))
     (cells_same a b n same 0 (length children - length items) children items)
-piece_same a b n items (Piece.Object keys children) same = refl
+piece_same a b n items _ same = refl
 
 pub slot_seen_same : (a b : Held) (n : ℕ) (slot : Slot) → HoldSame a b n → slot_seen a n slot ≡ slot_seen b n slot
-slot_seen_same a b n (Slot.Free next) same = refl
-slot_seen_same a b n Slot.Reserved same = refl
-slot_seen_same a b n (Slot.Used place) same = refl
 slot_seen_same a b n (Slot.List place items) same =
     ap (λ (piece : Piece). Slot.Used (record place { piece = piece })) (piece_same a b n items.value.items place.piece same)
-slot_seen_same a b n (Slot.Item item) same = refl
+slot_seen_same a b n _ same = refl
 
 -- From a slot on.
 

@@ -1,21 +1,9 @@
 -- What slots' own functions rely on, of single slots as contracts see them.
 use Rattle.std.proofs.Common.{◌≡◌, ◌≢◌, ◌⊎◌, ℕ, zero, suc, ◌+◌, ◌-◌, ◌<◌, ◌≤◌, true, List, [], ◌∷◌, ◌++◌, length, Option, Some, None, IsSomeAnd, is_some, replicate, get_or, slice_get, set, option_map, if◌then◌else◌, inl, inr, refl, sym, ◌∙◌, ap, ap₂, subst, arith}
-use Rattle.std.specs.Option.{option_and_then}
-use Rattle.std.specs.declared.alloc.Global.{Global}
-use Rattle.std.specs.declared.boxed.Box.{Box}
-use Rattle.fr_arena.specs.Ropes.{Rope}
-use Rattle.fr_frame.specs.declared.places.Form.{Form}
-use Rattle.fr_frame.specs.declared.places.Item.{Item}
-use Rattle.fr_frame.specs.declared.places.Piece.{Piece}
-use Rattle.fr_frame.specs.declared.places.Place.{Place}
-use Rattle.fr_frame.specs.declared.places.Slot.{Slot}
-use Rattle.fr_frame.specs.declared.places.SlotId.{SlotId}
-use Rattle.fr_frame.specs.Bodies.{begun_body, body_occurs}
-use Rattle.fr_frame.specs.Cells.{Cell, absent}
-use Rattle.fr_frame.specs.Changes.{IsInUse, Shows}
-use Rattle.fr_frame.specs.Heap.{Node, as_form, body_of, heap_of, node_in, node_of, slot_occurs, slots_occur, with_slot}
-use Rattle.fr_frame.specs.Items.{Held, IsPlain, IsPlainAt, IsReserved, IsUsedAt, is_used, item_in, items_of, keeps_items, piece_with, place_with, slot_seen, slots_seen, with_items}
-use Rattle.fr_frame.specs.Outlines.{outline, outlined}
+use Rattle.fr_frame.specs.Common.{Box, Cell, Global, Held, IsInUse, IsPlain, IsPlainAt, IsReserved, IsUsedAt, Item, Node, Piece, Place, Rope, Shows, Slot, SlotId, absent, as_tracker, begun_body, body_occurs, body_of, heap_of, is_used, item_in, items_of, keeps_items, node_in, node_of, option_and_then, outlined, piece_with, place_with, slot_occurs, slot_seen, slots_occur, slots_seen, with_items, with_slot}
+use Rattle.fr_frame.specs.declared.places.ItemsKind.{ItemsKind}
+use Rattle.fr_frame.specs.declared.places.Tracker.{Tracker}
+use Rattle.fr_frame.specs.Outlines.{outline}
 use Rattle.fr_frame.proofs.HeapLaws.{got, heap_append, number_cases, occur_append, occur_set, past_end, with_here, with_other}
 use Rattle.fr_frame.proofs.PlaceLaws.{shows_set}
 use Rattle.fr_frame.proofs.SeenLaws.{heap_seen, seen_append, seen_get, seen_length, seen_set}
@@ -29,30 +17,21 @@ cells_long held n i (suc before) (c ∷ cells) items = ap (λ (k : ℕ). suc k) 
 cells_long held n i zero (c ∷ cells) [] = refl
 cells_long held n i zero (c ∷ cells) (slot ∷ items) = ap (λ (k : ℕ). suc k) (cells_long held n (suc i) zero cells items)
 
-begun_same : (form : Form) (cells now : List Cell) → length now ≡ length cells
-    → outline (body_of (Piece.Begun form (if keeps_items form then now else cells))) ≡ outline (body_of (Piece.Begun form cells))
-begun_same Form.List cells now long = ap (λ (k : ℕ). begun_body (as_form Form.List) (replicate k absent)) long
-begun_same Form.Slice cells now long = ap (λ (k : ℕ). begun_body (as_form Form.Slice) (replicate k absent)) long
-begun_same Form.ClosedSlice cells now long = ap (λ (k : ℕ). begun_body (as_form Form.ClosedSlice) (replicate k absent)) long
-begun_same Form.Struct cells now long = refl
-begun_same Form.Array cells now long = refl
-begun_same (Form.Variant k) cells now long = refl
-begun_same Form.Some cells now long = refl
-begun_same Form.Ok cells now long = refl
-begun_same Form.Err cells now long = refl
-begun_same Form.Pointer cells now long = refl
-begun_same Form.Set cells now long = refl
-begun_same (Form.Map base) cells now long = refl
-begun_same Form.DynArray cells now long = refl
+begun_same : (tracker : Tracker) (cells now : List Cell) → length now ≡ length cells
+    → outline (body_of (Piece.Begun tracker (if keeps_items tracker then now else cells))) ≡ outline (body_of (Piece.Begun tracker cells))
+begun_same (Tracker.Items ItemsKind.List) cells now long = ap (λ (k : ℕ). begun_body (as_tracker (Tracker.Items ItemsKind.List)) (replicate k absent)) long
+begun_same (Tracker.Items ItemsKind.Slice) cells now long = ap (λ (k : ℕ). begun_body (as_tracker (Tracker.Items ItemsKind.Slice)) (replicate k absent)) long
+begun_same (Tracker.Items ItemsKind.ClosedSlice) cells now long = ap (λ (k : ℕ). begun_body (as_tracker (Tracker.Items ItemsKind.ClosedSlice)) (replicate k absent)) long
+begun_same (Tracker.Items ItemsKind.Set) cells now long = refl
+begun_same (Tracker.Items ItemsKind.Array) cells now long = refl
+begun_same _ cells now long = refl
 
 piece_outline : (held : Held) (n : ℕ) (items : List SlotId) (piece : Piece)
     → outline (body_of (piece_with held n items piece)) ≡ outline (body_of piece)
-piece_outline held n items Piece.Entered = refl
-piece_outline held n items (Piece.Whole v) = refl
-piece_outline held n items (Piece.Begun form children) =
-    begun_same form children (with_items held n 0 (length children - length items) children items)
+piece_outline held n items (Piece.Begun tracker children) =
+    begun_same tracker children (with_items held n 0 (length children - length items) children items)
     (cells_long held n 0 (length children - length items) children items)
-piece_outline held n items (Piece.Object keys children) = refl
+piece_outline held n items _ = refl
 
 pub place_outline : (held : Held) (n : ℕ) (place : Place) (items : List SlotId)
     → outlined (node_of place) ≡ outlined (node_of (place_with held n place items))
@@ -115,11 +94,8 @@ plain_slot raw n slot h e =
     subst (λ (found : Option Slot). IsSomeAnd found IsPlain) (got raw n slot (plain_inside raw n h) e) h
 
 pub plain_used : (slot : Slot) → IsPlain slot → (place : Place) × (slot ≡ Slot.Used place)
-plain_used (Slot.Free next) h = absurd h
-plain_used Slot.Reserved h = absurd h
 plain_used (Slot.Used place) h = (place, refl)
-plain_used (Slot.List place items) h = absurd h
-plain_used (Slot.Item item) h = absurd h
+plain_used _ h = absurd h
 
 -- what is read at an index lies there
 pub read : (raw : List Slot) (n at : ℕ) (slot : Slot) → at ≡ n → n < length raw → slot ≡ get_or raw at slot → slice_get raw n ≡ Some slot

@@ -1,15 +1,7 @@
 -- Places that stay as they are: one that is begun again, and a list, of whose items no validator is told.
 use Rattle.std.proofs.Common.{◌≡◌, ◌≢◌, ◌⊎◌, ℕ, true, List, Option, Some, None, IsSomeAnd, option_map, inl, inr, refl, sym, ◌∙◌, ap}
-use Rattle.fr_shape.specs.Hooks.{Meanings}
-use Rattle.fr_shape.specs.Look.{Table}
-use Rattle.fr_model.specs.Tree.{Form, as_struct, as_array, as_variant, as_some, as_ok, as_err, as_pointer, as_list, as_slice, as_closed_slice, as_set, as_map, as_dyn_array, as_dyn_object}
-use Rattle.fr_frame.specs.declared.places.Parts.{Parts}
-use Rattle.fr_frame.specs.declared.places.Slot.{Slot}
-use Rattle.fr_frame.specs.Bodies.{Body, entered_body, whole_body, begun_body, opened}
-use Rattle.fr_frame.specs.Changes.{IfInUse, Shows}
-use Rattle.fr_frame.specs.Defaults.{invalid}
-use Rattle.fr_frame.specs.Heap.{Node, Heap, heap_of, parts_in, with_body}
-use Rattle.fr_frame.specs.Outlines.{has_items, is_begun_body, is_list_body}
+use Rattle.fr_frame.specs.Common.{Body, ContentKind, EntriesKind, Heap, IfInUse, ItemsKind, Meanings, Node, Shows, Slot, Table, Tracker, as_content, as_elements, as_entries, as_fields, as_items, begun_body, entered_body, fields_of_tracker, heap_of, invalid, is_begun_body, is_list_body, opened, whole_body, with_body}
+use Rattle.fr_frame.specs.Outlines.{has_items}
 use Rattle.fr_frame.proofs.HeapLaws.{Alike, number_cases, with_here, with_other}
 use Rattle.fr_frame.proofs.ValidLaws.{others_valid}
 
@@ -29,42 +21,30 @@ with_body_same heap n at change here same m = go (number_cases m n)
         ∙ ap (with_body heap n change) (sym e)
     go (inr ne) = sym (with_other heap n (option_map (λ (x : Node). record x { body = change x.body }) (heap n)) m ne)
 
-opened_begun : (form : Form) (count : ℕ) (body : Body) → is_begun_body body ≡ true → opened form count body ≡ body
-opened_begun form count entered_body begun = cc
-opened_begun form count (whole_body v) begun = cc
-opened_begun form count (begun_body before cells) begun = refl
+opened_begun : (tracker : Tracker) (count : ℕ) (body : Body) → is_begun_body body ≡ true → opened tracker count body ≡ body
+opened_begun tracker count (begun_body before cells) begun = refl
+opened_begun tracker count _ begun = cc
 
 -- a place that is begun already stays so
-pub begun_before : (slots : List Slot) (n : ℕ) (form : Form) (count : ℕ)
+pub begun_before : (slots : List Slot) (n : ℕ) (tracker : Tracker) (count : ℕ)
     → IfInUse slots n (λ (at : Node). is_begun_body at.body ≡ true)
-    → Shows slots (with_body (heap_of slots) n (opened form count))
-begun_before slots n form count begun = go (heap_of slots n) refl begun
+    → Shows slots (with_body (heap_of slots) n (opened tracker count))
+begun_before slots n tracker count begun = go (heap_of slots n) refl begun
   where
     go : (found : Option Node) → heap_of slots n ≡ found → IsSomeAnd found (λ (at : Node). is_begun_body at.body ≡ true)
-        → Shows slots (with_body (heap_of slots) n (opened form count))
+        → Shows slots (with_body (heap_of slots) n (opened tracker count))
     go None e begun = absurd begun
     go (Some at) e begun =
-        with_body_same (heap_of slots) n at (opened form count) e (opened_begun form count at.body begun)
+        with_body_same (heap_of slots) n at (opened tracker count) e (opened_begun tracker count at.body begun)
 
-parts_of_items : (form : Form) → has_items form ≡ true → parts_in form ≡ Parts.Others
-parts_of_items as_list items = refl
-parts_of_items as_slice items = refl
-parts_of_items as_closed_slice items = refl
-parts_of_items as_struct items = cc
-parts_of_items as_array items = cc
-parts_of_items (as_variant k) items = cc
-parts_of_items as_some items = cc
-parts_of_items as_ok items = cc
-parts_of_items as_err items = cc
-parts_of_items as_pointer items = cc
-parts_of_items as_set items = cc
-parts_of_items (as_map base) items = cc
-parts_of_items as_dyn_array items = cc
-parts_of_items (as_dyn_object keys) items = cc
+parts_of_items : (tracker : Tracker) → has_items tracker ≡ true → fields_of_tracker tracker ≡ None
+parts_of_items (as_items ItemsKind.List) items = refl
+parts_of_items (as_items ItemsKind.Slice) items = refl
+parts_of_items (as_items ItemsKind.ClosedSlice) items = refl
+parts_of_items _ items = cc
 
 -- the items of a list have no validators
 pub list_valid : (means : Meanings) (table : Table) (s : ℕ) (body : Body) → is_list_body body ≡ true
     → invalid means table s body ≡ None
-list_valid means table s entered_body list = refl
-list_valid means table s (whole_body v) list = refl
-list_valid means table s (begun_body form cells) list = others_valid means table s form (parts_of_items form list) 0 cells
+list_valid means table s (begun_body tracker cells) list = others_valid means table s tracker (parts_of_items tracker list) 0 cells
+list_valid means table s _ list = refl

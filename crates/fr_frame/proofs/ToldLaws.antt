@@ -1,34 +1,21 @@
 -- What a plan of a checked table says of the fields of a struct, and of a variant.
-use Rattle.std.proofs.Common.{◌≡◌, ℕ, zero, suc, ◌+◌, ◌<◌, ◌≤◌, Bool, true, false, List, [], ◌∷◌, length, take, drop, Option, Some, None, IsSomeAnd, slice_get, refl, sym, ◌∙◌, ap, subst, arith}
+use Rattle.std.proofs.Common.{◌≡◌, ℕ, zero, suc, ◌+◌, ◌<◌, ◌≤◌, Bool, true, false, List, [], ◌∷◌, length, take, drop, Option, Some, None, IsSomeAnd, slice_get, refl, sym, ◌∙◌, ap, subst, arith, if◌then◌else◌}
 use Rattle.std.specs.List.{AllZip}
-use Rattle.std.specs.Option.{option_map, option_and_then}
-use Rattle.std.specs.Prelude.{is_some, unwrap_or, if◌then◌else◌}
+use Rattle.fr_frame.specs.Common.{AreTold, Def, Field, FieldPlan, FieldRef, HasValidators, IsChecked, IsFullAs, IsPlanFor, IsTold, NodeId, Plan, Table, TypePlanNode, VariantDef, as_fields, def_of, field_in, field_of_variant, fill_of_field, fill_told, is_some, option_and_then, option_map, part_of, shape_of, strict_column, unwrap_or}
 use Rattle.std.proofs.lemmas.Slice.Zip.{AllZip-long}
 use Rattle.fr_shape.specs.declared.shape.Shape.{Shape}
 use Rattle.fr_shape.specs.declared.shape.ShapeId.{ShapeId}
-use Rattle.fr_shape.specs.declared.shape.Def.{Def}
-use Rattle.fr_shape.specs.declared.shape.Field.{Field}
-use Rattle.fr_shape.specs.declared.shape.FieldRef.{FieldRef}
 use Rattle.fr_shape.specs.declared.shape.EnumDef.{EnumDef}
 use Rattle.fr_shape.specs.declared.shape.StructDef.{StructDef}
-use Rattle.fr_shape.specs.declared.shape.VariantDef.{VariantDef}
-use Rattle.fr_shape.specs.Checked.{IsChecked}
-use Rattle.fr_shape.specs.Look.{Table, def_of, def_or_other, field_in, field_of_variant}
+use Rattle.fr_shape.specs.Look.{def_or_other}
 use Rattle.fr_shape.specs.Plannable.{Reached}
-use Rattle.fr_rules.specs.FillRules.{fill_told}
 use Rattle.fr_rules.specs.FillLaws.{told_is_fill}
-use Rattle.fr_rules.specs.Pools.{part_of}
-use Rattle.fr_model.specs.Places.{strict_column, fill_of_field}
-use Rattle.fr_model.specs.Tree.{as_struct, as_variant}
-use Rattle.fr_model.specs.Well.{IsFullAs, HasFieldsOf}
-use Rattle.fr_plan.specs.declared.nodes.NodeId.{NodeId}
-use Rattle.fr_plan.specs.declared.nodes.TypePlanNode.{TypePlanNode}
+use Rattle.fr_model.specs.Well.{HasFieldsOf}
 use Rattle.fr_plan.specs.declared.nodes.TypePlanNodeKind.{TypePlanNodeKind}
 use Rattle.fr_plan.specs.declared.outlines.Outline.{Outline}
 use Rattle.fr_plan.specs.declared.outlines.Role.{Role}
 use Rattle.fr_plan.specs.declared.lists.PlanLists.{PlanLists}
 use Rattle.fr_plan.specs.declared.plans.EnumPlan.{EnumPlan}
-use Rattle.fr_plan.specs.declared.plans.FieldPlan.{FieldPlan}
 use Rattle.fr_plan.specs.declared.plans.StructPlan.{StructPlan}
 use Rattle.fr_plan.specs.declared.plans.VariantPlanMeta.{VariantPlanMeta}
 use Rattle.fr_plan.specs.Build.{Placed, fields_from}
@@ -37,12 +24,8 @@ use Rattle.fr_plan.specs.Lookups.{node_at, resolved, resolved_id, struct_plan_at
 use Rattle.fr_plan.specs.Nodes.{struct_plan_of, enum_plan_of, is_built_from, IsKindBy, IsOwnKind, IsKindOf, IsNode}
 use Rattle.fr_plan.specs.PlanLaws.{IsComplete, PlansAreComplete}
 use Rattle.fr_plan.specs.Plans.{IsStructPlan, IsEnumPlan, IsFieldPlan, IsVariantPlan, NamesFields, PlacedVariant, variants_from}
-use Rattle.fr_plan.specs.TypePlan.{Plan}
 use Rattle.fr_arena.specs.Ranges.{Range}
-use Rattle.fr_frame.specs.Bodies.{as_fields}
-use Rattle.fr_frame.specs.Completing.{shape_of, IsPlanFor}
-use Rattle.fr_frame.specs.FieldDefaults.{HasValidators}
-use Rattle.fr_frame.specs.Filling.{IsTold, IsToldAt, AreTold}
+use Rattle.fr_frame.specs.Filling.{IsToldAt}
 
 -- lists in step
 
@@ -164,8 +147,7 @@ kind_by_role : (table : Table) (plan : Plan) (outline : Outline) (is : TypePlanN
     → IsKindOf table plan.lists outline role is → HasKind table plan outline.shape.0 is
 kind_by_role table plan outline is apart Role.Own told =
     kind_own table plan outline is apart (slice_get table outline.shape.0) refl told
-kind_by_role table plan outline is apart Role.BackRef told = absurd (apart outline.shape told)
-kind_by_role table plan outline is apart (Role.FieldProxy field) told = absurd (apart outline.shape told)
+kind_by_role table plan outline is apart _ told = absurd (apart outline.shape told)
 
 module _ (resolve : BackReferencesResolve) (table : Table) (plan : Plan) (checked : IsChecked table)
     (planned : IsPlanFor table plan) (id : NodeId) (inside : id.0 < length plan.nodes) where
@@ -336,7 +318,7 @@ module _ (table : Table) (plan : Plan) (s : ℕ) (found : StructPlan) (is : IsFo
   found_told =
       fields_told table plan s None is.struct.fields
       (λ i. ap (λ (def : Def). field_in def None i) is.def)
-      (λ n full. subst (λ (def : Def). IsFullAs def as_struct n) is.def full)
+      (λ n full. subst (λ (def : Def). IsFullAs def (as_fields None) n) is.def full)
       is.nodes found.fields is.told.fields
 
 pub none_told : (table : Table) (plan : Plan) (s : ℕ) → is_struct (def_of table s) ≡ false → AreTold table plan s None []
@@ -349,7 +331,7 @@ none_told table plan s apart = record {
     no_field (Def.Struct struct) apart i = absurd (cc)
     no_field def apart i = refl
 
-    not_full : (def : Def) → is_struct def ≡ false → (n : ℕ) → IsFullAs def as_struct n → ⊥
+    not_full : (def : Def) → is_struct def ≡ false → (n : ℕ) → IsFullAs def (as_fields None) n → ⊥
     not_full (Def.Struct struct) apart n full = absurd (cc)
     not_full def apart n full = full
 
@@ -425,7 +407,7 @@ enum_found resolve table plan checked planned id inside =
 
 module _ (table : Table) (plan : Plan) (s k : ℕ) where
   -- where there is no such variant there are no fields
-  no_variant : ((i : ℕ) → field_in (def_of table s) (Some k) i ≡ None) → ((n : ℕ) → IsFullAs (def_of table s) (as_variant k) n → ⊥)
+  no_variant : ((i : ℕ) → field_in (def_of table s) (Some k) i ≡ None) → ((n : ℕ) → IsFullAs (def_of table s) (as_fields (Some k)) n → ⊥)
       → AreTold table plan s (Some k) []
   no_variant nowhere never = record { each = nowhere; count = λ n full. absurd (never n full) }
 
@@ -436,7 +418,7 @@ module _ (table : Table) (plan : Plan) (s k : ℕ) where
       no_field (Def.Enum enumeration) apart i = absurd (cc)
       no_field def apart i = refl
 
-      not_full : (def : Def) → is_enum def ≡ false → (n : ℕ) → IsFullAs def (as_variant k) n → ⊥
+      not_full : (def : Def) → is_enum def ≡ false → (n : ℕ) → IsFullAs def (as_fields (Some k)) n → ⊥
       not_full (Def.Enum enumeration) apart n full = absurd (cc)
       not_full def apart n full = full
 
@@ -461,7 +443,7 @@ module _ (table : Table) (plan : Plan) (s k : ℕ) where
     pub variant_none : None ≡ slice_get (part_of plan.lists.variants found.variants) k → AreTold table plan s (Some k) []
     variant_none e = no_variant
         (λ i. ap (λ (def : Def). field_in def (Some k) i) is.def ∙ ap (λ (v : Option VariantDef). field_of_variant v i) past)
-        (λ n full. subst (λ (v : Option VariantDef). HasFieldsOf v n) past (subst (λ (def : Def). IsFullAs def (as_variant k) n) is.def full))
+        (λ n full. subst (λ (v : Option VariantDef). HasFieldsOf v n) past (subst (λ (def : Def). IsFullAs def (as_fields (Some k)) n) is.def full))
       where
         past : slice_get is.enumeration.variants k ≡ None
         past =
@@ -490,6 +472,6 @@ module _ (table : Table) (plan : Plan) (s k : ℕ) where
               ∙ ap (λ (v : Option VariantDef). field_of_variant v i) here.there)
               (λ n full.
               subst (λ (v : Option VariantDef). HasFieldsOf v n) here.there
-              (subst (λ (def : Def). IsFullAs def (as_variant k) n) is.def full))
+              (subst (λ (def : Def). IsFullAs def (as_fields (Some k)) n) is.def full))
               pair.other.nodes one.fields fields;
         }

@@ -1,21 +1,8 @@
 -- Why a place isn't completed by the rules of the end of deferred mode, and what it holds where it is.
 use Rattle.std.proofs.Common.{◌≡◌, ◌⊎◌, ℕ, suc, true, false, List, [], ◌∷◌, Option, Some, None, IsSome, IsSomeAnd, inl, inr, refl, sym, ◌∙◌, ap, subst}
-use Rattle.std.specs.Option.{option_or}
-use Rattle.fr_shape.specs.declared.error.ReflectErrorKind.{ReflectErrorKind}
-use Rattle.fr_shape.specs.declared.shape.Def.{Def}
-use Rattle.fr_shape.specs.Fills.{preset_of}
-use Rattle.fr_shape.specs.Hooks.{Meanings}
-use Rattle.fr_shape.specs.Look.{Table, def_of}
-use Rattle.fr_shape.specs.Val.{Val}
-use Rattle.fr_model.specs.Complete.{hole_takes}
+use Rattle.fr_frame.specs.Common.{Body, Cell, Def, HasAllChildren, IsCauseOf, IsClosed, IsFilled, IsFull, KeepGiven, KeepsTracker, Meanings, ReflectErrorKind, Table, Tracker, Val, WhyNotDefault, absent, begun_body, def_of, defaulted, defaulted_by, defaulted_cell, defaulted_cells, defaulted_struct, deferred_column, entered_body, given, hole_takes, invalid, left_out, option_or, own_tree, placed, preset_of, takes_memory, takes_template, unmet, value_of, whole_body}
 use Rattle.fr_model.specs.Failing.{own_lack}
-use Rattle.fr_model.specs.Places.{deferred_column}
-use Rattle.fr_model.specs.Tree.{Form}
-use Rattle.fr_frame.specs.Bodies.{Body, entered_body, whole_body, begun_body, own_tree, takes_memory, value_of, HasAllChildren, IsClosed}
-use Rattle.fr_frame.specs.Cells.{Cell, absent, given, placed}
-use Rattle.fr_frame.specs.Completing.{takes_template, IsFilled, IsFull, IsOfValidator}
-use Rattle.fr_frame.specs.Defaults.{defaulted, defaulted_by, defaulted_cell, defaulted_cells, defaulted_struct, invalid, left_out, unmet, KeepGiven, KeepsForm, WhyNotDefault}
-use Rattle.fr_frame.specs.Filling.{IsCauseOf}
+use Rattle.fr_frame.specs.Completing.{IsOfValidator}
 use Rattle.fr_frame.proofs.LackLaws.{first_none}
 use Rattle.fr_frame.proofs.DefaultLaws.{all_count, closed_after, none_absent_there}
 use Rattle.fr_frame.proofs.OwnLackLaws.{own_lack_is, own_nothing, own_whole}
@@ -25,15 +12,15 @@ given_stays : (fill : Option Val) (v : Val) → defaulted_cell fill (given v) �
 given_stays (Some w) v = refl
 given_stays None v = refl
 
-all_kept : (table : Table) (s : ℕ) (form : Form) (i : ℕ) (cs : List Cell) → KeepGiven cs (defaulted_cells table s form i cs)
-all_kept table s form i [] = tt
-all_kept table s form i (absent ∷ cs) = all_kept table s form (suc i) cs
-all_kept table s form i (given v ∷ cs) =
-    (given_stays (hole_takes deferred_column table s form i) v, all_kept table s form (suc i) cs)
-all_kept table s form i (placed n ∷ cs) = all_kept table s form (suc i) cs
+all_kept : (table : Table) (s : ℕ) (tracker : Tracker) (i : ℕ) (cs : List Cell) → KeepGiven cs (defaulted_cells table s tracker i cs)
+all_kept table s tracker i [] = tt
+all_kept table s tracker i (absent ∷ cs) = all_kept table s tracker (suc i) cs
+all_kept table s tracker i (given v ∷ cs) =
+    (given_stays (hole_takes deferred_column table s tracker i) v, all_kept table s tracker (suc i) cs)
+all_kept table s tracker i (placed n ∷ cs) = all_kept table s tracker (suc i) cs
 
-pub keeps_form : (table : Table) (s : ℕ) (body : Body) → KeepsForm body (defaulted table s body)
-keeps_form table s entered_body = go (def_of table s) (preset_of table s)
+pub keeps_tracker : (table : Table) (s : ℕ) (body : Body) → KeepsTracker body (defaulted table s body)
+keeps_tracker table s entered_body = go (def_of table s) (preset_of table s)
   where
     go : (def : Def) (preset : Option Val) → takes_memory (defaulted_by def preset (defaulted_struct table s)) ≡ false
     go (Def.Struct struct) (Some v) = refl
@@ -41,14 +28,13 @@ keeps_form table s entered_body = go (def_of table s) (preset_of table s)
     go (Def.Option t) (Some v) = refl
     go (Def.Option t) None = refl
     go _ preset = refl
-keeps_form table s (whole_body v) = refl
-keeps_form table s (begun_body form cells) = (refl, all_count table s form 0 cells, all_kept table s form 0 cells)
+keeps_tracker table s (whole_body v) = refl
+keeps_tracker table s (begun_body tracker cells) = (refl, all_count table s tracker 0 cells, all_kept table s tracker 0 cells)
 
 -- a place that leaves nothing out has all its children
 pub all_there : (s : ℕ) (body : Body) → IsClosed body → left_out s body ≡ None → HasAllChildren body
-all_there s entered_body closed e = tt
-all_there s (whole_body v) closed e = tt
-all_there s (begun_body form cells) closed e = none_absent_there s form 0 cells closed e
+all_there s (begun_body tracker cells) closed e = none_absent_there s tracker 0 cells closed e
+all_there s _ closed e = tt
 
 module _ (means : Meanings) (table : Table) (s : ℕ) (body : Body) (closed : IsClosed body) where
   abbrev then : Body

@@ -1,32 +1,23 @@
 -- Why a place isn't completed, and what it holds where it is.
 use Rattle.std.proofs.Common.{◌≡◌, ℕ, true, Option, Some, None, IsSome, IsSomeAnd, inl, inr, refl, sym, ◌∙◌, ap, subst}
 use Rattle.std.specs.Prelude.{is_none}
-use Rattle.fr_shape.specs.declared.error.ReflectErrorKind.{ReflectErrorKind}
-use Rattle.fr_shape.specs.Hooks.{Meanings}
-use Rattle.fr_shape.specs.Look.{Table, def_of}
-use Rattle.fr_shape.specs.Val.{Val, Vals}
-use Rattle.fr_model.specs.Complete.{lack, made}
-use Rattle.fr_model.specs.Places.{strict_column}
+use Rattle.fr_frame.specs.Common.{Body, IsCauseOf, IsFilled, IsFull, Meanings, ReflectErrorKind, Table, Tracker, Val, Vals, WhyNot, begun_body, def_of, entered_body, filled_body, lack, made, own_tree, strict_column, takes_template, value_of, values_of, whole_body}
 use Rattle.fr_model.specs.Step.{or_missing}
-use Rattle.fr_model.specs.Tree.{Form}
-use Rattle.fr_frame.specs.Bodies.{Body, entered_body, whole_body, begun_body, value_of, own_tree}
-use Rattle.fr_frame.specs.Cells.{values_of}
-use Rattle.fr_frame.specs.Completing.{IsFilled, IsFull, IsOfValidator, WhyNot, takes_template}
-use Rattle.fr_frame.specs.Filling.{filled_body, IsCauseOf}
+use Rattle.fr_frame.specs.Completing.{IsOfValidator}
 use Rattle.fr_frame.proofs.BodyLaws.{full_value}
 use Rattle.fr_frame.proofs.LackLaws.{body_whole, body_lacks}
 
 -- where a place holds no value it takes a template
 
-none_made : (form : Form) (values : Option Vals) → made form values ≡ None → values ≡ None
-none_made form (Some vs) h = absurd (cc)
-none_made form None h = refl
+none_made : (tracker : Tracker) (values : Option Vals) → made tracker values ≡ None → values ≡ None
+none_made tracker (Some vs) h = absurd (cc)
+none_made tracker None h = refl
 
 takes : (table : Table) (s : ℕ) (body : Body) → IsFull table s body → value_of body ≡ None → takes_template body ≡ true
 takes table s entered_body full h = refl
 takes table s (whole_body v) full h = absurd (cc)
-takes table s (begun_body form cells) full h =
-    ap is_none (none_made form (values_of cells) (sym (full_value (def_of table s) form cells full) ∙ h))
+takes table s (begun_body tracker cells) full h =
+    ap is_none (none_made tracker (values_of cells) (sym (full_value (def_of table s) tracker cells full) ∙ h))
 
 module _ (means : Meanings) (table : Table) (s : ℕ) (body : Body) where
   pub why_lacking : (kind : ReflectErrorKind) → IsCauseOf (lack means table s (own_tree body)) kind

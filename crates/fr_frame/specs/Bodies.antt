@@ -7,23 +7,24 @@ use Rattle.fr_shape.specs.Tokens.{occurs}
 use Rattle.fr_shape.specs.Val.{Val, Vals, Dynamics, Members, unit, product, some, ok, err, list_of, ptr, no_vals, first}
 use Rattle.fr_model.specs.Complete.{made}
 use Rattle.fr_model.specs.Contents.{content_of}
-use Rattle.fr_model.specs.DynamicPlaces.{is_object_form, entry_found, number_or_last}
+use Rattle.fr_model.specs.DynamicPlaces.{is_object_tracker, entry_found, number_or_last}
 use Rattle.fr_model.specs.Dynamics.{dynamic_in, elements_in, element_vals, members_of_object, member_keys, member_vals}
 use Rattle.fr_model.specs.Places.{vals_nth}
 use Rattle.fr_model.specs.Step.{parts_as}
-use Rattle.fr_model.specs.Tree.{Form, as_struct, as_array, as_variant, as_some, as_ok, as_err, as_pointer, as_list, as_slice, as_closed_slice, as_set, as_map, as_dyn_array, as_dyn_object, keys_of_form, over_base, Tree, hole, entered, whole, begun, Trees, no_trees, branch}
+use Rattle.fr_model.specs.Trackers.{Tracker, as_fields, as_elements, as_content, ContentKind, as_items, ItemsKind, as_entries, EntriesKind, keys_of_tracker}
+use Rattle.fr_model.specs.Tree.{over_base, Tree, hole, entered, whole, begun, Trees, no_trees, branch}
 use Rattle.fr_frame.specs.Cells.{Cell, absent, given, placed, cells_occur, values_of}
 
 -- a place: entered, with nothing put in; holding a value; or begun, with its children
 pub data Body : Type 0 where
   entered_body : Body
   whole_body : Val → Body
-  begun_body : Form → List Cell → Body
+  begun_body : Tracker → List Cell → Body
 
 abbrev pub body_occurs : Body → ℕ → ℕ
 body_occurs entered_body t = 0
 body_occurs (whole_body v) t = occurs v t
-body_occurs (begun_body form cells) t = cells_occur cells t
+body_occurs (begun_body tracker cells) t = cells_occur cells t
 
 -- a place of this definition that is just entered: a struct without fields is whole, as there is nothing to put in
 abbrev pub fresh_body : Def → Body
@@ -31,22 +32,17 @@ fresh_body def = if is_empty_struct def then whole_body (product no_vals) else e
 
 -- One child.
 
--- as what a place is begun that has the fields of a struct as its children, or those of the variant that is selected
-abbrev pub as_fields : (selected : Option ℕ) → Form
-as_fields None = as_struct
-as_fields (Some k) = as_variant k
-
 -- child number i, where the place is begun and has it
 abbrev pub cell_at : Body → ℕ → Option Cell
 cell_at entered_body i = None
 cell_at (whole_body v) i = None
-cell_at (begun_body form cells) i = slice_get cells i
+cell_at (begun_body tracker cells) i = slice_get cells i
 
 -- the place with another child of this number, where it has one
 abbrev pub with_cell : Body → ℕ → Cell → Body
 with_cell entered_body i child = entered_body
 with_cell (whole_body v) i child = whole_body v
-with_cell (begun_body form cells) i child = begun_body form (slice_set cells i child)
+with_cell (begun_body tracker cells) i child = begun_body tracker (slice_set cells i child)
 
 -- Entering a child that will be in slot n.
 
@@ -83,84 +79,79 @@ abbrev pub cells_of_vals : Vals → List Cell
 cells_of_vals no_vals = []
 cells_of_vals (first v vs) = given v ∷ cells_of_vals vs
 
-abbrev pub opened_by : Form → Val → (parts : Option Vals) → Body
-opened_by form v (Some vs) = begun_body (over_base form v) (cells_of_vals vs)
-opened_by form v None = whole_body v
+abbrev pub opened_by : Tracker → Val → (parts : Option Vals) → Body
+opened_by tracker v (Some vs) = begun_body (over_base tracker v) (cells_of_vals vs)
+opened_by tracker v None = whole_body v
 
 -- a place that is begun so, with so many children: an entered one has none of them yet, of a whole one each has its part
 -- of the value (those of a list are its items, those of a map keys and values in turn, which are its base), a begun one stays as it is
-abbrev pub opened : Form → (count : ℕ) → Body → Body
-opened form count entered_body = begun_body form (replicate count absent)
-opened form count (whole_body v) = opened_by form v (parts_as form v)
-opened form count (begun_body as_before cells) = begun_body as_before cells
+abbrev pub opened : Tracker → (count : ℕ) → Body → Body
+opened tracker count entered_body = begun_body tracker (replicate count absent)
+opened tracker count (whole_body v) = opened_by tracker v (parts_as tracker v)
+opened tracker count (begun_body as_before cells) = begun_body as_before cells
 
 -- a whole place is begun so only where its value has parts for that
-abbrev pub MayOpen : Form → Body → Type 0
-MayOpen form entered_body = Unit {0}
-MayOpen form (whole_body v) = IsSome (parts_as form v)
-MayOpen form (begun_body as_before cells) = Unit {0}
+abbrev pub MayOpen : Tracker → Body → Type 0
+MayOpen tracker entered_body = Unit {0}
+MayOpen tracker (whole_body v) = IsSome (parts_as tracker v)
+MayOpen tracker (begun_body as_before cells) = Unit {0}
 
 -- a whole `Some`
 abbrev pub HoldsSome : Body → Type 0
 HoldsSome entered_body = ⊥
 HoldsSome (whole_body v) = IsSome (content_of v)
-HoldsSome (begun_body form cells) = ⊥
+HoldsSome (begun_body tracker cells) = ⊥
 
 abbrev pub opened_around : Val → (content : Option Val) → Body
-opened_around v (Some held) = begun_body as_some (given held ∷ [])
+opened_around v (Some held) = begun_body (as_content ContentKind.Some) (given held ∷ [])
 opened_around v None = whole_body v
 
 -- a whole `Some` is begun as an option around its content; any other place stays as it is
 abbrev pub opened_some : Body → Body
 opened_some entered_body = entered_body
 opened_some (whole_body v) = opened_around v (content_of v)
-opened_some (begun_body form cells) = begun_body form cells
+opened_some (begun_body tracker cells) = begun_body tracker cells
 
 -- a place that is begun so, with so many children, none of which is there, whatever was there before
-abbrev pub restarted : Form → (count : ℕ) → Body → Body
-restarted form count before = begun_body form (replicate count absent)
+abbrev pub restarted : Tracker → (count : ℕ) → Body → Body
+restarted tracker count before = begun_body tracker (replicate count absent)
 
 -- Items.
 
 -- the place is begun as what takes more items: a list, a set, a dynamic array, or an open pointer to a slice
-abbrev pub TakesItems : Form → Type 0
-TakesItems as_list = Unit {0}
-TakesItems as_slice = Unit {0}
-TakesItems as_closed_slice = ⊥
-TakesItems as_struct = ⊥
-TakesItems as_array = ⊥
-TakesItems (as_variant k) = ⊥
-TakesItems as_some = ⊥
-TakesItems as_ok = ⊥
-TakesItems as_err = ⊥
-TakesItems as_pointer = ⊥
-TakesItems as_set = Unit {0}
-TakesItems (as_map base) = ⊥
-TakesItems as_dyn_array = Unit {0}
-TakesItems (as_dyn_object keys) = ⊥
+abbrev pub TakesItems : Tracker → Type 0
+TakesItems (as_items ItemsKind.List) = Unit {0}
+TakesItems (as_items ItemsKind.Slice) = Unit {0}
+TakesItems (as_items ItemsKind.ClosedSlice) = ⊥
+TakesItems (as_fields selected) = ⊥
+TakesItems as_elements = ⊥
+TakesItems (as_content kind) = ⊥
+TakesItems (as_items ItemsKind.Set) = Unit {0}
+TakesItems (as_entries kind) = ⊥
+TakesItems (as_items ItemsKind.Array) = Unit {0}
 
 abbrev pub IsGrowing : Body → Type 0
 IsGrowing entered_body = ⊥
 IsGrowing (whole_body v) = ⊥
-IsGrowing (begun_body form cells) = TakesItems form
+IsGrowing (begun_body tracker cells) = TakesItems tracker
 
 -- a begun place with one more child behind the others, which isn't there yet; any other place stays as it is
 abbrev pub added : Body → Body
 added entered_body = entered_body
 added (whole_body v) = whole_body v
-added (begun_body form cells) = begun_body form (cells ++ absent ∷ [])
+added (begun_body tracker cells) = begun_body tracker (cells ++ absent ∷ [])
 
 -- a begun map with one more entry behind the others, of which neither key nor value is there yet; any other place stays as it is
 abbrev pub added_entry : Body → Body
 added_entry entered_body = entered_body
 added_entry (whole_body v) = whole_body v
-added_entry (begun_body form cells) = begun_body form (cells ++ absent ∷ absent ∷ [])
+added_entry (begun_body tracker cells) = begun_body tracker (cells ++ absent ∷ absent ∷ [])
 
 -- the place is begun as a map
 abbrev pub IsMapBody : Body → Type 0
 IsMapBody entered_body = ⊥
 IsMapBody (whole_body v) = ⊥
-IsMapBody (begun_body form cells) = (base : ℕ) × (form ≡ as_map base)
+IsMapBody (begun_body tracker cells) = (base : ℕ) × (tracker ≡ as_entries (EntriesKind.Map base))
 
 -- The end of a set's item.
 
@@ -188,13 +179,13 @@ and_item_cell cells v = if has_same_cell v cells then cells else cells ++ given 
 abbrev pub with_ended : ℕ → Val → Body → Body
 with_ended i v entered_body = entered_body
 with_ended i v (whole_body u) = whole_body u
-with_ended i v (begun_body form cells) = begun_body form (and_item_cell (without_cell i cells) v)
+with_ended i v (begun_body tracker cells) = begun_body tracker (and_item_cell (without_cell i cells) v)
 
 -- the place is begun as a set
 abbrev pub IsSetBody : Body → Type 0
 IsSetBody entered_body = ⊥
 IsSetBody (whole_body v) = ⊥
-IsSetBody (begun_body form cells) = form ≡ as_set
+IsSetBody (begun_body tracker cells) = tracker ≡ as_items ItemsKind.Set
 
 -- Dynamic values.
 
@@ -202,165 +193,139 @@ IsSetBody (begun_body form cells) = form ≡ as_set
 abbrev pub HoldsArray : Body → Type 0
 HoldsArray entered_body = ⊥
 HoldsArray (whole_body v) = IsSome (elements_in (dynamic_in v))
-HoldsArray (begun_body form cells) = ⊥
+HoldsArray (begun_body tracker cells) = ⊥
 
 abbrev pub HoldsObject : Body → Type 0
 HoldsObject entered_body = ⊥
 HoldsObject (whole_body v) = IsSome (members_of_object (dynamic_in v))
-HoldsObject (begun_body form cells) = ⊥
+HoldsObject (begun_body tracker cells) = ⊥
 
 abbrev pub opened_elements : Val → (elements : Option Dynamics) → Body
-opened_elements v (Some ds) = begun_body as_dyn_array (cells_of_vals (element_vals ds))
+opened_elements v (Some ds) = begun_body (as_items ItemsKind.Array) (cells_of_vals (element_vals ds))
 opened_elements v None = whole_body v
 
 -- a whole dynamic array is begun with its elements as they are; any other place stays as it is
 abbrev pub opened_array : Body → Body
 opened_array entered_body = entered_body
 opened_array (whole_body v) = opened_elements v (elements_in (dynamic_in v))
-opened_array (begun_body form cells) = begun_body form cells
+opened_array (begun_body tracker cells) = begun_body tracker cells
 
 abbrev pub opened_members : Val → (members : Option Members) → Body
-opened_members v (Some ms) = begun_body (as_dyn_object (member_keys ms)) (cells_of_vals (member_vals ms))
+opened_members v (Some ms) = begun_body (as_entries (EntriesKind.Object (member_keys ms))) (cells_of_vals (member_vals ms))
 opened_members v None = whole_body v
 
 -- a whole dynamic object is begun with its entries as they are; any other place stays as it is
 abbrev pub opened_object : Body → Body
 opened_object entered_body = entered_body
 opened_object (whole_body v) = opened_members v (members_of_object (dynamic_in v))
-opened_object (begun_body form cells) = begun_body form cells
+opened_object (begun_body tracker cells) = begun_body tracker cells
 
 -- the place is begun as a dynamic object
 abbrev pub IsObjectBody : Body → Type 0
 IsObjectBody entered_body = ⊥
 IsObjectBody (whole_body v) = ⊥
-IsObjectBody (begun_body form cells) = is_object_form form ≡ true
+IsObjectBody (begun_body tracker cells) = is_object_tracker tracker ≡ true
 
 -- the keys of its entries
 abbrev pub keys_in : Body → List (List ℕ)
 keys_in entered_body = []
 keys_in (whole_body v) = []
-keys_in (begun_body form cells) = keys_of_form form
+keys_in (begun_body tracker cells) = keys_of_tracker tracker
 
-abbrev pub with_entry_unless : (key : List ℕ) → Form → List Cell → (found : Option ℕ) → Body
-with_entry_unless key form cells (Some i) = begun_body form cells
-with_entry_unless key form cells None = begun_body (as_dyn_object (keys_of_form form ++ key ∷ [])) (cells ++ absent ∷ [])
+abbrev pub with_entry_unless : (key : List ℕ) → Tracker → List Cell → (found : Option ℕ) → Body
+with_entry_unless key tracker cells (Some i) = begun_body tracker cells
+with_entry_unless key tracker cells None = begun_body (as_entries (EntriesKind.Object (keys_of_tracker tracker ++ key ∷ []))) (cells ++ absent ∷ [])
 
 -- an object with an entry under this key: the one that it has, or one more behind the others, whose value isn't there yet; any other
 -- place stays as it is
 abbrev pub with_entry_for : (key : List ℕ) → Body → Body
 with_entry_for key entered_body = entered_body
 with_entry_for key (whole_body v) = whole_body v
-with_entry_for key (begun_body form cells) = with_entry_unless key form cells (entry_found key (keys_of_form form))
+with_entry_for key (begun_body tracker cells) = with_entry_unless key tracker cells (entry_found key (keys_of_tracker tracker))
 
 -- how many children a place has, as far as it is begun
 abbrev pub count_cells : Body → ℕ
 count_cells entered_body = 0
 count_cells (whole_body v) = 0
-count_cells (begun_body form cells) = length cells
+count_cells (begun_body tracker cells) = length cells
 
 -- the number of the entry of an object that has this key, or of a new last one
 abbrev pub entry_in : (key : List ℕ) → Body → ℕ
 entry_in key body = number_or_last (entry_found key (keys_in body)) (count_cells body)
 
 -- a begun place, begun so instead, with the children that it has; any other place stays as it is
-abbrev pub reformed : Form → Body → Body
-reformed form entered_body = entered_body
-reformed form (whole_body v) = whole_body v
-reformed form (begun_body as_before cells) = begun_body form cells
+abbrev pub reformed : Tracker → Body → Body
+reformed tracker entered_body = entered_body
+reformed tracker (whole_body v) = whole_body v
+reformed tracker (begun_body as_before cells) = begun_body tracker cells
 
 -- What a place comes to.
 
 -- a place is begun so around one child: a content, a side or a pointee
-abbrev pub is_around : Form → Bool
-is_around as_struct = false
-is_around as_array = false
-is_around (as_variant k) = false
-is_around as_some = true
-is_around as_ok = true
-is_around as_err = true
-is_around as_pointer = true
-is_around as_list = false
-is_around as_slice = false
-is_around as_closed_slice = false
-is_around as_set = false
-is_around (as_map base) = false
-is_around as_dyn_array = false
-is_around (as_dyn_object keys) = false
+abbrev pub is_around : Tracker → Bool
+is_around (as_fields selected) = false
+is_around as_elements = false
+is_around (as_content kind) = true
+is_around (as_items kind) = false
+is_around (as_entries kind) = false
 
 -- what is made of a place that is begun so holds a box: around the one child, or around the list of a slice's items
-abbrev pub boxes : Form → Bool
-boxes as_struct = false
-boxes as_array = false
-boxes (as_variant k) = false
-boxes as_some = true
-boxes as_ok = true
-boxes as_err = true
-boxes as_pointer = true
-boxes as_list = false
-boxes as_slice = true
-boxes as_closed_slice = true
-boxes as_set = false
-boxes (as_map base) = false
-boxes as_dyn_array = false
-boxes (as_dyn_object keys) = false
+abbrev pub boxes : Tracker → Bool
+boxes (as_fields selected) = false
+boxes as_elements = false
+boxes (as_content kind) = true
+boxes (as_items ItemsKind.List) = false
+boxes (as_items ItemsKind.Slice) = true
+boxes (as_items ItemsKind.ClosedSlice) = true
+boxes (as_items ItemsKind.Set) = false
+boxes (as_entries kind) = false
+boxes (as_items ItemsKind.Array) = false
 
 -- what that box holds (the unit value where there is no box)
-abbrev pub boxed_as : Form → Vals → Val
-boxed_as as_struct vs = unit
-boxed_as as_array vs = unit
-boxed_as (as_variant k) vs = unit
-boxed_as as_some vs = vals_nth vs 0
-boxed_as as_ok vs = vals_nth vs 0
-boxed_as as_err vs = vals_nth vs 0
-boxed_as as_pointer vs = vals_nth vs 0
-boxed_as as_list vs = unit
-boxed_as as_slice vs = list_of vs
-boxed_as as_closed_slice vs = list_of vs
-boxed_as as_set vs = unit
-boxed_as (as_map base) vs = unit
-boxed_as as_dyn_array vs = unit
-boxed_as (as_dyn_object keys) vs = unit
+abbrev pub boxed_as : Tracker → Vals → Val
+boxed_as (as_fields selected) vs = unit
+boxed_as as_elements vs = unit
+boxed_as (as_content kind) vs = vals_nth vs 0
+boxed_as (as_items ItemsKind.List) vs = unit
+boxed_as (as_items ItemsKind.Slice) vs = list_of vs
+boxed_as (as_items ItemsKind.ClosedSlice) vs = list_of vs
+boxed_as (as_items ItemsKind.Set) vs = unit
+boxed_as (as_entries kind) vs = unit
+boxed_as (as_items ItemsKind.Array) vs = unit
 
 -- the value of such a place whose box holds this (the value itself where there is no box)
-abbrev pub around_as : Form → Val → Val
-around_as as_struct held = held
-around_as as_array held = held
-around_as (as_variant k) held = held
-around_as as_some held = some held
-around_as as_ok held = ok held
-around_as as_err held = err held
-around_as as_pointer held = ptr held
-around_as as_list held = held
-around_as as_slice held = ptr held
-around_as as_closed_slice held = ptr held
-around_as as_set held = held
-around_as (as_map base) held = held
-around_as as_dyn_array held = held
-around_as (as_dyn_object keys) held = held
+abbrev pub around_as : Tracker → Val → Val
+around_as (as_fields selected) held = held
+around_as as_elements held = held
+around_as (as_content ContentKind.Some) held = some held
+around_as (as_content ContentKind.Ok) held = ok held
+around_as (as_content ContentKind.Err) held = err held
+around_as (as_content ContentKind.Pointer) held = ptr held
+around_as (as_items ItemsKind.List) held = held
+around_as (as_items ItemsKind.Slice) held = ptr held
+around_as (as_items ItemsKind.ClosedSlice) held = ptr held
+around_as (as_items ItemsKind.Set) held = held
+around_as (as_entries kind) held = held
+around_as (as_items ItemsKind.Array) held = held
 
 -- what is made of a place that is begun so is put together anew: a set or a map of what isn't there twice, a dynamic value of those
 -- of its parts
-abbrev pub gathers : Form → Bool
-gathers as_struct = false
-gathers as_array = false
-gathers (as_variant k) = false
-gathers as_some = false
-gathers as_ok = false
-gathers as_err = false
-gathers as_pointer = false
-gathers as_list = false
-gathers as_slice = false
-gathers as_closed_slice = false
-gathers as_set = true
-gathers (as_map base) = true
-gathers as_dyn_array = true
-gathers (as_dyn_object keys) = true
+abbrev pub gathers : Tracker → Bool
+gathers (as_fields selected) = false
+gathers as_elements = false
+gathers (as_content kind) = false
+gathers (as_items ItemsKind.List) = false
+gathers (as_items ItemsKind.Slice) = false
+gathers (as_items ItemsKind.ClosedSlice) = false
+gathers (as_items ItemsKind.Set) = true
+gathers (as_entries kind) = true
+gathers (as_items ItemsKind.Array) = true
 
 -- making the value of what is there takes memory: it holds a box, or is put together anew
 abbrev pub takes_memory : Body → Bool
 takes_memory entered_body = false
 takes_memory (whole_body v) = false
-takes_memory (begun_body form cells) = boxes form || gathers form
+takes_memory (begun_body tracker cells) = boxes tracker || gathers tracker
 
 abbrev pub is_one : List Cell → Bool
 is_one [] = false
@@ -368,21 +333,21 @@ is_one (c ∷ []) = true
 is_one (c ∷ d ∷ cs) = false
 
 -- so many children can make a value of a place that is begun so: around one child just that one, else any
-abbrev pub can_make : Form → List Cell → Bool
-can_make form cells = if is_around form then is_one cells else true
+abbrev pub can_make : Tracker → List Cell → Bool
+can_make tracker cells = if is_around tracker then is_one cells else true
 
 -- the value of a place that is whole, or begun with each child's value there
 abbrev pub value_of : Body → Option Val
 value_of entered_body = None
 value_of (whole_body v) = Some v
-value_of (begun_body form cells) = if can_make form cells then made form (values_of cells) else None
+value_of (begun_body tracker cells) = if can_make tracker cells then made tracker (values_of cells) else None
 
 -- of the children of a begun place none is missing: the value of each is there. A place that is entered or whole has no
 -- children that could be missing.
 abbrev pub HasAllChildren : Body → Type 0
 HasAllChildren entered_body = Unit {0}
 HasAllChildren (whole_body v) = Unit {0}
-HasAllChildren (begun_body form cells) = IsSome (values_of cells)
+HasAllChildren (begun_body tracker cells) = IsSome (values_of cells)
 
 -- a child in a slot of its own isn't told here
 abbrev pub tree_of_cell : Cell → Tree
@@ -398,7 +363,7 @@ trees_of (c ∷ cs) = branch (tree_of_cell c) (trees_of cs)
 abbrev pub own_tree : Body → Tree
 own_tree entered_body = entered
 own_tree (whole_body v) = whole v
-own_tree (begun_body form cells) = begun form (trees_of cells)
+own_tree (begun_body tracker cells) = begun tracker (trees_of cells)
 
 abbrev pub IsUnplaced : Cell → Type 0
 IsUnplaced absent = Unit {0}
@@ -413,4 +378,4 @@ AreUnplaced (c ∷ cs) = IsUnplaced c × AreUnplaced cs
 abbrev pub IsClosed : Body → Type 0
 IsClosed entered_body = Unit {0}
 IsClosed (whole_body v) = Unit {0}
-IsClosed (begun_body form cells) = AreUnplaced cells
+IsClosed (begun_body tracker cells) = AreUnplaced cells

@@ -33,7 +33,7 @@ shape_of plan node = (unwrap_or (shape_at plan node) (record { 0 = 0 })).0
 abbrev pub IsFull : Table → ℕ → Body → Type 0
 IsFull table s entered_body = Unit {0}
 IsFull table s (whole_body v) = Unit {0}
-IsFull table s (begun_body form cells) = IsFullAs (def_of table s) form (length cells)
+IsFull table s (begun_body tracker cells) = IsFullAs (def_of table s) tracker (length cells)
 
 -- the place is built by a node of the plan, has all its children, and none of them in a slot of its own
 pub record MayComplete (table : Table) (plan : Plan) (at : Node) : Type 0 where
@@ -57,7 +57,7 @@ pub record FillsAt (column : Column) (means : Meanings) (table : Table) (plan : 
 abbrev pub takes_template : Body → Bool
 takes_template entered_body = true
 takes_template (whole_body v) = false
-takes_template (begun_body form cells) = is_none (values_of cells)
+takes_template (begun_body tracker cells) = is_none (values_of cells)
 
 -- the place makes no value, and this is the cause
 pub record IsLacking (means : Meanings) (table : Table) (s : ℕ) (body : Body) (kind : ReflectErrorKind) : Type 0 where

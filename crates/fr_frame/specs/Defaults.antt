@@ -9,7 +9,8 @@ use Rattle.fr_shape.specs.Val.{Val, none}
 use Rattle.fr_model.specs.Complete.{complete, hole_takes, missing_child, missing_value}
 use Rattle.fr_model.specs.Failing.{first_unmet, first_invalid, own_lack}
 use Rattle.fr_model.specs.Places.{deferred_column, child_count}
-use Rattle.fr_model.specs.Tree.{Form, as_struct, holes}
+use Rattle.fr_model.specs.Trackers.{Tracker, as_fields}
+use Rattle.fr_model.specs.Tree.{holes}
 use Rattle.fr_frame.specs.Bodies.{Body, entered_body, whole_body, begun_body, own_tree, takes_memory, trees_of}
 use Rattle.fr_frame.specs.Cells.{Cell, absent, given, placed}
 use Rattle.fr_frame.specs.Completing.{IsOfValidator, takes_template}
@@ -24,15 +25,15 @@ defaulted_cell fill (given v) = given v
 defaulted_cell fill (placed n) = placed n
 
 -- the children from number i on of a place of shape s that is begun so, each that isn't there with its fill, if it has one
-abbrev pub defaulted_cells : Table → ℕ → Form → ℕ → List Cell → List Cell
-defaulted_cells table s form i [] = []
-defaulted_cells table s form i (c ∷ cs) =
-    defaulted_cell (hole_takes deferred_column table s form i) c ∷ defaulted_cells table s form (suc i) cs
+abbrev pub defaulted_cells : Table → ℕ → Tracker → ℕ → List Cell → List Cell
+defaulted_cells table s tracker i [] = []
+defaulted_cells table s tracker i (c ∷ cs) =
+    defaulted_cell (hole_takes deferred_column table s tracker i) c ∷ defaulted_cells table s tracker (suc i) cs
 
 -- a struct of this shape none of whose fields is there
 abbrev pub defaulted_struct : Table → ℕ → Body
 defaulted_struct table s =
-    begun_body as_struct (defaulted_cells table s as_struct 0 (replicate (child_count table s) absent))
+    begun_body (as_fields None) (defaulted_cells table s (as_fields None) 0 (replicate (child_count table s) absent))
 
 -- an entered place of this definition: a struct with a default holds that, and without one is begun with its fills; an option with
 -- a default holds `None`; any other stays as it is
@@ -60,7 +61,7 @@ defaulted_by Def.Other preset of_fills = entered_body
 abbrev pub defaulted : Table → ℕ → Body → Body
 defaulted table s entered_body = defaulted_by (def_of table s) (preset_of table s) (defaulted_struct table s)
 defaulted table s (whole_body v) = whole_body v
-defaulted table s (begun_body form cells) = begun_body form (defaulted_cells table s form 0 cells)
+defaulted table s (begun_body tracker cells) = begun_body tracker (defaulted_cells table s tracker 0 cells)
 
 -- of an entered place only a struct without a default has fields that are asked
 abbrev pub unmet_entered : Def → (preset : Option Val) → (of_holes : Option ReflectErrorKind) → Option ReflectErrorKind
@@ -85,24 +86,24 @@ unmet_entered Def.Other preset of_holes = None
 -- the first field, if any, that isn't there and is marked to take a default that there isn't
 abbrev pub unmet : Table → ℕ → Body → Option ReflectErrorKind
 unmet table s entered_body =
-    unmet_entered (def_of table s) (preset_of table s) (first_unmet table s as_struct 0 (holes (child_count table s)))
+    unmet_entered (def_of table s) (preset_of table s) (first_unmet table s (as_fields None) 0 (holes (child_count table s)))
 unmet table s (whole_body v) = None
-unmet table s (begun_body form cells) = first_unmet table s form 0 (trees_of cells)
+unmet table s (begun_body tracker cells) = first_unmet table s tracker 0 (trees_of cells)
 
 -- What is left.
 
 -- the first child, from number i on, that isn't there
-abbrev pub first_absent : ℕ → Form → ℕ → List Cell → Option ReflectErrorKind
-first_absent s form i [] = None
-first_absent s form i (absent ∷ cs) = Some (missing_child s form i)
-first_absent s form i (given v ∷ cs) = first_absent s form (suc i) cs
-first_absent s form i (placed n ∷ cs) = first_absent s form (suc i) cs
+abbrev pub first_absent : ℕ → Tracker → ℕ → List Cell → Option ReflectErrorKind
+first_absent s tracker i [] = None
+first_absent s tracker i (absent ∷ cs) = Some (missing_child s tracker i)
+first_absent s tracker i (given v ∷ cs) = first_absent s tracker (suc i) cs
+first_absent s tracker i (placed n ∷ cs) = first_absent s tracker (suc i) cs
 
 -- the value of an entered place, the first hole of a begun one
 abbrev pub left_out : ℕ → Body → Option ReflectErrorKind
 left_out s entered_body = Some (missing_value s)
 left_out s (whole_body v) = None
-left_out s (begun_body form cells) = first_absent s form 0 cells
+left_out s (begun_body tracker cells) = first_absent s tracker 0 cells
 
 -- Validators.
 
@@ -110,7 +111,7 @@ left_out s (begun_body form cells) = first_absent s form 0 cells
 abbrev pub invalid : Meanings → Table → ℕ → Body → Option ReflectErrorKind
 invalid means table s entered_body = None
 invalid means table s (whole_body v) = None
-invalid means table s (begun_body form cells) = first_invalid means table s form 0 (trees_of cells)
+invalid means table s (begun_body tracker cells) = first_invalid means table s tracker 0 (trees_of cells)
 
 -- All three.
 
@@ -135,12 +136,12 @@ KeepGiven (absent ∷ cs) (d ∷ ds) = KeepGiven cs ds
 KeepGiven (given v ∷ cs) (d ∷ ds) = (d ≡ given v) × KeepGiven cs ds
 KeepGiven (placed n ∷ cs) (d ∷ ds) = KeepGiven cs ds
 
--- a begun place stays begun in the same form, with as many children, a whole one stays as it is, and an entered one comes to take no
+-- a begun place stays begun as it was, with as many children, a whole one stays as it is, and an entered one comes to take no
 -- box
-abbrev pub KeepsForm : (old new : Body) → Type 0
-KeepsForm entered_body new = takes_memory new ≡ false
-KeepsForm (whole_body v) new = new ≡ whole_body v
-KeepsForm (begun_body form cells) entered_body = ⊥
-KeepsForm (begun_body form cells) (whole_body v) = ⊥
-KeepsForm (begun_body form cells) (begun_body as_after others) =
-    (as_after ≡ form) × (length others ≡ length cells) × KeepGiven cells others
+abbrev pub KeepsTracker : (old new : Body) → Type 0
+KeepsTracker entered_body new = takes_memory new ≡ false
+KeepsTracker (whole_body v) new = new ≡ whole_body v
+KeepsTracker (begun_body tracker cells) entered_body = ⊥
+KeepsTracker (begun_body tracker cells) (whole_body v) = ⊥
+KeepsTracker (begun_body tracker cells) (begun_body as_after others) =
+    (as_after ≡ tracker) × (length others ≡ length cells) × KeepGiven cells others

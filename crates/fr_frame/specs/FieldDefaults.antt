@@ -9,12 +9,11 @@ use Rattle.fr_rules.specs.Pools.{part_of}
 use Rattle.fr_model.specs.Complete.{hole_takes}
 use Rattle.fr_model.specs.Failing.{unmet_mark}
 use Rattle.fr_model.specs.Places.{deferred_column}
-use Rattle.fr_model.specs.Tree.{Form}
+use Rattle.fr_model.specs.Trackers.{Tracker, as_fields}
 use Rattle.fr_model.specs.Well.{IsFullAs}
 use Rattle.fr_plan.specs.declared.nodes.NodeId.{NodeId}
 use Rattle.fr_plan.specs.declared.plans.FieldPlan.{FieldPlan}
 use Rattle.fr_plan.specs.TypePlan.{Plan}
-use Rattle.fr_frame.specs.Bodies.{as_fields}
 use Rattle.fr_frame.specs.Cells.{Cell}
 use Rattle.fr_frame.specs.Completing.{shape_of, IsPlanFor}
 use Rattle.fr_frame.specs.Defaults.{defaulted_cell}
@@ -23,9 +22,9 @@ use Rattle.fr_frame.specs.Filling.{first_refused}
 -- One child.
 
 -- child i isn't there, and is marked to take a default that there isn't
-abbrev pub unmet_child : Table → ℕ → Form → ℕ → (own : Option Val) → Option ReflectErrorKind
-unmet_child table s form i (Some v) = None
-unmet_child table s form i None = unmet_mark table s form i
+abbrev pub unmet_child : Table → ℕ → Tracker → ℕ → (own : Option Val) → Option ReflectErrorKind
+unmet_child table s tracker i (Some v) = None
+unmet_child table s tracker i None = unmet_mark table s tracker i
 
 -- the first validator that the plan tells of a field and that its value doesn't pass
 abbrev pub refused_of : Meanings → Plan → (told : Option FieldPlan) → (own : Option Val) → Option ReflectErrorKind
@@ -42,11 +41,11 @@ defaulted_nth fill zero (c ∷ cs) = defaulted_cell fill c ∷ cs
 defaulted_nth fill (suc i) (c ∷ cs) = c ∷ defaulted_nth fill i cs
 
 -- the same of the first n children, the first of which is number i
-abbrev pub defaulted_first : Table → ℕ → Form → (i n : ℕ) → List Cell → List Cell
-defaulted_first table s form i zero cs = cs
-defaulted_first table s form i (suc n) [] = []
-defaulted_first table s form i (suc n) (c ∷ cs) =
-    defaulted_cell (hole_takes deferred_column table s form i) c ∷ defaulted_first table s form (suc i) n cs
+abbrev pub defaulted_first : Table → ℕ → Tracker → (i n : ℕ) → List Cell → List Cell
+defaulted_first table s tracker i zero cs = cs
+defaulted_first table s tracker i (suc n) [] = []
+defaulted_first table s tracker i (suc n) (c ∷ cs) =
+    defaulted_cell (hole_takes deferred_column table s tracker i) c ∷ defaulted_first table s tracker (suc i) n cs
 
 -- the plan is one of some checked table, and has this node
 pub record IsPlanned (plan : Plan) (node : NodeId) : Type 0 where

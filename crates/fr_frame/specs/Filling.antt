@@ -15,13 +15,13 @@ use Rattle.fr_rules.specs.FillRules.{fill_told}
 use Rattle.fr_rules.specs.Validators.{passes_held, validator_of}
 use Rattle.fr_model.specs.Complete.{failing_child, hole_takes, made, made_by, missing_child, unless_there}
 use Rattle.fr_model.specs.Places.{strict_column, child_count, fill_in, one_more}
-use Rattle.fr_model.specs.Tree.{Form, as_struct}
+use Rattle.fr_model.specs.Trackers.{Tracker, as_fields}
 use Rattle.fr_model.specs.Well.{IsFullAs}
 use Rattle.fr_plan.specs.declared.plans.FieldPlan.{FieldPlan}
 use Rattle.fr_plan.specs.Plans.{Names, validators_of}
 use Rattle.fr_plan.specs.TypePlan.{Plan}
 use Rattle.std.specs.Prelude.{length}
-use Rattle.fr_frame.specs.Bodies.{Body, entered_body, whole_body, begun_body, as_fields}
+use Rattle.fr_frame.specs.Bodies.{Body, entered_body, whole_body, begun_body}
 use Rattle.fr_frame.specs.Cells.{Cell, absent, value_of_cell}
 use Rattle.fr_frame.specs.Completing.{IsOfValidator}
 
@@ -52,34 +52,34 @@ IsLightFill fill = IsSomeAnd fill (λ v. tokens v ≡ [])
 -- What is made.
 
 -- a child's value, or what it takes where it isn't there
-abbrev pub child_value : Table → ℕ → Form → ℕ → (own : Option Val) → Option Val
-child_value table s form i own = option_or own (hole_takes strict_column table s form i)
+abbrev pub child_value : Table → ℕ → Tracker → ℕ → (own : Option Val) → Option Val
+child_value table s tracker i own = option_or own (hole_takes strict_column table s tracker i)
 
 -- the values of the children from number i on, where each has one
-abbrev pub filled : Table → ℕ → Form → ℕ → List Cell → Option Vals
-filled table s form i [] = Some no_vals
-filled table s form i (c ∷ cs) =
-    one_more (child_value table s form i (value_of_cell c)) (filled table s form (suc i) cs)
+abbrev pub filled : Table → ℕ → Tracker → ℕ → List Cell → Option Vals
+filled table s tracker i [] = Some no_vals
+filled table s tracker i (c ∷ cs) =
+    one_more (child_value table s tracker i (value_of_cell c)) (filled table s tracker (suc i) cs)
 
 -- the value of an entered place of shape s, as of a place none of whose children is there
 abbrev pub filled_entered : Table → ℕ → Option Val
 filled_entered table s =
     made_by (def_of table s) (preset_of table s)
-    (made as_struct (filled table s as_struct 0 (replicate (child_count table s) absent)))
+    (made (as_fields None) (filled table s (as_fields None) 0 (replicate (child_count table s) absent)))
 
 -- the value of a place whose children are all valid
 abbrev pub filled_body : Table → ℕ → Body → Option Val
 filled_body table s entered_body = filled_entered table s
 filled_body table s (whole_body v) = Some v
-filled_body table s (begun_body form cells) = made form (filled table s form 0 cells)
+filled_body table s (begun_body tracker cells) = made tracker (filled table s tracker 0 cells)
 
 -- What is lacking.
 
 -- of child i: a value, or that the value passes its field's validators
-abbrev pub lack_of_child : Meanings → Table → ℕ → Form → ℕ → (own : Option Val) → Option ReflectErrorKind
-lack_of_child means table s form i own =
-    option_or (unless_there (child_value table s form i own) (missing_child s form i))
-    (failing_child means table s form i (child_value table s form i own))
+abbrev pub lack_of_child : Meanings → Table → ℕ → Tracker → ℕ → (own : Option Val) → Option ReflectErrorKind
+lack_of_child means table s tracker i own =
+    option_or (unless_there (child_value table s tracker i own) (missing_child s tracker i))
+    (failing_child means table s tracker i (child_value table s tracker i own))
 
 -- the first of these validators, in their order, that the value doesn't pass, as a refusal of this field
 abbrev pub first_refused : Meanings → FieldRef → List PrecomputedValidator → Val → Option ReflectErrorKind

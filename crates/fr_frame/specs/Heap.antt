@@ -4,11 +4,13 @@ use Rattle.std.specs.Option.{option_map, option_and_then}
 use Rattle.fr_shape.specs.declared.shape.Def.{Def}
 use Rattle.fr_shape.specs.Val.{Val}
 use Rattle.fr_shape.specs.View.{view}
-use Rattle.fr_model.specs.Tree.{Form as TreeForm, as_struct, as_array, as_variant, as_some, as_ok, as_err, as_pointer, as_list, as_slice, as_closed_slice, as_set, as_map, as_dyn_array, as_dyn_object}
+use Rattle.fr_model.specs.Trackers.{Tracker as TreeTracker, as_fields, as_elements, as_content, ContentKind, as_items, ItemsKind, as_entries, EntriesKind}
 use Rattle.fr_plan.specs.declared.nodes.NodeId.{NodeId}
-use Rattle.fr_frame.specs.declared.places.Form.{Form}
+use Rattle.fr_frame.specs.declared.places.Tracker.{Tracker}
+use Rattle.fr_frame.specs.declared.places.ContentKind.{ContentKind as DeclaredContentKind}
+use Rattle.fr_frame.specs.declared.places.ItemsKind.{ItemsKind as DeclaredItemsKind}
+use Rattle.fr_frame.specs.declared.places.EntriesKind.{EntriesKind as DeclaredEntriesKind}
 use Rattle.fr_frame.specs.declared.places.FrameOwner.{FrameOwner}
-use Rattle.fr_frame.specs.declared.places.Parts.{Parts}
 use Rattle.fr_frame.specs.declared.places.Piece.{Piece}
 use Rattle.fr_frame.specs.declared.places.Place.{Place}
 use Rattle.fr_frame.specs.declared.places.Slot.{Slot}
@@ -27,43 +29,42 @@ pub record Node : Type 0 where
 abbrev pub Heap : Type 0
 Heap = ℕ → Option Node
 
-abbrev pub as_form : Form → TreeForm
-as_form Form.Struct = as_struct
-as_form Form.Array = as_array
-as_form (Form.Variant k) = as_variant k
-as_form Form.Some = as_some
-as_form Form.Ok = as_ok
-as_form Form.Err = as_err
-as_form Form.Pointer = as_pointer
-as_form Form.List = as_list
-as_form Form.Slice = as_slice
-as_form Form.ClosedSlice = as_closed_slice
-as_form Form.Set = as_set
-as_form (Form.Map base) = as_map base
-as_form Form.DynArray = as_dyn_array
+abbrev pub as_content_kind : DeclaredContentKind → ContentKind
+as_content_kind DeclaredContentKind.Some = ContentKind.Some
+as_content_kind DeclaredContentKind.Ok = ContentKind.Ok
+as_content_kind DeclaredContentKind.Err = ContentKind.Err
+as_content_kind DeclaredContentKind.Pointer = ContentKind.Pointer
 
--- what the children of a place that is begun so are: fields, of a struct or of the variant that is selected, or something else
-abbrev pub parts_in : TreeForm → Parts
-parts_in as_struct = Parts.Fields None
-parts_in (as_variant k) = Parts.Fields (Some k)
-parts_in as_array = Parts.Others
-parts_in as_some = Parts.Others
-parts_in as_ok = Parts.Others
-parts_in as_err = Parts.Others
-parts_in as_pointer = Parts.Others
-parts_in as_list = Parts.Others
-parts_in as_slice = Parts.Others
-parts_in as_closed_slice = Parts.Others
-parts_in as_set = Parts.Others
-parts_in (as_map base) = Parts.Others
-parts_in as_dyn_array = Parts.Others
-parts_in (as_dyn_object keys) = Parts.Others
+abbrev pub as_items_kind : DeclaredItemsKind → ItemsKind
+as_items_kind DeclaredItemsKind.List = ItemsKind.List
+as_items_kind DeclaredItemsKind.Slice = ItemsKind.Slice
+as_items_kind DeclaredItemsKind.ClosedSlice = ItemsKind.ClosedSlice
+as_items_kind DeclaredItemsKind.Set = ItemsKind.Set
+as_items_kind DeclaredItemsKind.Array = ItemsKind.Array
+
+abbrev pub as_entries_kind : DeclaredEntriesKind → EntriesKind
+as_entries_kind (DeclaredEntriesKind.Map base) = EntriesKind.Map base
+
+abbrev pub as_tracker : Tracker → TreeTracker
+as_tracker (Tracker.Fields selected) = as_fields selected
+as_tracker Tracker.Elements = as_elements
+as_tracker (Tracker.Content kind) = as_content (as_content_kind kind)
+as_tracker (Tracker.Items kind) = as_items (as_items_kind kind)
+as_tracker (Tracker.Entries kind) = as_entries (as_entries_kind kind)
+
+-- whose fields the children of a place are that is begun so, a struct's or those of the variant that is selected, if they are fields
+abbrev pub fields_of_tracker : TreeTracker → Option (Option ℕ)
+fields_of_tracker (as_fields selected) = Some selected
+fields_of_tracker as_elements = None
+fields_of_tracker (as_content kind) = None
+fields_of_tracker (as_items kind) = None
+fields_of_tracker (as_entries kind) = None
 
 abbrev pub body_of : Piece → Body
 body_of Piece.Entered = entered_body
 body_of (Piece.Whole v) = whole_body (view v)
-body_of (Piece.Begun form children) = begun_body (as_form form) children
-body_of (Piece.Object keys children) = begun_body (as_dyn_object keys) children
+body_of (Piece.Begun tracker children) = begun_body (as_tracker tracker) children
+body_of (Piece.Object keys children) = begun_body (as_entries (EntriesKind.Object keys)) children
 
 abbrev pub node_of : Place → Node
 node_of place = record {

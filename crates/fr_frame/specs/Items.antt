@@ -7,7 +7,8 @@ use Rattle.std.specs.declared.boxed.Box.{Box}
 use Rattle.fr_arena.specs.Ropes.{Rope}
 use Rattle.fr_shape.specs.Val.{Val}
 use Rattle.fr_shape.specs.View.{view}
-use Rattle.fr_frame.specs.declared.places.Form.{Form}
+use Rattle.fr_frame.specs.declared.places.ItemsKind.{ItemsKind}
+use Rattle.fr_frame.specs.declared.places.Tracker.{Tracker}
 use Rattle.fr_frame.specs.declared.places.Item.{Item}
 use Rattle.fr_frame.specs.declared.places.Piece.{Piece}
 use Rattle.fr_frame.specs.declared.places.Place.{Place}
@@ -17,20 +18,11 @@ use Rattle.fr_frame.specs.Bodies.{Body, entered_body, whole_body, begun_body}
 use Rattle.fr_frame.specs.Cells.{Cell, given, placed}
 
 -- a place that is begun so has items that keep their slots: it is a list or a pointer to a slice
-abbrev pub keeps_items : Form → Bool
-keeps_items Form.List = true
-keeps_items Form.Slice = true
-keeps_items Form.ClosedSlice = true
-keeps_items Form.Struct = false
-keeps_items Form.Array = false
-keeps_items (Form.Variant k) = false
-keeps_items Form.Some = false
-keeps_items Form.Ok = false
-keeps_items Form.Err = false
-keeps_items Form.Pointer = false
-keeps_items Form.Set = false
-keeps_items (Form.Map base) = false
-keeps_items Form.DynArray = false
+abbrev pub keeps_items : Tracker → Bool
+keeps_items (Tracker.Items ItemsKind.List) = true
+keeps_items (Tracker.Items ItemsKind.Slice) = true
+keeps_items (Tracker.Items ItemsKind.ClosedSlice) = true
+keeps_items _ = false
 
 -- What slots hold of items that have completed: under each number, what lies in that slot.
 
@@ -75,8 +67,8 @@ children_with held n cells items = with_items held n 0 (length cells - length it
 abbrev pub piece_with : Held → (n : ℕ) → (items : List SlotId) → Piece → Piece
 piece_with held n items Piece.Entered = Piece.Entered
 piece_with held n items (Piece.Whole v) = Piece.Whole v
-piece_with held n items (Piece.Begun form children) =
-    Piece.Begun form (if keeps_items form then children_with held n children items else children)
+piece_with held n items (Piece.Begun tracker children) =
+    Piece.Begun tracker (if keeps_items tracker then children_with held n children items else children)
 piece_with held n items (Piece.Object keys children) = Piece.Object keys children
 
 abbrev pub place_with : Held → (n : ℕ) → Place → (items : List SlotId) → Place
@@ -167,14 +159,14 @@ IsListAt slots n = IsSomeAnd (slice_get slots n) (λ (slot : Slot). is_list slot
 abbrev pub with_placed : (slot : ℕ) → Body → Body
 with_placed slot entered_body = entered_body
 with_placed slot (whole_body v) = whole_body v
-with_placed slot (begun_body form cells) = begun_body form (cells ++ placed slot ∷ [])
+with_placed slot (begun_body tracker cells) = begun_body tracker (cells ++ placed slot ∷ [])
 
 -- a list whose items are in these slots has slot m for its item i
 pub record IsListedIn (piece : Piece) (items : List SlotId) (m i : ℕ) : Type 0 where
-  pub form : Form
+  pub tracker : Tracker
   pub cells : List Cell
-  pub is : piece ≡ Piece.Begun form cells
-  pub keeps : keeps_items form ≡ true
+  pub is : piece ≡ Piece.Begun tracker cells
+  pub keeps : keeps_items tracker ≡ true
   pub behind : length cells - length items ≤ i
   pub inside : i < length cells
   pub item : SlotId

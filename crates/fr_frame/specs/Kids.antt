@@ -4,7 +4,8 @@ use Rattle.std.specs.Option.{option_map, option_and_then}
 use Rattle.fr_shape.specs.Tokens.{occurs}
 use Rattle.fr_shape.specs.Val.{Val}
 use Rattle.fr_model.specs.Places.{is_key, entry_of}
-use Rattle.fr_model.specs.Tree.{Form, as_struct, as_array, as_variant, as_some, as_ok, as_err, as_pointer, as_list, as_slice, as_closed_slice, as_set, as_map, as_dyn_array, as_dyn_object, base_of_form, Tree, hole, entered, whole, begun, Trees, no_trees, branch}
+use Rattle.fr_model.specs.Trackers.{Tracker, as_fields, as_elements, as_content, ContentKind, as_items, ItemsKind, as_entries, EntriesKind, base_of_tracker}
+use Rattle.fr_model.specs.Tree.{Tree, hole, entered, whole, begun, Trees, no_trees, branch}
 use Rattle.fr_plan.specs.declared.nodes.NodeId.{NodeId}
 use Rattle.fr_plan.specs.Lookups.{struct_field, enum_variant_field, list_item, set_item, map_key, map_value, option_inner, result_sides, pointer_pointee, by_id}
 use Rattle.fr_plan.specs.TypePlan.{Plan}
@@ -23,7 +24,7 @@ mutual
   pub data Plot : Type 0 where
     entered_plot : Plot
     whole_plot : Val → Plot
-    begun_plot : Form → Kids → Plot
+    begun_plot : Tracker → Kids → Plot
 
   pub data Kids : Type 0 where
     no_kids : Kids
@@ -44,7 +45,7 @@ abbrev mutual
   pub tree_in : Plot → Tree
   tree_in entered_plot = entered
   tree_in (whole_plot v) = whole v
-  tree_in (begun_plot form kids) = begun form (trees_in kids)
+  tree_in (begun_plot tracker kids) = begun tracker (trees_in kids)
 
   pub trees_in : Kids → Trees
   trees_in no_kids = no_trees
@@ -64,7 +65,7 @@ cells_in (kid k ks) = cell_of k ∷ cells_in ks
 abbrev pub body_in : Plot → Body
 body_in entered_plot = entered_body
 body_in (whole_plot v) = whole_body v
-body_in (begun_plot form kids) = begun_body form (cells_in kids)
+body_in (begun_plot tracker kids) = begun_body tracker (cells_in kids)
 
 -- Reading it off a heap.
 
@@ -80,7 +81,7 @@ kids_in below (c ∷ cs) = kid (kid_in below c) (kids_in below cs)
 abbrev pub plot_in : (below : ℕ → Kid) → Body → Plot
 plot_in below entered_body = entered_plot
 plot_in below (whole_body v) = whole_plot v
-plot_in below (begun_body form cells) = begun_plot form (kids_in below cells)
+plot_in below (begun_body tracker cells) = begun_plot tracker (kids_in below cells)
 
 abbrev pub kid_by : (below : ℕ → Kid) → (slot : ℕ) → Option Node → Kid
 kid_by below slot (Some node) = at slot node.stored (plot_in below node.body)
@@ -106,42 +107,33 @@ abbrev pub entry_found : Plan → NodeId → (of_key : Bool) → Option NodeId
 entry_found plan node of_key = if of_key then by_id plan (map_key plan) node else by_id plan (map_value plan) node
 
 -- the plan's node of child i of a place that is begun so, if there is one
-abbrev pub child_found : Plan → NodeId → Form → ℕ → Option NodeId
-child_found plan node as_struct i = by_id plan (λ parent. struct_field plan parent i) node
-child_found plan node as_array i = by_id plan (list_item plan) node
-child_found plan node (as_variant k) i = by_id plan (λ parent. enum_variant_field plan parent k i) node
-child_found plan node as_some i = by_id plan (option_inner plan) node
-child_found plan node as_ok i = option_map (λ (sides : NodeId × NodeId). sides.0) (by_id plan (result_sides plan) node)
-child_found plan node as_err i = option_map (λ (sides : NodeId × NodeId). sides.1) (by_id plan (result_sides plan) node)
-child_found plan node as_pointer i = by_id plan (pointer_pointee plan) node
-child_found plan node as_list i = by_id plan (list_item plan) node
-child_found plan node as_slice i = slice_item_found plan node
-child_found plan node as_closed_slice i = slice_item_found plan node
-child_found plan node as_set i = by_id plan (set_item plan) node
-child_found plan node (as_map base) i = entry_found plan node (is_key i)
-child_found plan node as_dyn_array i = Some node
-child_found plan node (as_dyn_object keys) i = Some node
+abbrev pub child_found : Plan → NodeId → Tracker → ℕ → Option NodeId
+child_found plan node (as_fields None) i = by_id plan (λ parent. struct_field plan parent i) node
+child_found plan node as_elements i = by_id plan (list_item plan) node
+child_found plan node (as_fields (Some k)) i = by_id plan (λ parent. enum_variant_field plan parent k i) node
+child_found plan node (as_content ContentKind.Some) i = by_id plan (option_inner plan) node
+child_found plan node (as_content ContentKind.Ok) i = option_map (λ (sides : NodeId × NodeId). sides.0) (by_id plan (result_sides plan) node)
+child_found plan node (as_content ContentKind.Err) i = option_map (λ (sides : NodeId × NodeId). sides.1) (by_id plan (result_sides plan) node)
+child_found plan node (as_content ContentKind.Pointer) i = by_id plan (pointer_pointee plan) node
+child_found plan node (as_items ItemsKind.List) i = by_id plan (list_item plan) node
+child_found plan node (as_items ItemsKind.Slice) i = slice_item_found plan node
+child_found plan node (as_items ItemsKind.ClosedSlice) i = slice_item_found plan node
+child_found plan node (as_items ItemsKind.Set) i = by_id plan (set_item plan) node
+child_found plan node (as_entries (EntriesKind.Map base)) i = entry_found plan node (is_key i)
+child_found plan node (as_items ItemsKind.Array) i = Some node
+child_found plan node (as_entries (EntriesKind.Object keys)) i = Some node
 
 -- the same (node 0 where there is none)
-abbrev pub child_node : Plan → NodeId → Form → ℕ → NodeId
-child_node plan node form i = unwrap_or (child_found plan node form i) (record { 0 = 0 })
+abbrev pub child_node : Plan → NodeId → Tracker → ℕ → NodeId
+child_node plan node tracker i = unwrap_or (child_found plan node tracker i) (record { 0 = 0 })
 
 -- a place that is begun so may have so many children: with a content, a side or a pointee but one
-abbrev pub MayHave : Form → ℕ → Type 0
-MayHave as_struct count = Unit {0}
-MayHave as_array count = Unit {0}
-MayHave (as_variant k) count = Unit {0}
-MayHave as_some count = count ≤ 1
-MayHave as_ok count = count ≤ 1
-MayHave as_err count = count ≤ 1
-MayHave as_pointer count = count ≤ 1
-MayHave as_list count = Unit {0}
-MayHave as_slice count = Unit {0}
-MayHave as_closed_slice count = Unit {0}
-MayHave as_set count = Unit {0}
-MayHave (as_map base) count = Unit {0}
-MayHave as_dyn_array count = Unit {0}
-MayHave (as_dyn_object keys) count = Unit {0}
+abbrev pub MayHave : Tracker → ℕ → Type 0
+MayHave (as_fields selected) count = Unit {0}
+MayHave as_elements count = Unit {0}
+MayHave (as_content kind) count = count ≤ 1
+MayHave (as_items kind) count = Unit {0}
+MayHave (as_entries kind) count = Unit {0}
 
 abbrev pub child_owner : (slot : ℕ) → ℕ → FrameOwner
 child_owner slot i = FrameOwner.Child (record { 0 = slot }) i
@@ -159,14 +151,14 @@ abbrev mutual
   pub HoldsIn : Plan → Heap → NodeId → (slot : ℕ) → ℕ → Plot → Type 0
   HoldsIn plan heap node slot depth entered_plot = Unit {0}
   HoldsIn plan heap node slot depth (whole_plot v) = Unit {0}
-  HoldsIn plan heap node slot depth (begun_plot form kids) = HoldsAll plan heap node slot form 0 depth kids
+  HoldsIn plan heap node slot depth (begun_plot tracker kids) = HoldsAll plan heap node slot tracker 0 depth kids
 
   -- children from number i on, so many in all that there may be
-  pub HoldsAll : Plan → Heap → NodeId → (slot : ℕ) → Form → (i : ℕ) → ℕ → Kids → Type 0
-  HoldsAll plan heap node slot form i depth no_kids = MayHave form i
-  HoldsAll plan heap node slot form i depth (kid k ks) =
-      Holds plan heap (child_node plan node form i) (child_owner slot i) depth k
-      × HoldsAll plan heap node slot form (suc i) depth ks
+  pub HoldsAll : Plan → Heap → NodeId → (slot : ℕ) → Tracker → (i : ℕ) → ℕ → Kids → Type 0
+  HoldsAll plan heap node slot tracker i depth no_kids = MayHave tracker i
+  HoldsAll plan heap node slot tracker i depth (kid k ks) =
+      Holds plan heap (child_node plan node tracker i) (child_owner slot i) depth k
+      × HoldsAll plan heap node slot tracker (suc i) depth ks
 
 -- How often a token stands in it, and a slot serves in it.
 abbrev mutual
@@ -178,7 +170,7 @@ abbrev mutual
   pub plot_occurs : Plot → ℕ → ℕ
   plot_occurs entered_plot t = 0
   plot_occurs (whole_plot v) t = occurs v t
-  plot_occurs (begun_plot form kids) t = kids_occur kids t
+  plot_occurs (begun_plot tracker kids) t = kids_occur kids t
 
   pub kids_occur : Kids → ℕ → ℕ
   kids_occur no_kids t = 0
@@ -195,21 +187,17 @@ IsThere (at slot stored plot) = ⊥
 
 -- child i of a place that is begun so isn't stored, where it is an item of a set or a part of a dynamic value; the key and the value of
 -- an entry that a map had when it was begun are there
-abbrev pub IsLeftRightly : Form → (i : ℕ) → Kid → Type 0
-IsLeftRightly as_set i k = is_stored k ≡ false
-IsLeftRightly (as_map base) i k = entry_of i < base → IsThere k
-IsLeftRightly as_dyn_array i k = is_stored k ≡ false
-IsLeftRightly (as_dyn_object keys) i k = is_stored k ≡ false
-IsLeftRightly as_struct i k = Unit {0}
-IsLeftRightly as_array i k = Unit {0}
-IsLeftRightly (as_variant number) i k = Unit {0}
-IsLeftRightly as_some i k = Unit {0}
-IsLeftRightly as_ok i k = Unit {0}
-IsLeftRightly as_err i k = Unit {0}
-IsLeftRightly as_pointer i k = Unit {0}
-IsLeftRightly as_list i k = Unit {0}
-IsLeftRightly as_slice i k = Unit {0}
-IsLeftRightly as_closed_slice i k = Unit {0}
+abbrev pub IsLeftRightly : Tracker → (i : ℕ) → Kid → Type 0
+IsLeftRightly (as_items ItemsKind.Set) i k = is_stored k ≡ false
+IsLeftRightly (as_entries (EntriesKind.Map base)) i k = entry_of i < base → IsThere k
+IsLeftRightly (as_items ItemsKind.Array) i k = is_stored k ≡ false
+IsLeftRightly (as_entries (EntriesKind.Object keys)) i k = is_stored k ≡ false
+IsLeftRightly (as_fields selected) i k = Unit {0}
+IsLeftRightly as_elements i k = Unit {0}
+IsLeftRightly (as_content kind) i k = Unit {0}
+IsLeftRightly (as_items ItemsKind.List) i k = Unit {0}
+IsLeftRightly (as_items ItemsKind.Slice) i k = Unit {0}
+IsLeftRightly (as_items ItemsKind.ClosedSlice) i k = Unit {0}
 
 -- and so it is of all that lies in it
 abbrev mutual
@@ -221,9 +209,9 @@ abbrev mutual
   pub AreLeftIn : Plot → Type 0
   AreLeftIn entered_plot = Unit {0}
   AreLeftIn (whole_plot v) = Unit {0}
-  AreLeftIn (begun_plot form kids) = AreLeftAll form 0 kids
+  AreLeftIn (begun_plot tracker kids) = AreLeftAll tracker 0 kids
 
   -- children from number i on, of which a map has at least those of its base
-  pub AreLeftAll : Form → (i : ℕ) → Kids → Type 0
-  AreLeftAll form i no_kids = base_of_form form ≤ entry_of i
-  AreLeftAll form i (kid k ks) = IsLeftRightly form i k × AreLeftRightly k × AreLeftAll form (suc i) ks
+  pub AreLeftAll : Tracker → (i : ℕ) → Kids → Type 0
+  AreLeftAll tracker i no_kids = base_of_tracker tracker ≤ entry_of i
+  AreLeftAll tracker i (kid k ks) = IsLeftRightly tracker i k × AreLeftRightly k × AreLeftAll tracker (suc i) ks

@@ -3,10 +3,12 @@ pub mod Cells
 pub mod Changes
 pub mod ChildIndex
 pub mod Closed
+pub mod Common
 pub mod Completing
 pub mod Defaults
 pub mod FieldDefaults
 pub mod Filling
+pub mod Growing
 pub mod Heap
 pub mod Indexing
 pub mod Items

@@ -20,24 +20,24 @@ counted false cells = refl
 pub outline_count : (body : Body) → count_cells (outline body) ≡ count_cells body
 outline_count entered_body = refl
 outline_count (whole_body v) = refl
-outline_count (begun_body form cells) = counted (has_items form) cells
+outline_count (begun_body tracker cells) = counted (has_items tracker) cells
 
 pub outline_list : (body : Body) → is_list_body (outline body) ≡ is_list_body body
 outline_list entered_body = refl
 outline_list (whole_body v) = refl
-outline_list (begun_body form cells) = refl
+outline_list (begun_body tracker cells) = refl
 
 pub outline_begun : (body : Body) → is_begun_body (outline body) ≡ is_begun_body body
 outline_begun entered_body = refl
 outline_begun (whole_body v) = refl
-outline_begun (begun_body form cells) = refl
+outline_begun (begun_body tracker cells) = refl
 
 -- what is no list is its own outline
 pub outline_plain : (body : Body) → is_list_body body ≡ false → outline body ≡ body
 outline_plain entered_body plain = refl
 outline_plain (whole_body v) plain = refl
-outline_plain (begun_body form cells) plain =
-    ap (λ (items : Bool). begun_body form (if items then replicate (length cells) absent else cells)) plain
+outline_plain (begun_body tracker cells) plain =
+    ap (λ (items : Bool). begun_body tracker (if items then replicate (length cells) absent else cells)) plain
 
 -- Trees.
 
@@ -46,7 +46,7 @@ abbrev pub outlined_tree : Tree → Tree
 outlined_tree hole = hole
 outlined_tree entered = entered
 outlined_tree (whole v) = whole v
-outlined_tree (begun form children) = begun form (if has_items form then holes (count_trees children) else children)
+outlined_tree (begun tracker children) = begun tracker (if has_items tracker then holes (count_trees children) else children)
 
 trees_of_none : (cells : List Cell) → trees_of (replicate (length cells) absent) ≡ holes (count_trees (trees_of cells))
 trees_of_none [] = refl
@@ -55,7 +55,7 @@ trees_of_none (c ∷ cells) = ap (branch hole) (trees_of_none cells)
 pub outline_tree : (body : Body) → own_tree (outline body) ≡ outlined_tree (own_tree body)
 outline_tree entered_body = refl
 outline_tree (whole_body v) = refl
-outline_tree (begun_body form cells) = ap (begun form) (go (has_items form))
+outline_tree (begun_body tracker cells) = ap (begun tracker) (go (has_items tracker))
   where
     go : (items : Bool) → trees_of (if items then replicate (length cells) absent else cells)
         ≡ (if items then holes (count_trees (trees_of cells)) else trees_of cells)

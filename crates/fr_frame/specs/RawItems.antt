@@ -36,13 +36,13 @@ pub record IsTakenOf (before after : Slot) (piece : Piece) : Type 0 where
 abbrev pub with_room : Piece → Piece
 with_room Piece.Entered = Piece.Entered
 with_room (Piece.Whole v) = Piece.Whole v
-with_room (Piece.Begun form children) = Piece.Begun form (children ++ absent ∷ [])
+with_room (Piece.Begun tracker children) = Piece.Begun tracker (children ++ absent ∷ [])
 with_room (Piece.Object keys children) = Piece.Object keys (children ++ absent ∷ [])
 
 abbrev pub piece_with_placed : (slot : ℕ) → Piece → Piece
 piece_with_placed slot Piece.Entered = Piece.Entered
 piece_with_placed slot (Piece.Whole v) = Piece.Whole v
-piece_with_placed slot (Piece.Begun form children) = Piece.Begun form (children ++ placed slot ∷ [])
+piece_with_placed slot (Piece.Begun tracker children) = Piece.Begun tracker (children ++ placed slot ∷ [])
 piece_with_placed slot (Piece.Object keys children) = Piece.Object keys (children ++ placed slot ∷ [])
 
 -- contracts see in the slot a place with one more child, which is in slot m
@@ -61,7 +61,7 @@ pub record IsAddedIn (m : ℕ) (before after : Slot) : Type 0 where
 abbrev pub HasRoomIn : List SlotId → Piece → Type 0
 HasRoomIn items Piece.Entered = ⊥
 HasRoomIn items (Piece.Whole v) = ⊥
-HasRoomIn items (Piece.Begun form children) = length items ≤ length children
+HasRoomIn items (Piece.Begun tracker children) = length items ≤ length children
 HasRoomIn items (Piece.Object keys children) = ⊥
 
 -- a list or a pointer to a slice is in the slot

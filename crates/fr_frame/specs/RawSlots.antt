@@ -3,13 +3,13 @@ use Rattle.std.specs.Prelude.{◌≡◌, ℕ, Bool, true, false, ◌&&◌, List,
 use Rattle.std.specs.declared.alloc.Global.{Global}
 use Rattle.std.specs.declared.boxed.Box.{Box}
 use Rattle.fr_arena.specs.Ropes.{Rope}
-use Rattle.fr_frame.specs.declared.places.Form.{Form}
+use Rattle.fr_frame.specs.declared.places.Tracker.{Tracker}
 use Rattle.fr_frame.specs.declared.places.Piece.{Piece}
 use Rattle.fr_frame.specs.declared.places.Place.{Place}
 use Rattle.fr_frame.specs.declared.places.Slot.{Slot}
 use Rattle.fr_frame.specs.declared.places.SlotId.{SlotId}
 use Rattle.fr_frame.specs.Bodies.{Body, entered_body, whole_body, begun_body, reformed}
-use Rattle.fr_frame.specs.Heap.{as_form, body_of}
+use Rattle.fr_frame.specs.Heap.{as_tracker, body_of}
 use Rattle.fr_frame.specs.Items.{Held, children_with, keeps_items}
 use Rattle.fr_frame.specs.Outlines.{has_items, is_list_body}
 
@@ -25,26 +25,26 @@ with_stored stored (Slot.Item item) = Slot.Item item
 abbrev pub body_with : Held → (n : ℕ) → (items : List SlotId) → Body → Body
 body_with held n items entered_body = entered_body
 body_with held n items (whole_body v) = whole_body v
-body_with held n items (begun_body form cells) = begun_body form (if has_items form then children_with held n cells items else cells)
+body_with held n items (begun_body tracker cells) = begun_body tracker (if has_items tracker then children_with held n cells items else cells)
 
 -- a list in its slot, with its items in others, is begun so instead, where they may stay
-pub record IsReformed (form : Form) (before after : Slot) : Type 0 where
+pub record IsReformed (tracker : Tracker) (before after : Slot) : Type 0 where
   pub place : Place
   pub items : Box (Rope SlotId) Global
   pub was : before ≡ Slot.List place items
   pub list : is_list_body (body_of place.piece) ≡ true
-  pub keeps : keeps_items form ≡ true
+  pub keeps : keeps_items tracker ≡ true
   pub piece : Piece
-  pub body : body_of piece ≡ reformed (as_form form) (body_of place.piece)
+  pub body : body_of piece ≡ reformed (as_tracker tracker) (body_of place.piece)
   pub now : after ≡ Slot.List (record place { piece = piece }) items
 
 -- a list in its slot, with its items in others, may leave them there where it is begun so instead
-abbrev pub stays_list : (form : Form) → Slot → Bool
-stays_list form (Slot.Free next) = false
-stays_list form Slot.Reserved = false
-stays_list form (Slot.Used place) = false
-stays_list form (Slot.List place items) = keeps_items form && is_list_body (body_of place.piece)
-stays_list form (Slot.Item item) = false
+abbrev pub stays_list : (tracker : Tracker) → Slot → Bool
+stays_list tracker (Slot.Free next) = false
+stays_list tracker Slot.Reserved = false
+stays_list tracker (Slot.Used place) = false
+stays_list tracker (Slot.List place items) = keeps_items tracker && is_list_body (body_of place.piece)
+stays_list tracker (Slot.Item item) = false
 
 -- the slot is free
 abbrev pub IsFree : Slot → Type 0

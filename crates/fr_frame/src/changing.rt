@@ -1,16 +1,11 @@
 //! Changing what was put at a place that stays in its slot.
-ghost use Rattle.std.specs.Prelude.{◌≡◌, ℕ, ◌+◌, OnOk, OnErr, Some};
-ghost use Rattle.fr_shape.specs.Released.{Room, RoseBy};
-ghost use Rattle.fr_shape.specs.Tokens.{occurs};
-ghost use Rattle.fr_shape.specs.View.{view};
-ghost use Rattle.fr_frame.specs.Bodies.{body_occurs, cell_at, opened, opened_some, restarted, whole_body, with_cell, HoldsSome, MayOpen};
-ghost use Rattle.fr_frame.specs.Cells.{absent, given};
-ghost use Rattle.fr_frame.specs.Changes.{IfInUse, IsInUse, SameTokens, Shows};
-ghost use Rattle.fr_frame.specs.Heap.{as_form, heap_of, slots_occur, with_body};
+ghost use Rattle.std.specs.Prelude.{◌+◌, ◌≡◌};
+ghost use Rattle.fr_frame.specs.Common.{IfInUse, IsInUse, OnErr, OnOk, Room, RoseBy, SameTokens, Shows, Some, absent, as_tracker, body_occurs, cell_at, given, heap_of, occurs, opened, opened_some, restarted, slots_occur, view, whole_body, with_body, with_cell, ℕ};
+ghost use Rattle.fr_frame.specs.Bodies.{HoldsSome, MayOpen};
 
 use crate::children::Children;
 use crate::pieces::{open, open_some, put_child, release_piece};
-use crate::places::{Form, Piece, SlotId};
+use crate::places::{Piece, SlotId, Tracker};
 use crate::slots::Slots;
 use fr_shape::{Ledger, OutOfMemory, Value};
 
@@ -35,11 +30,11 @@ impl SlotId {
 
     /// Begins the place, so that its children can be entered: an entered one has none of so many
     /// children yet, of a whole one each has its part of the value, a begun one stays as it is.
-    pub fn begin(self, slots: &mut Slots, form: Form, count: usize) -> Result<(), OutOfMemory>
+    pub fn begin(self, slots: &mut Slots, tracker: Tracker, count: usize) -> Result<(), OutOfMemory>
         requires in_use { IsInUse slots.old self.0 }
-        requires may_open { IfInUse slots.old self.0 (λ at. MayOpen (as_form form) at.body) }
+        requires may_open { IfInUse slots.old self.0 (λ at. MayOpen (as_tracker tracker) at.body) }
         ensures begun { OnOk result (Shows slots.new
-            (with_body (heap_of slots.old) self.0 (opened (as_form form) count))) }
+            (with_body (heap_of slots.old) self.0 (opened (as_tracker tracker) count))) }
         ensures refused { OnErr result (Shows slots.new (heap_of slots.old)) }
         ensures tokens { SameTokens slots.old slots.new }
     {
@@ -48,7 +43,7 @@ impl SlotId {
         }
         let alloc = slots.alloc();
         let place = slots.place_mut(self);
-        open(alloc, &mut place.piece, form, count)
+        open(alloc, &mut place.piece, tracker, count)
     }
 
     /// Begins a whole `Some` as an option around its content, so that this can be entered in place.
@@ -71,14 +66,14 @@ impl SlotId {
     pub fn restart(
         self,
         slots: &mut Slots,
-        form: Form,
+        tracker: Tracker,
         count: usize,
         ledger: &mut Ledger,
     ) -> Result<(), OutOfMemory>
         requires in_use { IsInUse slots.old self.0 }
         requires room { IfInUse slots.old self.0 (λ at. Room (body_occurs at.body) ledger.old) }
         ensures restarted { OnOk result (Shows slots.new
-            (with_body (heap_of slots.old) self.0 (restarted (as_form form) count))) }
+            (with_body (heap_of slots.old) self.0 (restarted (as_tracker tracker) count))) }
         ensures released { OnOk result (IfInUse slots.old self.0 (λ at.
             RoseBy (body_occurs at.body) ledger.old ledger.new)) }
         ensures tokens { OnOk result (IfInUse slots.old self.0 (λ at. (t : ℕ) →
@@ -88,7 +83,7 @@ impl SlotId {
     {
         let children = Children::none_yet(slots.alloc(), count)?;
         let place = slots.place_mut(self);
-        let was = std::mem::replace(&mut place.piece, Piece::Begun(form, children));
+        let was = std::mem::replace(&mut place.piece, Piece::Begun(tracker, children));
         release_piece(was, ledger);
         Ok(())
     }

@@ -1,15 +1,9 @@
 //! The children of a begun place.
-ghost use Rattle.std.specs.Prelude.{◌≡◌, ℕ, suc, ◌+◌, ◌<◌, ◌≤◌, ◌↔◌, ◌++◌, ◌∷◌, [], length, map, replicate, slice_get, slice_set, IfOk, IfErr, IfSome, IfNone, IsSome, OnErr, OnOk, drop, is_some, List, Some, true};
+ghost use Rattle.fr_frame.specs.Common.{All, Cell, Conserved, IfErr, IfNone, IfOk, IfSome, IsIndexed, IsSome, List, OnErr, OnOk, Room, Some, [], and_item_cell, cells_occur, has_same_cell, in_slot, is_same_cell, is_some, length, occurs, option_copied, option_map, slice_get, slice_set, slot_of_cell, true, unit, vals_view, view, without_cell, ℕ};
+ghost use Rattle.std.specs.Prelude.{suc, map, replicate, drop, ◌++◌, ◌+◌, ◌<◌, ◌↔◌, ◌∷◌, ◌≡◌, ◌≤◌};
 ghost use Rattle.std.specs.FinSet as set;
-ghost use Rattle.std.specs.List.{All};
-ghost use Rattle.std.specs.Option.{option_map, option_copied};
-ghost use Rattle.fr_shape.specs.Released.{Conserved, Room};
-ghost use Rattle.fr_shape.specs.Tokens.{occurs};
-ghost use Rattle.fr_shape.specs.Val.{token, unit};
-ghost use Rattle.fr_shape.specs.View.{view, vals_view};
-ghost use Rattle.fr_frame.specs.Bodies.{and_item_cell, has_same_cell, is_same_cell, without_cell};
-ghost use Rattle.fr_frame.specs.Cells.{Cell, cells_occur, in_slot, slot_of_cell, swapped, HasNumbers};
-ghost use Rattle.fr_frame.specs.ChildIndex.{IsIndexed};
+ghost use Rattle.fr_shape.specs.Val.{token};
+ghost use Rattle.fr_frame.specs.Cells.{swapped, HasNumbers};
 ghost use Rattle.fr_frame.specs.declared.places.SlotId.{SlotId as Number};
 
 use crate::places::SlotId;

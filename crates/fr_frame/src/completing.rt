@@ -1,15 +1,8 @@
 //! Completing one place by itself: what it lacks is found first, and then its holes take copies of
 //! their templates.
-ghost use Rattle.std.specs.Prelude.{◌≡◌, ◌≢◌, ◌⊎◌, ℕ, ◌<◌, length, IfErr, OnOk};
-ghost use Rattle.fr_shape.specs.Checked.{IsChecked};
+ghost use Rattle.std.specs.Prelude.{◌<◌, ◌≡◌, ◌≢◌, ◌⊎◌};
+ghost use Rattle.fr_frame.specs.Common.{FillsAt, IfErr, IfInUse, IsChecked, IsClosed, IsClosedAt, IsFilled, IsFull, IsInUse, IsPlanFor, KeepsTracker, MayComplete, OnOk, SameTokens, Shows, WhyNot, body_occurs, body_of, heap_of, length, shape_of, strict_column, ℕ};
 ghost use Rattle.fr_shape.specs.declared.error.ReflectErrorKind.{ReflectErrorKind as Kind};
-ghost use Rattle.fr_model.specs.Places.{strict_column};
-ghost use Rattle.fr_frame.specs.Bodies.{body_occurs, IsClosed};
-ghost use Rattle.fr_frame.specs.Changes.{IfInUse, IsInUse, SameTokens, Shows};
-ghost use Rattle.fr_frame.specs.Closed.{IsClosedAt};
-ghost use Rattle.fr_frame.specs.Completing.{shape_of, FillsAt, IsFilled, IsFull, IsPlanFor, MayComplete, WhyNot};
-ghost use Rattle.fr_frame.specs.Defaults.{KeepsForm};
-ghost use Rattle.fr_frame.specs.Heap.{body_of, heap_of};
 
 use crate::filling::fill;
 use crate::lacking::test_piece;
@@ -37,7 +30,7 @@ pub(crate) fn fill_piece<H: Hooks>(
     requires closed { IsClosed (body_of piece.old) }
     ensures filled { OnOk result (IsFilled strict_column (H.means hooks.now) table.now
         (shape_of plan.now node) (body_of piece.old) (body_of piece.new)) }
-    ensures form { OnOk result (KeepsForm (body_of piece.old) (body_of piece.new)) }
+    ensures tracker { OnOk result (KeepsTracker (body_of piece.old) (body_of piece.new)) }
     ensures why { IfErr result (WhyNot (H.means hooks.now) table.now (shape_of plan.now node)
         (body_of piece.old)) }
     ensures kept { IfErr result (λ kind. (kind ≡ Kind.OutOfMemory)
@@ -71,8 +64,8 @@ impl SlotId {
         requires place { IfInUse slots.old self.0 (MayComplete table.now plan.now) }
         ensures filled { OnOk result (IfInUse slots.old self.0 (FillsAt strict_column
             (H.means hooks.now) table.now plan.now slots.old slots.new self.0)) }
-        ensures form { OnOk result (IfInUse slots.old self.0 (λ at.
-            IfInUse slots.new self.0 (λ after. KeepsForm at.body after.body))) }
+        ensures tracker { OnOk result (IfInUse slots.old self.0 (λ at.
+            IfInUse slots.new self.0 (λ after. KeepsTracker at.body after.body))) }
         ensures why { IfErr result (λ kind. IfInUse slots.old self.0 (λ at.
             WhyNot (H.means hooks.now) table.now (shape_of plan.now at.node) at.body kind)) }
         ensures unchanged { IfErr result (λ kind. (kind ≡ Kind.OutOfMemory)

@@ -1,11 +1,9 @@
 //! A value as a key: keys are equal where the values are `same`.
-ghost use Rattle.std.specs.Prelude.{Some, refl};
+ghost use Rattle.fr_frame.specs.Common.{Some, compare, same, same_tied, view};
+ghost use Rattle.std.specs.Prelude.{refl};
 ghost use Rattle.std.specs.Cmp.{partial_equiv_from_equiv, on_equiv, on_po, on_total};
-ghost use Rattle.fr_shape.specs.View.{view};
-ghost use Rattle.fr_shape.specs.Same.{same};
-ghost use Rattle.fr_shape.specs.Compare.{compare};
 ghost use Rattle.fr_shape.specs.CompareLaws.{compare_total};
-ghost use Rattle.fr_shape.specs.CompareSame.{same_tied, same_equivalence, same_order};
+ghost use Rattle.fr_shape.specs.CompareSame.{same_equivalence, same_order};
 
 use fr_shape::{Value, compare, same};
 use std::cmp::Ordering;

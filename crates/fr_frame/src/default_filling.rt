@@ -1,24 +1,12 @@
 //! Filling the holes of a place by the rules of the end of deferred mode.
-ghost use Rattle.std.specs.Prelude.{◌≡◌, ◌⊎◌, ℕ, ◌<◌, length, true, None, Some, IfErr, IfOk, IsSome, OnErr, OnOk};
-ghost use Rattle.fr_shape.specs.Checked.{IsChecked};
-ghost use Rattle.fr_shape.specs.Look.{def_of, field_at};
+ghost use Rattle.std.specs.Prelude.{◌<◌, ◌≡◌, ◌⊎◌};
+ghost use Rattle.fr_frame.specs.Common.{AreUnplaced, IfErr, IfOk, IsChecked, IsClosed, IsFull, IsFullAs, IsPlanFor, IsSome, None, OnErr, OnOk, Some, as_fields, body_occurs, body_of, cells_occur, child_count, def_of, defaulted, defaulted_cells, defaulted_nth, defaulted_struct, deferred_column, entered_body, field_at, first_unmet, hole_takes, holes, length, shape_of, takes_template, trees_of, true, unmet, values_of, ℕ};
 ghost use Rattle.fr_shape.specs.declared.error.ReflectErrorKind.{ReflectErrorKind as Kind};
-ghost use Rattle.fr_model.specs.Complete.{hole_takes};
-ghost use Rattle.fr_model.specs.Failing.{first_unmet};
-ghost use Rattle.fr_model.specs.Places.{child_count, deferred_column};
-ghost use Rattle.fr_model.specs.Tree.{as_struct, holes};
-ghost use Rattle.fr_model.specs.Well.{IsFullAs};
-ghost use Rattle.fr_frame.specs.Bodies.{as_fields, body_occurs, entered_body, trees_of, AreUnplaced, IsClosed};
-ghost use Rattle.fr_frame.specs.Cells.{cells_occur, values_of};
-ghost use Rattle.fr_frame.specs.Completing.{shape_of, takes_template, IsFull, IsPlanFor};
-ghost use Rattle.fr_frame.specs.Defaults.{defaulted, defaulted_cells, defaulted_struct, unmet};
-ghost use Rattle.fr_frame.specs.FieldDefaults.{defaulted_nth};
-ghost use Rattle.fr_frame.specs.Heap.{body_of};
 
 use crate::children::Children;
 use crate::field_defaults::{copy_default, test_child_mark};
 use crate::field_plans::plans_of_fields;
-use crate::places::{Form, Parts, Piece};
+use crate::places::{Piece, Tracker};
 use fr_plan::{FieldPlan, NodeId, TypePlanCore};
 use fr_shape::{Def, OutOfMemory, ReflectErrorKind, ShapeTable, Value, clone_template};
 use std::alloc::Global;
@@ -151,20 +139,20 @@ fn default_of_holes(
     requires checked { IsChecked table.now }
     requires planned { IsPlanFor table.now plan.now }
     requires inside { node.0 < length plan.now.nodes }
-    requires full { IsFullAs (def_of table.now (shape_of plan.now node)) as_struct count }
+    requires full { IsFullAs (def_of table.now (shape_of plan.now node)) (as_fields None) count }
     ensures filled { IfOk result (λ made.
         body_of made ≡ defaulted_struct table.now (shape_of plan.now node)) }
-    ensures met { OnOk result (first_unmet table.now (shape_of plan.now node) as_struct 0
+    ensures met { OnOk result (first_unmet table.now (shape_of plan.now node) (as_fields None) 0
         (holes (child_count table.now (shape_of plan.now node))) ≡ None) }
     ensures why { IfErr result (λ kind. (kind ≡ Kind.OutOfMemory)
-        ⊎ (first_unmet table.now (shape_of plan.now node) as_struct 0
+        ⊎ (first_unmet table.now (shape_of plan.now node) (as_fields None) 0
         (holes (child_count table.now (shape_of plan.now node))) ≡ Some kind)) }
 {
     let Ok(mut children) = Children::none_yet(alloc, count) else {
         return Err(ReflectErrorKind::OutOfMemory);
     };
     default_fields(alloc, table, plan, node, None, &mut children)?;
-    Ok(Piece::Begun(Form::Struct, children))
+    Ok(Piece::Begun(Tracker::Fields(None), children))
 }
 
 /// What becomes of a place that was only entered.
@@ -236,9 +224,9 @@ pub(crate) fn default_piece(
             Ok(())
         }
         Piece::Whole(_) => Ok(()),
-        Piece::Begun(form, children) => match form.parts() {
-            Parts::Fields(selected) => default_fields(alloc, table, plan, node, selected, children),
-            Parts::Others => Ok(()),
+        Piece::Begun(tracker, children) => match tracker.fields() {
+            Some(selected) => default_fields(alloc, table, plan, node, selected, children),
+            None => Ok(()),
         },
         Piece::Object(..) => Ok(()),
     }

@@ -1,18 +1,8 @@
 //! Completing one place by the rules of the end of deferred mode: its holes take their fills, then
 //! none may be left, then its fields' validators run.
-ghost use Rattle.std.specs.Prelude.{◌≡◌, ◌≢◌, ◌⊎◌, ℕ, None, Some, true, IfErr, OnOk};
-ghost use Rattle.fr_shape.specs.Checked.{IsChecked};
-ghost use Rattle.fr_shape.specs.Look.{Table};
+ghost use Rattle.std.specs.Prelude.{◌≡◌, ◌≢◌, ◌⊎◌};
+ghost use Rattle.fr_frame.specs.Common.{Becomes, FillsAt, HasAllChildren, IfErr, IfInUse, IsCauseOf, IsChecked, IsClosedAt, IsInUse, IsPlanFor, IsPlanned, KeepsTracker, MayComplete, None, OnOk, SameTokens, Shows, Some, Table, WhyNotDefault, defaulted, deferred_column, heap_of, invalid, left_out, shape_of, takes_template, true, unmet, ℕ};
 ghost use Rattle.fr_shape.specs.declared.error.ReflectErrorKind.{ReflectErrorKind as Kind};
-ghost use Rattle.fr_model.specs.Places.{deferred_column};
-ghost use Rattle.fr_frame.specs.Bodies.{HasAllChildren};
-ghost use Rattle.fr_frame.specs.Changes.{Becomes, IfInUse, IsInUse, SameTokens, Shows};
-ghost use Rattle.fr_frame.specs.Closed.{IsClosedAt};
-ghost use Rattle.fr_frame.specs.Completing.{shape_of, takes_template, FillsAt, IsPlanFor, MayComplete};
-ghost use Rattle.fr_frame.specs.Defaults.{defaulted, invalid, left_out, unmet, KeepsForm, WhyNotDefault};
-ghost use Rattle.fr_frame.specs.FieldDefaults.{IsPlanned};
-ghost use Rattle.fr_frame.specs.Filling.{IsCauseOf};
-ghost use Rattle.fr_frame.specs.Heap.{heap_of};
 
 use crate::default_filling::default_piece;
 use crate::leftovers::test_full;
@@ -131,8 +121,8 @@ impl SlotId {
         requires place { IfInUse slots.old self.0 (MayComplete table.now plan.now) }
         ensures filled { OnOk result (IfInUse slots.old self.0 (FillsAt deferred_column
             (H.means hooks.now) table.now plan.now slots.old slots.new self.0)) }
-        ensures form { OnOk result (IfInUse slots.old self.0 (λ at.
-            IfInUse slots.new self.0 (λ after. KeepsForm at.body after.body))) }
+        ensures tracker { OnOk result (IfInUse slots.old self.0 (λ at.
+            IfInUse slots.new self.0 (λ after. KeepsTracker at.body after.body))) }
         ensures why { IfErr result (λ kind. IfInUse slots.old self.0 (λ at.
             WhyNotDefault (H.means hooks.now) table.now (shape_of plan.now at.node) at.body kind)) }
         ensures others { (n : ℕ) → n ≢ self.0 → heap_of slots.new n ≡ heap_of slots.old n }

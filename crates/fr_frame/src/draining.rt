@@ -1,11 +1,10 @@
 //! Lists whose items lie in slots of their own: all items go into their list, behind its base.
-ghost use Rattle.std.specs.Prelude.{◌≡◌, ◌≢◌, ◌⊎◌, ◌<◌, ℕ, true, false, length, slice_get, slice_set, is_some, IfNone, IfSome};
-ghost use Rattle.std.specs.Option.{option_map};
-ghost use Rattle.fr_shape.specs.View.{view};
-ghost use Rattle.fr_frame.specs.Items.{children_with, is_list_at, item_cell, items_of, piece_with, slots_seen, value_held, FreesItem, FreesItems, IsItemFreed, IsListAt, IsPlainAt, IsUsedAt};
+ghost use Rattle.std.specs.Prelude.{◌<◌, ◌≡◌, ◌≢◌, ◌⊎◌};
+ghost use Rattle.fr_frame.specs.Common.{FreesItem, FreesItems, IfNone, IfSome, IsPlainAt, IsUsedAt, children_with, false, is_some, item_cell, items_of, length, option_map, piece_with, slice_get, slice_set, slots_seen, true, value_held, view, ℕ};
+ghost use Rattle.fr_frame.specs.Items.{is_list_at, IsItemFreed, IsListAt};
 
 use crate::children::Children;
-use crate::places::{Form, Piece, Slot, SlotId};
+use crate::places::{ItemsKind, Piece, Slot, SlotId, Tracker};
 use fr_arena::{Arena, ListRope};
 use fr_shape::Value;
 
@@ -109,9 +108,12 @@ fn put_items_in(
     ensures freed { FreesItems list.0 entries.old entries.new }
 {
     match piece {
-        Piece::Begun(Form::List | Form::Slice | Form::ClosedSlice, children) => {
-            put_items(entries, free, list, items, children)
-        }
+        Piece::Begun(
+            Tracker::Items(ItemsKind::List)
+            | Tracker::Items(ItemsKind::Slice)
+            | Tracker::Items(ItemsKind::ClosedSlice),
+            children,
+        ) => { put_items(entries, free, list, items, children) }
         Piece::Entered | Piece::Whole(_) | Piece::Object(..) | Piece::Begun(..) => {}
     }
 }

@@ -1,15 +1,12 @@
 //! What is put at one place as a dynamic value.
-ghost use Rattle.std.specs.Prelude.{◌≡◌, ℕ, [], ◌∷◌, ◌++◌, true, None, OnErr, OnOk};
-ghost use Rattle.fr_model.specs.DynamicPlaces.{entry_found};
-ghost use Rattle.fr_model.specs.Dynamics.{keys_apart};
-ghost use Rattle.fr_frame.specs.Bodies.{body_occurs, keys_in, opened_array, opened_object, with_entry_for, HoldsArray, HoldsObject, IsObjectBody};
-ghost use Rattle.fr_frame.specs.Cells.{absent};
-ghost use Rattle.fr_frame.specs.Heap.{body_of};
+ghost use Rattle.std.specs.Prelude.{◌++◌, ◌∷◌, ◌≡◌};
+ghost use Rattle.fr_frame.specs.Common.{None, OnErr, OnOk, [], absent, body_occurs, body_of, entry_found, keys_apart, keys_in, opened_array, opened_object, true, with_entry_for, ℕ};
+ghost use Rattle.fr_frame.specs.Bodies.{HoldsArray, HoldsObject, IsObjectBody};
 
 use crate::children::Children;
 use crate::dynamics::{elements_of, members_of};
 use crate::keys::Keys;
-use crate::places::{Form, Piece};
+use crate::places::{ItemsKind, Piece, Tracker};
 use fr_shape::{OutOfMemory, Text};
 use std::alloc::Global;
 
@@ -26,7 +23,7 @@ pub(crate) fn open_array(alloc: Global, piece: &mut Piece) -> Result<(), OutOfMe
         unreachable!()
     };
     let children = elements_of(alloc, value)?;
-    *piece = Piece::Begun(Form::DynArray, children);
+    *piece = Piece::Begun(Tracker::Items(ItemsKind::Array), children);
     Ok(())
 }
 

@@ -1,14 +1,9 @@
 //! Putting dynamic arrays and objects together, and taking them apart.
-ghost use Rattle.std.specs.Prelude.{◌≡◌, [], ◌≤◌, length, replicate, Some, IfErr, IfOk, IsSome, OnErr, vec_capacity};
-ghost use Rattle.std.specs.Option.{option_map};
-ghost use Rattle.fr_shape.specs.Released.{Conserved, Room, RoseBy};
-ghost use Rattle.fr_shape.specs.Tokens.{occurs, vals_occur};
-ghost use Rattle.fr_shape.specs.Val.{dyn, dyn_array, dyn_object};
-ghost use Rattle.fr_shape.specs.View.{view, vals_view, dyn_view, dynamics_view, members_view};
-ghost use Rattle.fr_model.specs.Dynamics.{dynamic_in, dynamics_in, members_in, elements_in, members_of_object, element_vals, member_vals, member_keys};
-ghost use Rattle.fr_frame.specs.Bodies.{cells_of_vals};
-ghost use Rattle.fr_frame.specs.Cells.{absent};
-ghost use Rattle.fr_frame.specs.KeyNames.{names_of};
+ghost use Rattle.fr_frame.specs.Common.{Conserved, IfErr, IfOk, IsSome, OnErr, Room, RoseBy, Some, [], absent, cells_of_vals, dyn, dyn_view, dynamic_in, element_vals, length, member_keys, member_vals, names_of, occurs, option_map, vals_occur, vals_view, view};
+ghost use Rattle.std.specs.Prelude.{replicate, vec_capacity, ◌≡◌, ◌≤◌};
+ghost use Rattle.fr_shape.specs.Val.{dyn_array, dyn_object};
+ghost use Rattle.fr_shape.specs.View.{dynamics_view, members_view};
+ghost use Rattle.fr_model.specs.Dynamics.{dynamics_in, members_in, elements_in, members_of_object};
 
 use crate::children::Children;
 use crate::gathering::append;

@@ -1,15 +1,7 @@
 //! What the holes of a struct or of a variant take by the rules of the end of deferred mode, field
 //! by field.
-ghost use Rattle.std.specs.Prelude.{◌≡◌, None, Some, IfErr, IfOk, IsSome, OnOk};
-ghost use Rattle.std.specs.Option.{option_copied, option_map};
-ghost use Rattle.fr_shape.specs.Checked.{IsChecked};
-ghost use Rattle.fr_shape.specs.Look.{field_at};
-ghost use Rattle.fr_shape.specs.View.{view};
-ghost use Rattle.fr_model.specs.Complete.{hole_takes};
-ghost use Rattle.fr_model.specs.Failing.{unmet_mark};
-ghost use Rattle.fr_model.specs.Places.{deferred_column};
-ghost use Rattle.fr_frame.specs.Bodies.{as_fields};
-ghost use Rattle.fr_frame.specs.FieldDefaults.{unmet_child};
+ghost use Rattle.std.specs.Prelude.{◌≡◌};
+ghost use Rattle.fr_frame.specs.Common.{IfErr, IfOk, IsChecked, IsSome, None, OnOk, Some, as_fields, deferred_column, field_at, hole_takes, option_copied, option_map, unmet_child, unmet_mark, view};
 
 use fr_plan::FieldPlan;
 use fr_rules::{DeferredFill, deferred_fill};

@@ -1,15 +1,7 @@
 //! What a plan says of the fields of a struct or of a variant: what each takes where it is a hole,
 //! and its validators.
-ghost use Rattle.std.specs.Prelude.{◌≡◌, ◌<◌, ℕ, length, slice_get, None, Some, IfOk};
-ghost use Rattle.std.specs.Option.{option_copied};
-ghost use Rattle.fr_shape.specs.Checked.{IsChecked};
-ghost use Rattle.fr_shape.specs.Look.{Table, def_of};
-ghost use Rattle.fr_shape.specs.View.{view};
-ghost use Rattle.fr_plan.specs.Fields.{has_validators};
-ghost use Rattle.fr_rules.specs.FillRules.{fill_told};
-ghost use Rattle.fr_frame.specs.Completing.{shape_of, IsPlanFor};
-ghost use Rattle.fr_frame.specs.FieldDefaults.{HasValidators, IsPlanned};
-ghost use Rattle.fr_frame.specs.Filling.{AreTold, IsLightFill};
+ghost use Rattle.std.specs.Prelude.{◌<◌, ◌≡◌};
+ghost use Rattle.fr_frame.specs.Common.{AreTold, HasValidators, IfOk, IsChecked, IsLightFill, IsPlanFor, IsPlanned, None, Some, Table, def_of, fill_told, has_validators, length, option_copied, shape_of, slice_get, view, ℕ};
 
 use fr_plan::{
     FieldPlan, NodeId, TypePlanCore, VariantPlanMeta, law_plan_complete, law_plan_lookups,

@@ -1,18 +1,11 @@
 //! Filling the holes of a place with copies of their templates.
-ghost use Rattle.std.specs.Prelude.{◌≡◌, ℕ, ◌<◌, length, false, None, IfOk, IsSome, OnErr, OnOk};
-ghost use Rattle.fr_shape.specs.Checked.{IsChecked};
-ghost use Rattle.fr_shape.specs.Look.{def_of};
-ghost use Rattle.fr_model.specs.Well.{IsFullAs};
-ghost use Rattle.fr_frame.specs.Bodies.{as_fields, body_occurs, takes_memory, value_of, AreUnplaced, IsClosed};
-ghost use Rattle.fr_frame.specs.Cells.{cells_occur, values_of};
-ghost use Rattle.fr_frame.specs.Completing.{shape_of, IsFull, IsPlanFor};
-ghost use Rattle.fr_frame.specs.Defaults.{KeepGiven, KeepsForm};
-ghost use Rattle.fr_frame.specs.Filling.{filled, filled_body, filled_entered};
-ghost use Rattle.fr_frame.specs.Heap.{body_of};
+ghost use Rattle.std.specs.Prelude.{◌<◌, ◌≡◌};
+ghost use Rattle.fr_frame.specs.Common.{AreUnplaced, IfOk, IsChecked, IsClosed, IsFull, IsFullAs, IsPlanFor, IsSome, KeepGiven, KeepsTracker, None, OnErr, OnOk, as_fields, body_occurs, body_of, cells_occur, def_of, false, filled, filled_body, length, shape_of, takes_memory, value_of, values_of, ℕ};
+ghost use Rattle.fr_frame.specs.Filling.{filled_entered};
 
 use crate::children::Children;
 use crate::field_plans::{copy_fill, plans_of_fields};
-use crate::places::{Form, Parts, Piece};
+use crate::places::{Piece, Tracker};
 use fr_plan::{NodeId, TypePlanCore};
 use fr_shape::{Def, OutOfMemory, ShapeTable, Value, clone_template};
 use std::alloc::Global;
@@ -81,7 +74,7 @@ fn made_of_entered(
         (Def::Struct(described), None) => {
             let mut children = Children::none_yet(alloc, described.fields.len())?;
             fill_holes(alloc, table, plan, node, None, &mut children)?;
-            Ok(Piece::Begun(Form::Struct, children))
+            Ok(Piece::Begun(Tracker::Fields(None), children))
         }
         (Def::Option(_), None) => unreachable!(),
         (Def::Scalar(_) | Def::Str | Def::Opaque | Def::Dynamic, _) => unreachable!(),
@@ -107,7 +100,7 @@ pub(crate) fn fill(
     requires fills { IsSome (filled_body table.now (shape_of plan.now node) (body_of piece.old)) }
     ensures filled { OnOk result (value_of (body_of piece.new)
         ≡ filled_body table.now (shape_of plan.now node) (body_of piece.old)) }
-    ensures form { OnOk result (KeepsForm (body_of piece.old) (body_of piece.new)) }
+    ensures tracker { OnOk result (KeepsTracker (body_of piece.old) (body_of piece.new)) }
     ensures tokens { (t : ℕ) →
         body_occurs (body_of piece.new) t ≡ body_occurs (body_of piece.old) t }
     ensures full { IsFull table.now (shape_of plan.now node) (body_of piece.new) }
@@ -120,10 +113,10 @@ pub(crate) fn fill(
             Ok(())
         }
         Piece::Whole(_) => Ok(()),
-        Piece::Begun(form, children) => match form.parts() {
-            Parts::Fields(_) if children.are_all_there() => Ok(()),
-            Parts::Fields(selected) => fill_holes(alloc, table, plan, node, selected, children),
-            Parts::Others => Ok(()),
+        Piece::Begun(tracker, children) => match tracker.fields() {
+            Some(_) if children.are_all_there() => Ok(()),
+            Some(selected) => fill_holes(alloc, table, plan, node, selected, children),
+            None => Ok(()),
         },
         Piece::Object(..) => Ok(()),
     }

@@ -1,12 +1,6 @@
 //! The entries of a map and the items of a set, of values that came one after the other.
-ghost use Rattle.std.specs.Prelude.{◌≡◌, ◌+◌, ◌*◌, ◌<◌, ◌≤◌, [], ◌∷◌, ◌++◌, length, IfOk, IfErr, OnErr, vec_len, vec_capacity};
-ghost use Rattle.fr_shape.specs.Released.{Room, Conserved};
-ghost use Rattle.fr_shape.specs.TokenLaws.{both};
-ghost use Rattle.fr_shape.specs.Tokens.{occurs, vals_occur, entries_occur};
-ghost use Rattle.fr_shape.specs.Val.{no_vals, no_entries};
-ghost use Rattle.fr_shape.specs.View.{view, vals_view, entries_view};
-ghost use Rattle.fr_model.specs.Gathering.{with_item_in, items_in, with_entry_in, entries_in};
-ghost use Rattle.fr_frame.specs.KeyPlaces.{item_place, item_places, entry_place, entry_places};
+ghost use Rattle.fr_frame.specs.Common.{Conserved, IfErr, IfOk, OnErr, Room, [], both, entries_in, entries_occur, entries_view, entry_place, entry_places, item_place, item_places, items_in, length, no_entries, no_vals, occurs, vals_occur, vals_view, view, with_entry_in, with_item_in};
+ghost use Rattle.std.specs.Prelude.{◌*◌, vec_len, vec_capacity, ◌++◌, ◌+◌, ◌<◌, ◌∷◌, ◌≡◌, ◌≤◌};
 
 use crate::contents::ByContents;
 use crate::key_places::places_of_keys;

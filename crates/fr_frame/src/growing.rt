@@ -1,16 +1,12 @@
-//! Places that take items, as a list, a set or a pointer to a slice, and maps, which take entries.
-ghost use Rattle.std.specs.Prelude.{◌≡◌, ◌+◌, ◌<◌, ◌^◌, length, false, true, IfOk, IfSome, OnErr, OnOk, None};
-ghost use Rattle.fr_shape.specs.Look.{def_of};
-ghost use Rattle.fr_frame.specs.Bodies.{added, added_entry, count_cells, reformed, IsGrowing, IsMapBody};
-ghost use Rattle.fr_frame.specs.Changes.{IfInUse, IsInUse, SameTokens, Shows};
-ghost use Rattle.fr_frame.specs.Completing.{shape_of};
-ghost use Rattle.fr_frame.specs.Outlines.{is_begun_body, is_list_body};
-ghost use Rattle.fr_frame.specs.Items.{KeepsReserved};
+//! Places that get more children: those that take items, as a list, a set or a pointer to a slice,
+//! and those that take entries, a map or a dynamic object.
+ghost use Rattle.fr_frame.specs.Common.{IfInUse, IfOk, IfSome, IsGrowing, IsInUse, KeepsReserved, None, OnErr, OnOk, SameTokens, Shows, added, as_tracker, count_cells, def_of, depth_below, depth_limit, false, heap_of, is_begun_body, is_list_body, item_owner, length, reformed, shape_of, true, with_body, with_entered};
+ghost use Rattle.std.specs.Prelude.{◌^◌, ◌+◌, ◌<◌, ◌≡◌};
+ghost use Rattle.fr_frame.specs.Growing.{grown, MayGrow};
 ghost use Rattle.fr_frame.specs.RawSlots.{stays_list, IsReformed};
-ghost use Rattle.fr_frame.specs.Heap.{as_form, depth_below, depth_limit, heap_of, item_owner, with_body, with_entered};
 
-use crate::pieces::{add_child, add_entry, count_children, fresh, is_begun, is_list, reform};
-use crate::places::{Form, FrameOwner, Place, Slot, SlotId};
+use crate::pieces::{count_children, fresh, grow, is_begun, is_list, reform};
+use crate::places::{FrameOwner, Growth, Place, Slot, SlotId, Tracker};
 use crate::slots::Slots;
 use fr_plan::{NodeId, TypePlanCore};
 use fr_shape::{OutOfMemory, ShapeTable};
@@ -18,15 +14,15 @@ use fr_shape::{OutOfMemory, ShapeTable};
 /// Lets a list that has its items in slots of their own be begun so instead, and leaves them there.
 /// False, and nothing is changed, where no such list is in the slot, or where a place that is begun
 /// so has no items in slots.
-fn reform_list(slot: &mut Slot, form: Form) -> bool
-    ensures reformed { result ≡ true → IsReformed form slot.old slot.new }
+fn reform_list(slot: &mut Slot, tracker: Tracker) -> bool
+    ensures reformed { result ≡ true → IsReformed tracker slot.old slot.new }
     ensures kept { result ≡ false → slot.new ≡ slot.old }
-    ensures told { result ≡ stays_list form slot.old }
+    ensures told { result ≡ stays_list tracker slot.old }
 {
     match slot {
         Slot::List(place, _) => {
-            if form.keeps_items() && is_list(&place.piece) {
-                reform(&mut place.piece, form);
+            if tracker.keeps_items() && is_list(&place.piece) {
+                reform(&mut place.piece, tracker);
                 return true;
             }
             false
@@ -38,17 +34,17 @@ fn reform_list(slot: &mut Slot, form: Form) -> bool
 impl SlotId {
     /// Lets a begun place be begun so instead, with the children that it has: so an open pointer to
     /// a slice is closed, or opened again. Takes no memory.
-    pub fn reform(self, slots: &mut Slots, form: Form)
+    pub fn reform(self, slots: &mut Slots, tracker: Tracker)
         requires in_use { IsInUse slots.old self.0 }
         ensures reformed { Shows slots.new
-            (with_body (heap_of slots.old) self.0 (reformed (as_form form))) }
+            (with_body (heap_of slots.old) self.0 (reformed (as_tracker tracker))) }
         ensures tokens { SameTokens slots.old slots.new }
     {
-        if reform_list(slots.entries.get_mut(self.idx()), form) {
+        if reform_list(slots.entries.get_mut(self.idx()), tracker) {
             return;
         }
         let place = slots.place_mut(self);
-        reform(&mut place.piece, form);
+        reform(&mut place.piece, tracker);
     }
 }
 
@@ -93,32 +89,18 @@ impl Slots {
         Some(FrameOwner::Child(parent, count as u32))
     }
 
-    /// One child more at a place that takes items, behind the others, which isn't there yet.
-    fn add_child(&mut self, parent: SlotId) -> Result<(), OutOfMemory>
-        requires { IfInUse self.old parent.0 (λ above. IsGrowing above.body) }
-        ensures added { OnOk result (Shows self.new
-            (with_body (heap_of self.old) parent.0 added)) }
+    /// More at a begun place, behind its children, none of which is there yet.
+    fn grow(&mut self, parent: SlotId, growth: Growth) -> Result<(), OutOfMemory>
+        requires { IfInUse self.old parent.0 (λ above. MayGrow growth above.body) }
+        ensures grown { OnOk result (Shows self.new
+            (with_body (heap_of self.old) parent.0 (grown growth))) }
         ensures refused { OnErr result (Shows self.new (heap_of self.old)) }
         ensures tokens { SameTokens self.old self.new }
         ensures reserved { KeepsReserved self.old self.new }
     {
         let alloc = self.alloc();
         let place = self.place_mut(parent);
-        add_child(alloc, &mut place.piece)
-    }
-
-    /// Two children more at a begun map, behind the others, which aren't there yet.
-    fn add_entry(&mut self, parent: SlotId) -> Result<(), OutOfMemory>
-        requires { IfInUse self.old parent.0 (λ above. IsMapBody above.body) }
-        ensures added { OnOk result (Shows self.new
-            (with_body (heap_of self.old) parent.0 added_entry)) }
-        ensures refused { OnErr result (Shows self.new (heap_of self.old)) }
-        ensures tokens { SameTokens self.old self.new }
-        ensures reserved { KeepsReserved self.old self.new }
-    {
-        let alloc = self.alloc();
-        let place = self.place_mut(parent);
-        add_entry(alloc, &mut place.piece)
+        grow(alloc, &mut place.piece, growth)
     }
 
     /// A slot for a new item of this node, which the list or open pointer to a slice has behind its
@@ -170,22 +152,23 @@ impl Slots {
         Ok(id)
     }
 
-    /// A slot for a new item of this node, which the place that takes items has behind its other
-    /// children from then on.
-    fn enter_new_item(
+    /// A slot for a new child of this node, which the begun place has behind its other children from
+    /// then on: an item, the key of an entry, or the value under a key.
+    pub(crate) fn enter_behind(
         &mut self,
         table: &ShapeTable,
         plan: &TypePlanCore,
         node: NodeId,
         parent: SlotId,
+        growth: Growth,
     ) -> Result<SlotId, OutOfMemory>
-        requires parent { IfInUse self.old parent.0 (λ above. IsGrowing above.body) }
+        requires parent { IfInUse self.old parent.0 (λ above. MayGrow growth above.body) }
         requires planned { node.0 < length plan.now.nodes }
         ensures vacant { IfOk result (λ id. heap_of self.old id.0 ≡ None) }
         ensures entered { IfOk result (λ id. IfInUse self.old parent.0 (λ above.
             Shows self.new (with_entered (def_of table.now (shape_of plan.now node))
-            (with_body (heap_of self.old) parent.0 added) node (item_owner parent.0 above.body)
-            id.0))) }
+            (with_body (heap_of self.old) parent.0 (grown growth)) node
+            (item_owner parent.0 above.body) id.0))) }
         ensures limit { OnOk result (IfInUse self.old parent.0 (λ above.
             depth_below (heap_of self.old) (item_owner parent.0 above.body) < depth_limit)) }
         ensures narrow { OnOk result (IfInUse self.old parent.0 (λ above.
@@ -200,7 +183,7 @@ impl Slots {
             return Err(OutOfMemory);
         };
         let id = self.vacant()?;
-        let Ok(()) = self.add_child(parent) else {
+        let Ok(()) = self.grow(parent, growth) else {
             self.give_back(id);
             return Err(OutOfMemory);
         };
@@ -208,9 +191,9 @@ impl Slots {
         Ok(id)
     }
 
-    /// A slot for a new item of this node, which the place that takes items, a list, a set or an
-    /// open pointer to a slice, has behind its other children from then on.
-    pub fn enter_item(
+    /// A slot for a new item of this node, which the place that takes items has behind its other
+    /// children from then on.
+    pub(crate) fn enter_item(
         &mut self,
         table: &ShapeTable,
         plan: &TypePlanCore,
@@ -234,45 +217,7 @@ impl Slots {
         if self.is_list(parent) {
             self.enter_list_item(table, plan, node, parent)
         } else {
-            self.enter_new_item(table, plan, node, parent)
+            self.enter_behind(table, plan, node, parent, Growth::Item)
         }
-    }
-
-    /// A slot for the key of a new entry, which is of this node and which the begun map has behind
-    /// its other children from then on, and behind it the entry's value, which isn't there yet.
-    pub fn enter_key(
-        &mut self,
-        table: &ShapeTable,
-        plan: &TypePlanCore,
-        node: NodeId,
-        parent: SlotId,
-    ) -> Result<SlotId, OutOfMemory>
-        requires parent { IfInUse self.old parent.0 (λ above. IsMapBody above.body) }
-        requires planned { node.0 < length plan.now.nodes }
-        ensures vacant { IfOk result (λ id. heap_of self.old id.0 ≡ None) }
-        ensures entered { IfOk result (λ id. IfInUse self.old parent.0 (λ above.
-            Shows self.new (with_entered (def_of table.now (shape_of plan.now node))
-            (with_body (heap_of self.old) parent.0 added_entry) node
-            (item_owner parent.0 above.body) id.0))) }
-        ensures limit { OnOk result (IfInUse self.old parent.0 (λ above.
-            depth_below (heap_of self.old) (item_owner parent.0 above.body) < depth_limit)) }
-        ensures narrow { OnOk result (IfInUse self.old parent.0 (λ above.
-            count_cells above.body + 1 < 2 ^ 32)) }
-        ensures tokens { SameTokens self.old self.new }
-        ensures refused { OnErr result (Shows self.new (heap_of self.old)) }
-    {
-        let Some(owner) = self.item_owner(parent) else {
-            return Err(OutOfMemory);
-        };
-        let Some(depth) = self.depth_below(&owner) else {
-            return Err(OutOfMemory);
-        };
-        let id = self.vacant()?;
-        let Ok(()) = self.add_entry(parent) else {
-            self.give_back(id);
-            return Err(OutOfMemory);
-        };
-        self.settle(table, plan, node, owner, depth, id);
-        Ok(id)
     }
 }

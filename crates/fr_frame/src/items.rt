@@ -1,21 +1,14 @@
 //! Items of lists: one comes, and lies in a slot of its own; one completes, and keeps its slot.
-ghost use Rattle.std.specs.Prelude.{◌≡◌, ◌<◌, ◌++◌, ◌∷◌, [], length, true, Some, OnErr, OnOk, IfNone, IfSome, IsSome, IsOk, false};
-ghost use Rattle.std.specs.Option.{option_copied, option_map};
-ghost use Rattle.fr_shape.specs.Released.{Conserved, Room};
-ghost use Rattle.fr_shape.specs.Val.{Val};
-ghost use Rattle.fr_frame.specs.Bodies.{body_occurs, takes_memory, value_of, IsGrowing};
-ghost use Rattle.fr_frame.specs.Cells.{placed};
-ghost use Rattle.fr_frame.specs.Changes.{IfInUse, SameTokens, Shows};
-ghost use Rattle.fr_frame.specs.Heap.{body_of, gives, heap_of, held_by, node_in, node_of, slots_occur, with_body, without};
-ghost use Rattle.fr_frame.specs.Items.{is_list, is_used, with_placed, IsListed, IsListedIn, IsPlain, IsReserved, KeepsReserved};
-ghost use Rattle.fr_frame.specs.RawItems.{in_list, of_list, with_room, HasRoomIn, IsAddedIn, IsBelow, IsListIn, IsSeenAs, IsTakenOf};
+ghost use Rattle.std.specs.Prelude.{◌++◌, ◌<◌, ◌∷◌, ◌≡◌};
+ghost use Rattle.fr_frame.specs.Common.{Conserved, HasRoomIn, IfInUse, IfNone, IfSome, IsGrowing, IsListedIn, IsOk, IsPlain, IsReserved, IsSeenAs, IsSome, KeepsReserved, OnErr, OnOk, Room, SameTokens, Shows, Some, Val, [], body_occurs, body_of, false, gives, heap_of, held_by, is_list, is_list_body, is_used, length, node_in, node_of, option_copied, option_map, placed, slots_occur, takes_memory, true, value_of, with_body, with_placed, without};
+ghost use Rattle.fr_frame.specs.Items.{IsListed};
+ghost use Rattle.fr_frame.specs.RawItems.{in_list, of_list, with_room, IsAddedIn, IsBelow, IsListIn, IsTakenOf};
 ghost use Rattle.fr_frame.specs.RawSlots.{IsEmptied};
-ghost use Rattle.fr_frame.specs.Outlines.{is_list_body};
 ghost use Rattle.fr_frame.specs.declared.places.Slot.{Slot as Entry};
 
 use crate::draining::{drain, has_items};
 use crate::making::value_of;
-use crate::places::{Form, FrameOwner, Item, Piece, Place, Slot, SlotId};
+use crate::places::{FrameOwner, Item, ItemsKind, Piece, Place, Slot, SlotId, Tracker};
 use crate::slots::Slots;
 use fr_arena::{Arena, ListRope};
 use fr_shape::{Ledger, OutOfMemory, Value};
@@ -99,7 +92,13 @@ fn is_item(piece: &Piece, items: &ListRope<SlotId>, number: u32, slot: SlotId) -
     ensures listed { result ≡ true → IsListedIn piece.now items.now.items slot.0 number }
     ensures other { IsListedIn piece.now items.now.items slot.0 number → result ≡ true }
 {
-    let Piece::Begun(Form::List | Form::Slice | Form::ClosedSlice, children) = piece else {
+    let Piece::Begun(
+        Tracker::Items(ItemsKind::List)
+        | Tracker::Items(ItemsKind::Slice)
+        | Tracker::Items(ItemsKind::ClosedSlice),
+        children,
+    ) = piece
+    else {
         return false;
     };
     let before = children.len().saturating_sub(items.len());

@@ -1,6 +1,6 @@
 //! At which place each of a list of keys stands among the distinct ones of them.
-ghost use Rattle.std.specs.Prelude.{◌≡◌, [], IfOk};
-ghost use Rattle.fr_frame.specs.KeyPlaces.{places_of};
+ghost use Rattle.std.specs.Prelude.{◌≡◌};
+ghost use Rattle.fr_frame.specs.Common.{IfOk, [], places_of};
 
 use fr_shape::OutOfMemory;
 use std::alloc::Global;

@@ -1,9 +1,7 @@
 //! The keys of a dynamic object.
-ghost use Rattle.std.specs.Prelude.{◌≡◌, [], ◌∷◌, ◌++◌, length, true, OnErr, OnOk};
-ghost use Rattle.fr_shape.specs.View.{view};
-ghost use Rattle.fr_model.specs.DynamicPlaces.{entry_found};
-ghost use Rattle.fr_model.specs.Dynamics.{keys_apart};
-ghost use Rattle.fr_frame.specs.KeyNames.{name_of, names_of};
+ghost use Rattle.std.specs.Prelude.{◌++◌, ◌∷◌, ◌≡◌};
+ghost use Rattle.fr_frame.specs.Common.{OnErr, OnOk, [], entry_found, keys_apart, length, names_of, true, view};
+ghost use Rattle.fr_frame.specs.KeyNames.{name_of};
 
 use crate::value_index::ValueIndex;
 use fr_shape::{OutOfMemory, Text, Value};

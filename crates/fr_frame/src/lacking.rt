@@ -1,24 +1,12 @@
 //! What a place lacks whose children are given or not there. Only what is said of a value that
 //! fails takes memory.
-ghost use Rattle.std.specs.Prelude.{◌≡◌, ◌<◌, None, length, IfErr, IsSome, OnErr, OnOk};
-ghost use Rattle.std.specs.Option.{option_map, option_copied, option_or};
-ghost use Rattle.fr_shape.specs.Checked.{IsChecked};
-ghost use Rattle.fr_shape.specs.Look.{def_of};
-ghost use Rattle.fr_shape.specs.View.{view};
-ghost use Rattle.fr_rules.specs.FillRules.{fill_told};
-ghost use Rattle.fr_model.specs.Complete.{lack, lack_among, lack_of_entered, lack_of_holes, missing_value};
-ghost use Rattle.fr_model.specs.Places.{child_count};
-ghost use Rattle.fr_model.specs.Tree.{as_struct};
-ghost use Rattle.fr_model.specs.Well.{IsFullAs};
-ghost use Rattle.fr_frame.specs.Bodies.{as_fields, own_tree, trees_of};
-ghost use Rattle.fr_frame.specs.Cells.{values_of};
-ghost use Rattle.fr_frame.specs.Completing.{shape_of, IsFull, IsPlanFor};
-ghost use Rattle.fr_frame.specs.Filling.{first_refused, lack_of_child, IsCauseOf, IsTold};
-ghost use Rattle.fr_frame.specs.Heap.{body_of};
+ghost use Rattle.std.specs.Prelude.{◌<◌, ◌≡◌};
+ghost use Rattle.fr_frame.specs.Common.{IfErr, IsCauseOf, IsChecked, IsFull, IsFullAs, IsPlanFor, IsSome, IsTold, None, OnErr, OnOk, as_fields, body_of, child_count, def_of, fill_told, first_refused, lack, lack_among, lack_of_child, lack_of_holes, length, missing_value, option_copied, option_map, option_or, own_tree, shape_of, trees_of, values_of, view};
+ghost use Rattle.fr_model.specs.Complete.{lack_of_entered};
 
 use crate::children::Children;
 use crate::field_plans::{fill_of, has_validators, plans_of_fields};
-use crate::places::{Parts, Piece};
+use crate::places::Piece;
 use fr_plan::{FieldPlan, NodeId, TypePlanCore};
 use fr_rules::PrecomputedValidator;
 use fr_shape::{Def, FieldRef, Hooks, ReflectErrorKind, ShapeTable, Value};
@@ -105,13 +93,13 @@ fn test_holes<H: Hooks>(
     requires checked { IsChecked table.now }
     requires planned { IsPlanFor table.now plan.now }
     requires inside { node.0 < length plan.now.nodes }
-    requires described { IsFullAs (def_of table.now (shape_of plan.now node)) as_struct
+    requires described { IsFullAs (def_of table.now (shape_of plan.now node)) (as_fields None)
         (child_count table.now (shape_of plan.now node)) }
     ensures passing { OnOk result
-        (lack_of_holes (H.means hooks.now) table.now (shape_of plan.now node) as_struct
+        (lack_of_holes (H.means hooks.now) table.now (shape_of plan.now node) (as_fields None)
         (child_count table.now (shape_of plan.now node)) 0 ≡ None) }
     ensures failing { IfErr result (IsCauseOf
-        (lack_of_holes (H.means hooks.now) table.now (shape_of plan.now node) as_struct
+        (lack_of_holes (H.means hooks.now) table.now (shape_of plan.now node) (as_fields None)
         (child_count table.now (shape_of plan.now node)) 0)) }
 {
     let told = plans_of_fields(table, plan, node, None);
@@ -240,11 +228,9 @@ pub(crate) fn test_piece<H: Hooks>(
     match piece {
         Piece::Entered => test_entered(alloc, table, plan, hooks, node),
         Piece::Whole(_) => Ok(()),
-        Piece::Begun(form, children) => match form.parts() {
-            Parts::Fields(selected) => {
-                test_fields(alloc, table, plan, hooks, node, selected, children)
-            }
-            Parts::Others => test_others(plan, node, children),
+        Piece::Begun(tracker, children) => match tracker.fields() {
+            Some(selected) => { test_fields(alloc, table, plan, hooks, node, selected, children) }
+            None => test_others(plan, node, children),
         },
         Piece::Object(_, children) => test_others(plan, node, children),
     }

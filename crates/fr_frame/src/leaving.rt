@@ -1,13 +1,7 @@
 //! Leaving a slot: with the value of its place, or releasing what was put there.
-ghost use Rattle.std.specs.Prelude.{◌≡◌, ℕ, ◌+◌, false, IfOk, IsOk, IsSome, OnErr, OnOk, None, Some};
-ghost use Rattle.fr_shape.specs.Released.{Conserved, Room, RoseBy};
-ghost use Rattle.fr_shape.specs.Tokens.{occurs};
-ghost use Rattle.fr_shape.specs.Val.{Val};
-ghost use Rattle.fr_shape.specs.View.{view};
-ghost use Rattle.fr_frame.specs.Bodies.{body_occurs, cell_at, takes_memory, value_of, with_ended, IsSetBody};
-ghost use Rattle.fr_frame.specs.Cells.{absent, placed};
-ghost use Rattle.fr_frame.specs.Changes.{IfInUse, IsInUse, Shows};
-ghost use Rattle.fr_frame.specs.Heap.{body_of, ends, gives, heap_of, held_by, slots_occur, with_body, with_slot, without, IsItemOf};
+ghost use Rattle.std.specs.Prelude.{◌+◌, ◌≡◌};
+ghost use Rattle.fr_frame.specs.Common.{Conserved, IfInUse, IfOk, IsInUse, IsOk, IsSetBody, IsSome, None, OnErr, OnOk, Room, RoseBy, Shows, Some, Val, absent, body_occurs, body_of, cell_at, false, gives, heap_of, held_by, occurs, placed, slots_occur, takes_memory, value_of, view, with_body, with_ended, with_slot, without, ℕ};
+ghost use Rattle.fr_frame.specs.Heap.{ends, IsItemOf};
 
 use crate::items::is_in_list;
 use crate::making::value_of;

@@ -1,18 +1,12 @@
 //! What is left of a place after its fills: the value of an entered place, the first child that
 //! isn't there.
-ghost use Rattle.std.specs.Prelude.{◌≡◌, ◌<◌, length, None, Some, IfErr, OnOk};
-ghost use Rattle.fr_shape.specs.Checked.{IsChecked};
-ghost use Rattle.fr_shape.specs.Look.{def_of};
-ghost use Rattle.fr_model.specs.Well.{IsFullAs};
-ghost use Rattle.fr_frame.specs.Bodies.{as_fields, AreUnplaced, IsClosed};
-ghost use Rattle.fr_frame.specs.Completing.{shape_of, IsFull, IsPlanFor};
-ghost use Rattle.fr_frame.specs.Defaults.{first_absent, left_out};
-ghost use Rattle.fr_frame.specs.Heap.{body_of};
+ghost use Rattle.std.specs.Prelude.{◌<◌, ◌≡◌};
+ghost use Rattle.fr_frame.specs.Common.{AreUnplaced, IfErr, IsChecked, IsClosed, IsFull, IsFullAs, IsPlanFor, None, OnOk, Some, as_fields, body_of, def_of, first_absent, left_out, length, shape_of};
 
 use crate::children::Children;
 use crate::field_plans::plans_of_fields;
 use crate::lacking::test_others;
-use crate::places::{Parts, Piece};
+use crate::places::Piece;
 use fr_plan::{NodeId, TypePlanCore};
 use fr_shape::{ReflectErrorKind, ShapeTable};
 
@@ -71,9 +65,9 @@ pub(crate) fn test_full(
             shape: plan.node(node).shape,
         }),
         Piece::Whole(_) => Ok(()),
-        Piece::Begun(form, children) => match form.parts() {
-            Parts::Fields(selected) => test_fields_there(table, plan, node, selected, children),
-            Parts::Others => test_others(plan, node, children),
+        Piece::Begun(tracker, children) => match tracker.fields() {
+            Some(selected) => test_fields_there(table, plan, node, selected, children),
+            None => test_others(plan, node, children),
         },
         Piece::Object(_, children) => test_others(plan, node, children),
     }

@@ -39,5 +39,8 @@ mod value_index;
 
 pub use children::Children;
 pub use keys::Keys;
-pub use places::{Form, FrameOwner, Item, Piece, Place, Slot, SlotId};
+pub use places::{
+    ChildWay, ContentKind, EntriesKind, FrameOwner, Item, ItemsKind, Piece, Place, Slot, SlotId,
+    Tracker,
+};
 pub use slots::Slots;

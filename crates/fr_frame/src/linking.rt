@@ -1,12 +1,8 @@
 //! Slots and their owners: a child that gets a slot, and one that leaves it.
-ghost use Rattle.std.specs.Prelude.{◌≡◌, ℕ, ◌+◌, ◌<◌, IfSome};
-ghost use Rattle.std.specs.Option.{option_map, option_and_then};
-ghost use Rattle.fr_shape.specs.View.{view};
-ghost use Rattle.fr_frame.specs.Bodies.{cell_at, linked};
-ghost use Rattle.fr_frame.specs.Cells.{held_value, value_occurs};
-ghost use Rattle.fr_frame.specs.Changes.{IsInUse, IsOwnerInUse, SameTokens, Shows};
-ghost use Rattle.fr_frame.specs.Items.{KeepsReserved};
-ghost use Rattle.fr_frame.specs.Heap.{Node, depth_below, depth_limit, heap_of, held_by, links, slots_occur, unlinks, with_body};
+ghost use Rattle.std.specs.Prelude.{◌+◌, ◌<◌, ◌≡◌};
+ghost use Rattle.fr_frame.specs.Common.{IfSome, IsInUse, KeepsReserved, Node, SameTokens, Shows, cell_at, depth_below, depth_limit, heap_of, held_by, linked, links, option_and_then, option_map, slots_occur, unlinks, value_occurs, view, with_body, ℕ};
+ghost use Rattle.fr_frame.specs.Cells.{held_value};
+ghost use Rattle.fr_frame.specs.Changes.{IsOwnerInUse};
 
 use crate::pieces::{link, unlink};
 use crate::places::{FrameOwner, SlotId};

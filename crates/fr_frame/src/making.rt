@@ -1,22 +1,17 @@
 //! The value of a place.
-ghost use Rattle.std.specs.Prelude.{◌≡◌, length, Some, is_some, true, false, IfErr, IfOk, IsOk, IsSome, OnErr, OnOk};
-ghost use Rattle.fr_shape.specs.Released.{Conserved, Room, RoseBy};
-ghost use Rattle.fr_shape.specs.Tokens.{occurs, vals_occur};
-ghost use Rattle.fr_shape.specs.Val.{Val, list_of, map_of, set_of, first, no_vals, no_entries};
-ghost use Rattle.fr_shape.specs.View.{view, vals_view, entries_view};
+ghost use Rattle.std.specs.Prelude.{◌≡◌};
+ghost use Rattle.fr_frame.specs.Common.{Conserved, IfErr, IfOk, IsOk, IsSome, OnErr, OnOk, Room, RoseBy, Some, Val, as_entries, as_tracker, begun_body, body_occurs, body_of, cells_occur, entries_in, entries_view, false, first, is_some, items_in, length, map_of, no_entries, no_vals, occurs, takes_memory, true, vals_occur, vals_view, value_of, values_of, view, whole_body};
+ghost use Rattle.fr_shape.specs.Val.{list_of, set_of};
 ghost use Rattle.fr_model.specs.Complete.{value_as};
-ghost use Rattle.fr_model.specs.Gathering.{entries_in, items_in};
-ghost use Rattle.fr_model.specs.Tree.{as_dyn_object};
-ghost use Rattle.fr_frame.specs.Bodies.{around_as, begun_body, body_occurs, boxed_as, boxes, gathers, is_around, takes_memory, value_of, whole_body};
-ghost use Rattle.fr_frame.specs.Cells.{cells_occur, values_of};
-ghost use Rattle.fr_frame.specs.Heap.{as_form, body_of};
+ghost use Rattle.fr_model.specs.Trackers.{EntriesKind as TreeEntriesKind};
+ghost use Rattle.fr_frame.specs.Bodies.{around_as, boxed_as, boxes, gathers, is_around};
 
 use crate::children::Children;
 use crate::dynamics::{array_of, object_of};
 use crate::gathering::{distinct_items, merge_entries};
 use crate::keys::Keys;
 use crate::pieces::release_piece;
-use crate::places::{Form, Piece};
+use crate::places::{ContentKind, EntriesKind, ItemsKind, Piece, Tracker};
 use fr_shape::{Items, Ledger, OutOfMemory, Value};
 use std::alloc::Global;
 
@@ -29,18 +24,18 @@ fn list_of(values: Vec<Value>) -> Value
 
 /// The value that is made of those of the children of a place that is begun so, where that holds no
 /// box and isn't put together anew. Takes no memory.
-fn value_of_parts(form: Form, values: Vec<Value>) -> Value
-    requires no_box { boxes (as_form form) ≡ false }
-    requires as_it_is { gathers (as_form form) ≡ false }
-    ensures { view result ≡ value_as (as_form form) (vals_view values.items) }
+fn value_of_parts(tracker: Tracker, values: Vec<Value>) -> Value
+    requires no_box { boxes (as_tracker tracker) ≡ false }
+    requires as_it_is { gathers (as_tracker tracker) ≡ false }
+    ensures { view result ≡ value_as (as_tracker tracker) (vals_view values.items) }
 {
-    match form {
-        Form::Struct | Form::Array => Value::Product(Items::from_vec(values)),
-        Form::Variant(k) => Value::Variant(k, Items::from_vec(values)),
-        Form::List => list_of(values),
-        Form::Some | Form::Ok | Form::Err | Form::Pointer => unreachable!(),
-        Form::Slice | Form::ClosedSlice | Form::Set | Form::Map(_) => unreachable!(),
-        Form::DynArray => unreachable!(),
+    match tracker {
+        Tracker::Fields(None) | Tracker::Elements => Value::Product(Items::from_vec(values)),
+        Tracker::Fields(Some(k)) => Value::Variant(k, Items::from_vec(values)),
+        Tracker::Items(ItemsKind::List) => list_of(values),
+        Tracker::Content(_) | Tracker::Entries(_) => unreachable!(),
+        Tracker::Items(ItemsKind::Slice | ItemsKind::ClosedSlice) => unreachable!(),
+        Tracker::Items(ItemsKind::Set | ItemsKind::Array) => unreachable!(),
     }
 }
 
@@ -57,31 +52,32 @@ fn only(mut values: Vec<Value>) -> Value
 
 /// What the box of a place that is begun so holds: the value of its one child, or the list of a
 /// slice's items. Takes no memory.
-fn value_in_box(form: Form, values: Vec<Value>) -> Value
-    requires boxes { boxes (as_form form) ≡ true }
-    requires one { is_around (as_form form) ≡ true → length values.items ≡ 1 }
-    ensures { view result ≡ boxed_as (as_form form) (vals_view values.items) }
+fn value_in_box(tracker: Tracker, values: Vec<Value>) -> Value
+    requires boxes { boxes (as_tracker tracker) ≡ true }
+    requires one { is_around (as_tracker tracker) ≡ true → length values.items ≡ 1 }
+    ensures { view result ≡ boxed_as (as_tracker tracker) (vals_view values.items) }
 {
-    match form {
-        Form::Some | Form::Ok | Form::Err | Form::Pointer => only(values),
-        Form::Slice | Form::ClosedSlice => list_of(values),
-        Form::Struct | Form::Array | Form::Variant(_) | Form::List => unreachable!(),
-        Form::Set | Form::Map(_) | Form::DynArray => unreachable!(),
+    match tracker {
+        Tracker::Content(_) => only(values),
+        Tracker::Items(ItemsKind::Slice | ItemsKind::ClosedSlice) => list_of(values),
+        Tracker::Items(ItemsKind::List | ItemsKind::Set | ItemsKind::Array) => unreachable!(),
+        Tracker::Fields(_) | Tracker::Elements | Tracker::Entries(_) => unreachable!(),
     }
 }
 
 /// The value of a place that is begun so, whose box holds this. Takes no memory.
-fn value_of_box(form: Form, held: Box<Value>) -> Value
-    requires { boxes (as_form form) ≡ true }
-    ensures { view result ≡ around_as (as_form form) (view held.value) }
+fn value_of_box(tracker: Tracker, held: Box<Value>) -> Value
+    requires { boxes (as_tracker tracker) ≡ true }
+    ensures { view result ≡ around_as (as_tracker tracker) (view held.value) }
 {
-    match form {
-        Form::Some => Value::Some(held),
-        Form::Ok => Value::Ok(held),
-        Form::Err => Value::Err(held),
-        Form::Pointer | Form::Slice | Form::ClosedSlice => Value::Ptr(held),
-        Form::Struct | Form::Array | Form::Variant(_) | Form::List => unreachable!(),
-        Form::Set | Form::Map(_) | Form::DynArray => unreachable!(),
+    match tracker {
+        Tracker::Content(ContentKind::Some) => Value::Some(held),
+        Tracker::Content(ContentKind::Ok) => Value::Ok(held),
+        Tracker::Content(ContentKind::Err) => Value::Err(held),
+        Tracker::Content(ContentKind::Pointer) => Value::Ptr(held),
+        Tracker::Items(ItemsKind::Slice | ItemsKind::ClosedSlice) => Value::Ptr(held),
+        Tracker::Items(ItemsKind::List | ItemsKind::Set | ItemsKind::Array) => unreachable!(),
+        Tracker::Fields(_) | Tracker::Elements | Tracker::Entries(_) => unreachable!(),
     }
 }
 
@@ -130,26 +126,27 @@ fn map_of(alloc: Global, values: Vec<Value>, ledger: &mut Ledger) -> Result<Valu
 /// Without memory they are handed back.
 fn value_gathered(
     alloc: Global,
-    form: Form,
+    tracker: Tracker,
     values: Vec<Value>,
     ledger: &mut Ledger,
 ) -> Result<Value, Vec<Value>>
-    requires gathers { gathers (as_form form) ≡ true }
+    requires gathers { gathers (as_tracker tracker) ≡ true }
     requires room { Room (vals_occur (vals_view values.items)) ledger.old }
     ensures value { IfOk result (λ v.
-        view v ≡ value_as (as_form form) (vals_view values.items)) }
+        view v ≡ value_as (as_tracker tracker) (vals_view values.items)) }
     ensures conserved { IfOk result (λ v. Conserved (vals_occur (vals_view values.items)) ledger.old
         (occurs (view v)) ledger.new) }
     ensures handed_back { IfErr result (λ back. back.items ≡ values.items) }
     ensures ledger_kept { OnErr result (ledger.new ≡ ledger.old) }
 {
-    match form {
-        Form::Set => set_of(alloc, values, ledger),
-        Form::Map(_) => map_of(alloc, values, ledger),
-        Form::DynArray => array_of(alloc, values, ledger),
-        Form::Struct | Form::Array | Form::Variant(_) | Form::List => unreachable!(),
-        Form::Some | Form::Ok | Form::Err | Form::Pointer => unreachable!(),
-        Form::Slice | Form::ClosedSlice => unreachable!(),
+    match tracker {
+        Tracker::Items(ItemsKind::Set) => set_of(alloc, values, ledger),
+        Tracker::Entries(EntriesKind::Map(_)) => map_of(alloc, values, ledger),
+        Tracker::Items(ItemsKind::Array) => array_of(alloc, values, ledger),
+        Tracker::Items(ItemsKind::List | ItemsKind::Slice | ItemsKind::ClosedSlice) => {
+            unreachable!()
+        }
+        Tracker::Fields(_) | Tracker::Elements | Tracker::Content(_) => unreachable!(),
     }
 }
 
@@ -157,26 +154,26 @@ fn value_gathered(
 /// children are handed back.
 fn value_of_children(
     alloc: Global,
-    form: Form,
+    tracker: Tracker,
     children: Children,
     ledger: &mut Ledger,
 ) -> Result<Value, Children>
-    requires no_box { boxes (as_form form) ≡ false }
-    requires there { IsSome (value_of (begun_body (as_form form) children)) }
+    requires no_box { boxes (as_tracker tracker) ≡ false }
+    requires there { IsSome (value_of (begun_body (as_tracker tracker) children)) }
     requires room { Room (cells_occur children) ledger.old }
     ensures value { IfOk result (λ v.
-        value_of (begun_body (as_form form) children) ≡ Some (view v)) }
-    ensures memory { gathers (as_form form) ≡ false → IsOk result }
+        value_of (begun_body (as_tracker tracker) children) ≡ Some (view v)) }
+    ensures memory { gathers (as_tracker tracker) ≡ false → IsOk result }
     ensures conserved { IfOk result (λ v. Conserved (cells_occur children) ledger.old
         (occurs (view v)) ledger.new) }
     ensures handed_back { IfErr result (λ back. back ≡ children) }
     ensures ledger_kept { OnErr result (ledger.new ≡ ledger.old) }
 {
     let (values, given) = children.into_parts();
-    if !form.gathers() {
-        return Ok(value_of_parts(form, values));
+    if !tracker.gathers() {
+        return Ok(value_of_parts(tracker, values));
     }
-    match value_gathered(alloc, form, values, ledger) {
+    match value_gathered(alloc, tracker, values, ledger) {
         Ok(value) => Ok(value),
         Err(back) => Err(Children::of_parts(back, given)),
     }
@@ -193,7 +190,7 @@ fn value_of_object(
     requires there { IsSome (values_of children) }
     requires room { Room (cells_occur children) ledger.old }
     ensures value { IfOk result (λ v.
-        value_of (begun_body (as_dyn_object keys) children) ≡ Some (view v)) }
+        value_of (begun_body (as_entries (TreeEntriesKind.Object keys)) children) ≡ Some (view v)) }
     ensures conserved { IfOk result (λ v. Conserved (cells_occur children) ledger.old
         (occurs (view v)) ledger.new) }
     ensures keys_back { IfErr result (λ back. back.0 ≡ keys) }
@@ -208,38 +205,38 @@ fn value_of_object(
 }
 
 /// The value of a place that is begun with each child there, which holds this box. Takes no memory.
-fn value_made(form: Form, children: Children, mut held: Box<Value>) -> Value
-    requires boxes { boxes (as_form form) ≡ true }
-    requires there { IsSome (value_of (begun_body (as_form form) children)) }
-    ensures { value_of (begun_body (as_form form) children) ≡ Some (view result) }
+fn value_made(tracker: Tracker, children: Children, mut held: Box<Value>) -> Value
+    requires boxes { boxes (as_tracker tracker) ≡ true }
+    requires there { IsSome (value_of (begun_body (as_tracker tracker) children)) }
+    ensures { value_of (begun_body (as_tracker tracker) children) ≡ Some (view result) }
 {
-    *held = value_in_box(form, children.into_values());
-    value_of_box(form, held)
+    *held = value_in_box(tracker, children.into_values());
+    value_of_box(tracker, held)
 }
 
 /// The value of a place that is begun with each child there. Without memory the children are handed
 /// back.
 fn value_of_begun(
     alloc: Global,
-    form: Form,
+    tracker: Tracker,
     children: Children,
     ledger: &mut Ledger,
 ) -> Result<Value, Children>
-    requires there { IsSome (value_of (begun_body (as_form form) children)) }
+    requires there { IsSome (value_of (begun_body (as_tracker tracker) children)) }
     requires room { Room (cells_occur children) ledger.old }
     ensures value { IfOk result (λ v.
-        value_of (begun_body (as_form form) children) ≡ Some (view v)) }
-    ensures memory { takes_memory (begun_body (as_form form) children) ≡ false → IsOk result }
+        value_of (begun_body (as_tracker tracker) children) ≡ Some (view v)) }
+    ensures memory { takes_memory (begun_body (as_tracker tracker) children) ≡ false → IsOk result }
     ensures conserved { IfOk result (λ v. Conserved (cells_occur children) ledger.old
         (occurs (view v)) ledger.new) }
     ensures handed_back { IfErr result (λ back. back ≡ children) }
     ensures ledger_kept { OnErr result (ledger.new ≡ ledger.old) }
 {
-    if !form.boxes() {
-        return value_of_children(alloc, form, children, ledger);
+    if !tracker.boxes() {
+        return value_of_children(alloc, tracker, children, ledger);
     }
     match Box::new(alloc, Value::Unit) {
-        Ok(spare) => Ok(value_made(form, children, spare)),
+        Ok(spare) => Ok(value_made(tracker, children, spare)),
         Err(_) => Err(children),
     }
 }
@@ -258,9 +255,9 @@ fn value_or_back(alloc: Global, piece: Piece, ledger: &mut Ledger) -> Result<Val
 {
     match piece {
         Piece::Whole(value) => Ok(value),
-        Piece::Begun(form, children) => match value_of_begun(alloc, form, children, ledger) {
+        Piece::Begun(tracker, children) => match value_of_begun(alloc, tracker, children, ledger) {
             Ok(value) => Ok(value),
-            Err(back) => Err(Piece::Begun(form, back)),
+            Err(back) => Err(Piece::Begun(tracker, back)),
         },
         Piece::Object(keys, children) => match value_of_object(alloc, keys, children, ledger) {
             Ok(value) => Ok(value),

@@ -1,15 +1,12 @@
 //! Taking a value apart into those of the children that it has at a place that is begun.
-ghost use Rattle.std.specs.Prelude.{◌≡◌, ◌+◌, length, Some, IfOk, IfSome, IsSome, OnErr};
-ghost use Rattle.std.specs.Option.{option_map};
-ghost use Rattle.fr_shape.specs.View.{view, entries_view};
-ghost use Rattle.fr_model.specs.Places.{parts_of, items_of, set_items_of, entries_of, in_turn};
+ghost use Rattle.std.specs.Prelude.{◌+◌, ◌≡◌};
+ghost use Rattle.fr_frame.specs.Common.{IfOk, IfSome, IsSome, OnErr, Some, as_tracker, cells_of_vals, entries_of, entries_view, in_turn, length, option_map, parts_of, set_items_of, view};
+ghost use Rattle.fr_model.specs.Places.{items_of};
 ghost use Rattle.fr_model.specs.Step.{parts_as};
 ghost use Rattle.fr_model.specs.Tree.{over_base};
-ghost use Rattle.fr_frame.specs.Bodies.{cells_of_vals};
-ghost use Rattle.fr_frame.specs.Heap.{as_form};
 
 use crate::children::Children;
-use crate::places::Form;
+use crate::places::{EntriesKind, ItemsKind, Tracker};
 use fr_shape::{Items, OutOfMemory, Value};
 use std::alloc::Global;
 
@@ -129,18 +126,20 @@ fn children_of_map(alloc: Global, value: &mut Value) -> Result<Children, OutOfMe
 
 /// As what a place that holds this is begun: a map over the entries that it has. None where they
 /// are too many to be numbered.
-pub(crate) fn over_base(form: Form, value: &Value) -> Option<Form>
+pub(crate) fn over_base(tracker: Tracker, value: &Value) -> Option<Tracker>
     ensures over { IfSome result (λ over.
-        as_form over ≡ over_base (as_form form) (view value.now)) }
+        as_tracker over ≡ over_base (as_tracker tracker) (view value.now)) }
 {
-    match form {
-        Form::Map(_) => match value {
-            Value::Map(entries) => Some(Form::Map(u32::try_from(entries.len()).ok()?)),
-            _ => Some(Form::Map(0)),
+    match tracker {
+        Tracker::Entries(EntriesKind::Map(_)) => match value {
+            Value::Map(entries) => {
+                Some(Tracker::Entries(EntriesKind::Map(u32::try_from(entries.len()).ok()?)))
+            },
+            _ => Some(Tracker::Entries(EntriesKind::Map(0))),
         },
-        Form::Struct | Form::Array | Form::Variant(_) | Form::List | Form::Set => Some(form),
-        Form::Some | Form::Ok | Form::Err | Form::Pointer => Some(form),
-        Form::Slice | Form::ClosedSlice | Form::DynArray => Some(form),
+        Tracker::Fields(_) | Tracker::Elements | Tracker::Content(_) | Tracker::Items(_) => {
+            Some(tracker)
+        }
     }
 }
 
@@ -148,20 +147,22 @@ pub(crate) fn over_base(form: Form, value: &Value) -> Option<Form>
 /// The value stays where there is no memory for them.
 pub(crate) fn children_of(
     alloc: Global,
-    form: Form,
+    tracker: Tracker,
     value: &mut Value,
 ) -> Result<Children, OutOfMemory>
-    requires { IsSome (parts_as (as_form form) (view value.old)) }
+    requires { IsSome (parts_as (as_tracker tracker) (view value.old)) }
     ensures parts { IfOk result (λ children.
-        option_map cells_of_vals (parts_as (as_form form) (view value.old)) ≡ Some children) }
+        option_map cells_of_vals (parts_as (as_tracker tracker) (view value.old)) ≡ Some children) }
     ensures refused { OnErr result (view value.new ≡ view value.old) }
 {
-    match form {
-        Form::Struct | Form::Array => children_of_product(alloc, value),
-        Form::List => children_of_list(alloc, value),
-        Form::Set => children_of_set(alloc, value),
-        Form::Map(_) => children_of_map(alloc, value),
-        Form::Variant(_) | Form::Some | Form::Ok | Form::Err | Form::Pointer => unreachable!(),
-        Form::Slice | Form::ClosedSlice | Form::DynArray => unreachable!(),
+    match tracker {
+        Tracker::Fields(None) | Tracker::Elements => children_of_product(alloc, value),
+        Tracker::Items(ItemsKind::List) => children_of_list(alloc, value),
+        Tracker::Items(ItemsKind::Set) => children_of_set(alloc, value),
+        Tracker::Entries(EntriesKind::Map(_)) => children_of_map(alloc, value),
+        Tracker::Fields(Some(_)) | Tracker::Content(_) => unreachable!(),
+        Tracker::Items(ItemsKind::Slice | ItemsKind::ClosedSlice | ItemsKind::Array) => {
+            unreachable!()
+        }
     }
 }

@@ -1,23 +1,18 @@
 //! What is put at one place, by itself.
-ghost use Rattle.std.specs.Prelude.{◌≡◌, ℕ, ◌+◌, ◌<◌, length, slice_get, slice_set, Some, IfSome, IsSome, OnErr, OnOk};
-ghost use Rattle.std.specs.Option.{option_map, option_and_then};
+ghost use Rattle.std.specs.Prelude.{◌+◌, ◌<◌, ◌≡◌};
+ghost use Rattle.fr_frame.specs.Common.{Conserved, IfSome, IsGrowing, IsSetBody, IsSome, OnErr, OnOk, Room, RoseBy, Some, absent, added, added_entry, as_tracker, begun_body, body_occurs, body_of, cell_at, cells_occur, count_cells, def_of, given, is_begun_body, is_list_body, length, linked, occurs, opened, opened_some, option_and_then, option_map, product, reformed, slice_get, slice_set, slot_of_cell, unlinked, vals_view, value_occurs, view, whole_body, with_cell, with_ended, ℕ};
 ghost use Rattle.fr_shape.specs.Fills.{is_empty_struct};
-ghost use Rattle.fr_shape.specs.Look.{def_of};
-ghost use Rattle.fr_shape.specs.Released.{Conserved, Room, RoseBy};
-ghost use Rattle.fr_shape.specs.Tokens.{occurs};
-ghost use Rattle.fr_shape.specs.Val.{product};
-ghost use Rattle.fr_shape.specs.View.{view, vals_view};
 ghost use Rattle.fr_model.specs.Contents.{content_of};
-ghost use Rattle.fr_model.specs.Tree.{Form as TreeForm};
-ghost use Rattle.fr_frame.specs.Bodies.{added, added_entry, begun_body, body_occurs, cell_at, count_cells, fresh_body, linked, opened, opened_some, reformed, unlinked, whole_body, with_cell, with_ended, HoldsSome, IsGrowing, IsMapBody, IsSetBody, MayOpen};
-ghost use Rattle.fr_frame.specs.Cells.{absent, given, cells_occur, held_value, slot_of_cell, value_occurs};
-ghost use Rattle.fr_frame.specs.Heap.{as_form, body_of};
-ghost use Rattle.fr_frame.specs.Outlines.{is_begun_body, is_list_body};
+ghost use Rattle.fr_model.specs.Trackers.{Tracker as TreeTracker};
+ghost use Rattle.fr_frame.specs.Bodies.{fresh_body, HoldsSome, IsMapBody, MayOpen};
+ghost use Rattle.fr_frame.specs.Cells.{held_value};
+ghost use Rattle.fr_frame.specs.Growing.{grown, MayGrow};
 ghost use Rattle.fr_frame.specs.declared.places.SlotId.{SlotId as Number};
 
 use crate::children::Children;
+use crate::dynamic_pieces::add_entry_for;
 use crate::opening::{children_of, over_base};
-use crate::places::{Form, Piece, SlotId};
+use crate::places::{ContentKind, Growth, Piece, SlotId, Tracker};
 use fr_shape::{Items, Ledger, OutOfMemory, ShapeId, ShapeTable, Value, release};
 use std::alloc::Global;
 
@@ -54,8 +49,8 @@ pub(crate) fn slot_at(piece: &Piece, i: usize) -> Option<SlotId>
 /// Puts child `i` into a slot, where there is that child and it is in none, and hands its value
 /// out, if it was there.
 fn link_child(children: &mut Children, i: u32, slot: SlotId) -> Option<Value>
-    ensures linked { (form : TreeForm) →
-        begun_body form children.new ≡ linked slot.0 i (begun_body form children.old) }
+    ensures linked { (tracker : TreeTracker) →
+        begun_body tracker children.new ≡ linked slot.0 i (begun_body tracker children.old) }
     ensures taken { option_map view result ≡ held_value (slice_get children.old i) }
     ensures tokens { (t : ℕ) → cells_occur children.old t
         ≡ cells_occur children.new t + value_occurs (option_map view result) t }
@@ -84,8 +79,8 @@ pub(crate) fn link(piece: &mut Piece, i: u32, slot: SlotId) -> Option<Value>
 
 /// Lets child `i` not be there, where it is in this slot.
 fn unlink_child(children: &mut Children, i: u32, slot: SlotId)
-    ensures unlinked { (form : TreeForm) →
-        begun_body form children.new ≡ unlinked slot.0 i (begun_body form children.old) }
+    ensures unlinked { (tracker : TreeTracker) →
+        begun_body tracker children.new ≡ unlinked slot.0 i (begun_body tracker children.old) }
     ensures tokens { (t : ℕ) → cells_occur children.new t ≡ cells_occur children.old t }
 {
     let Some(at) = child_at(children, i as usize) else {
@@ -152,12 +147,12 @@ fn product_of(values: Vec<Value>) -> Value
 pub(crate) fn open(
     alloc: Global,
     piece: &mut Piece,
-    form: Form,
+    tracker: Tracker,
     count: usize,
 ) -> Result<(), OutOfMemory>
-    requires { MayOpen (as_form form) (body_of piece.old) }
+    requires { MayOpen (as_tracker tracker) (body_of piece.old) }
     ensures opened { OnOk result (body_of piece.new
-        ≡ opened (as_form form) count (body_of piece.old)) }
+        ≡ opened (as_tracker tracker) count (body_of piece.old)) }
     ensures refused { OnErr result (body_of piece.new ≡ body_of piece.old) }
     ensures tokens { (t : ℕ) →
         body_occurs (body_of piece.new) t ≡ body_occurs (body_of piece.old) t }
@@ -165,14 +160,14 @@ pub(crate) fn open(
     match piece {
         Piece::Entered => {
             let children = Children::none_yet(alloc, count)?;
-            *piece = Piece::Begun(form, children);
+            *piece = Piece::Begun(tracker, children);
             Ok(())
         }
         Piece::Whole(value) => {
-            let Some(over) = over_base(form, value) else {
+            let Some(over) = over_base(tracker, value) else {
                 return Err(OutOfMemory);
             };
-            let children = children_of(alloc, form, value)?;
+            let children = children_of(alloc, tracker, value)?;
             *piece = Piece::Begun(over, children);
             Ok(())
         }
@@ -214,7 +209,7 @@ pub(crate) fn open_some(alloc: Global, piece: &mut Piece) -> Result<(), OutOfMem
     let mut children = Children::none_yet(alloc, 1)?;
     let value = held_in(std::mem::replace(piece, Piece::Entered));
     children.put(0, content_of(value));
-    *piece = Piece::Begun(Form::Some, children);
+    *piece = Piece::Begun(Tracker::Content(ContentKind::Some), children);
     Ok(())
 }
 
@@ -223,7 +218,7 @@ pub(crate) fn is_list(piece: &Piece) -> bool
     ensures { result ≡ is_list_body (body_of piece.now) }
 {
     match piece {
-        Piece::Begun(form, _) => form.keeps_items(),
+        Piece::Begun(tracker, _) => tracker.keeps_items(),
         Piece::Object(..) | Piece::Entered | Piece::Whole(_) => false,
     }
 }
@@ -239,7 +234,7 @@ pub(crate) fn is_begun(piece: &Piece) -> bool
 }
 
 /// One child more at a begun place, behind the others, which isn't there yet.
-pub(crate) fn add_child(alloc: Global, piece: &mut Piece) -> Result<(), OutOfMemory>
+fn add_child(alloc: Global, piece: &mut Piece) -> Result<(), OutOfMemory>
     requires { IsGrowing (body_of piece.old) }
     ensures added { OnOk result (body_of piece.new ≡ added (body_of piece.old)) }
     ensures refused { OnErr result (body_of piece.new ≡ body_of piece.old) }
@@ -253,7 +248,7 @@ pub(crate) fn add_child(alloc: Global, piece: &mut Piece) -> Result<(), OutOfMem
 }
 
 /// Two children more at a begun map, behind the others: a key and a value that aren't there yet.
-pub(crate) fn add_entry(alloc: Global, piece: &mut Piece) -> Result<(), OutOfMemory>
+fn add_entry(alloc: Global, piece: &mut Piece) -> Result<(), OutOfMemory>
     requires { IsMapBody (body_of piece.old) }
     ensures added { OnOk result (body_of piece.new ≡ added_entry (body_of piece.old)) }
     ensures refused { OnErr result (body_of piece.new ≡ body_of piece.old) }
@@ -263,6 +258,21 @@ pub(crate) fn add_entry(alloc: Global, piece: &mut Piece) -> Result<(), OutOfMem
     match piece {
         Piece::Begun(_, children) => children.push_two(alloc),
         Piece::Entered | Piece::Whole(_) | Piece::Object(..) => unreachable!(),
+    }
+}
+
+/// More at a begun place, behind its children, none of which is there yet.
+pub(crate) fn grow(alloc: Global, piece: &mut Piece, growth: Growth) -> Result<(), OutOfMemory>
+    requires { MayGrow growth (body_of piece.old) }
+    ensures grown { OnOk result (body_of piece.new ≡ grown growth (body_of piece.old)) }
+    ensures refused { OnErr result (body_of piece.new ≡ body_of piece.old) }
+    ensures tokens { (t : ℕ) →
+        body_occurs (body_of piece.new) t ≡ body_occurs (body_of piece.old) t }
+{
+    match growth {
+        Growth::Item => add_child(alloc, piece),
+        Growth::Entry => add_entry(alloc, piece),
+        Growth::EntryFor(key) => add_entry_for(alloc, piece, key),
     }
 }
 
@@ -297,14 +307,14 @@ pub(crate) fn count_children(piece: &Piece) -> usize
 }
 
 /// Lets a begun place be begun so instead, with the children that it has.
-pub(crate) fn reform(piece: &mut Piece, form: Form)
-    ensures piece { body_of piece.new ≡ reformed (as_form form) (body_of piece.old) }
+pub(crate) fn reform(piece: &mut Piece, tracker: Tracker)
+    ensures piece { body_of piece.new ≡ reformed (as_tracker tracker) (body_of piece.old) }
     ensures tokens { (t : ℕ) →
         body_occurs (body_of piece.new) t ≡ body_occurs (body_of piece.old) t }
 {
     match std::mem::replace(piece, Piece::Entered) {
-        Piece::Begun(_, children) => *piece = Piece::Begun(form, children),
-        Piece::Object(_keys, children) => *piece = Piece::Begun(form, children),
+        Piece::Begun(_, children) => *piece = Piece::Begun(tracker, children),
+        Piece::Object(_keys, children) => *piece = Piece::Begun(tracker, children),
         Piece::Whole(value) => *piece = Piece::Whole(value),
         Piece::Entered => {}
     }

@@ -1,15 +1,16 @@
 //! The places in slots.
 ghost use Rattle.std.specs.Borrow.{Lends, sem};
-ghost use Rattle.std.specs.Prelude.{◌≡◌, Some, None};
+ghost use Rattle.std.specs.Prelude.{◌≡◌};
+ghost use Rattle.fr_frame.specs.Common.{None, Some, as_entries};
 ghost use Rattle.fr_model.specs.Paths.{step_as};
-ghost use Rattle.fr_model.specs.Tree.{as_map};
+ghost use Rattle.fr_model.specs.Trackers.{EntriesKind as TreeEntriesKind};
 
 use crate::children::Children;
 use crate::keys::Keys;
 use fr_arena::{Idx, ListRope};
 use fr_path::PathStep;
 use fr_plan::NodeId;
-use fr_shape::Value;
+use fr_shape::{Text, Value};
 
 /// The number of a slot.
 #[derive(Clone, Copy, PartialEq, Eq, Hash)]
@@ -38,41 +39,50 @@ pub enum FrameOwner {
     Child(SlotId, u32),
 }
 
-/// As what a place is begun: with the fields of a struct or of an enum's variant of this number,
-/// with the elements of an array, around one child, which is the content of an option, of either
-/// side of a result, or what a pointer points to, with the items of a list, as a pointer to a
-/// slice, with its items, that is open for more of them or closed, with the items of a set, with
-/// the keys and values of a map, which take turns, over as many entries as it had when it was
-/// begun, or with the elements of a dynamic array.
+/// Around what a place is begun: the content of an option, of either side of a result, or what a
+/// pointer points to.
 #[derive(Clone, Copy)]
-pub enum Form {
-    Struct,
-    Array,
-    Variant(u32),
+pub enum ContentKind {
     Some,
     Ok,
     Err,
     Pointer,
+}
+
+/// Whose items a place has: a list's, those of a pointer to a slice, which is open for more of them
+/// or closed, a set's, or a dynamic array's.
+#[derive(Clone, Copy)]
+pub enum ItemsKind {
     List,
     Slice,
     ClosedSlice,
     Set,
-    Map(u32),
-    DynArray,
+    Array,
 }
 
-/// What the children of a begun place are: the fields of a struct, or of the variant of this
-/// number, for which there are fills and validators; or something else, for which there are none.
+/// Whose entries a place has: those of a map, whose keys and values take turns, over as many as it
+/// had when it was begun.
 #[derive(Clone, Copy)]
-pub(crate) enum Parts {
+pub enum EntriesKind {
+    Map(u32),
+}
+
+/// As what a place is begun, told by what its children are: the fields of a struct, or of an enum's
+/// variant of this number, the elements of an array, the one thing that it holds, items, or
+/// entries.
+#[derive(Clone, Copy)]
+pub enum Tracker {
     Fields(Option<u32>),
-    Others,
+    Elements,
+    Content(ContentKind),
+    Items(ItemsKind),
+    Entries(EntriesKind),
 }
 
 /// The step to child `i` of a map over a base of so many entries: to a key or a value of an entry,
 /// whose number doesn't count them.
 fn entry_step(base: u32, i: u32) -> PathStep
-    ensures step { result ≡ step_as (as_map base) i }
+    ensures step { result ≡ step_as (as_entries (TreeEntriesKind.Map base)) i }
 {
     let number = (i / 2).saturating_sub(base);
     if i % 2 == 0 {
@@ -82,120 +92,140 @@ fn entry_step(base: u32, i: u32) -> PathStep
     }
 }
 
-impl Form {
-    ghost use Rattle.fr_model.specs.Tree.{base_of_form, form_number, same_form};
+impl Tracker {
+    ghost use Rattle.fr_model.specs.Trackers.{base_of_tracker, tracker_number, same_tracker};
     ghost use Rattle.fr_frame.specs.Bodies.{boxes, gathers};
-    ghost use Rattle.fr_frame.specs.Heap.{as_form, parts_in};
+    ghost use Rattle.fr_frame.specs.Heap.{as_tracker, fields_of_tracker};
     ghost use Rattle.fr_frame.specs.Items.{keeps_items};
     ghost use Rattle.fr_frame.specs.Outlines.{has_items};
 
     /// The step to child `i` of a place that is begun so. A content, a side or a pointee is child
     /// 0; of a map's children each other one is a key, before its value.
     pub fn step(self, i: u32) -> PathStep
-        ensures step { result ≡ step_as (as_form self) i }
+        ensures step { result ≡ step_as (as_tracker self) i }
     {
         match self {
-            Form::Struct | Form::Variant(_) => PathStep::Field(i),
-            Form::Array | Form::List | Form::Slice | Form::ClosedSlice => PathStep::Index(i),
-            Form::DynArray => PathStep::Index(i),
-            Form::Some => PathStep::OptionSome,
-            Form::Ok => PathStep::ResultOk,
-            Form::Err => PathStep::ResultErr,
-            Form::Pointer => PathStep::Deref,
-            Form::Set => PathStep::SetItem,
-            Form::Map(base) => entry_step(base, i),
+            Tracker::Fields(_) => PathStep::Field(i),
+            Tracker::Elements => PathStep::Index(i),
+            Tracker::Content(ContentKind::Some) => PathStep::OptionSome,
+            Tracker::Content(ContentKind::Ok) => PathStep::ResultOk,
+            Tracker::Content(ContentKind::Err) => PathStep::ResultErr,
+            Tracker::Content(ContentKind::Pointer) => PathStep::Deref,
+            Tracker::Items(ItemsKind::Set) => PathStep::SetItem,
+            Tracker::Items(
+                ItemsKind::List | ItemsKind::Slice | ItemsKind::ClosedSlice | ItemsKind::Array,
+            ) => PathStep::Index(i),
+            Tracker::Entries(EntriesKind::Map(base)) => entry_step(base, i),
         }
     }
 
-    /// A number for each form.
+    /// A number for each.
     fn number(self) -> u64
-        ensures { result ≡ form_number (as_form self) }
+        ensures { result ≡ tracker_number (as_tracker self) }
     {
         match self {
-            Form::Struct => 0,
-            Form::Array => 1,
-            Form::Some => 2,
-            Form::Ok => 3,
-            Form::Err => 4,
-            Form::Pointer => 5,
-            Form::List => 6,
-            Form::Slice => 7,
-            Form::ClosedSlice => 8,
-            Form::Set => 9,
-            Form::Map(_) => 10,
-            Form::DynArray => 11,
-            Form::Variant(k) => 13 + k as u64,
+            Tracker::Fields(None) => 0,
+            Tracker::Elements => 1,
+            Tracker::Content(ContentKind::Some) => 2,
+            Tracker::Content(ContentKind::Ok) => 3,
+            Tracker::Content(ContentKind::Err) => 4,
+            Tracker::Content(ContentKind::Pointer) => 5,
+            Tracker::Items(ItemsKind::List) => 6,
+            Tracker::Items(ItemsKind::Slice) => 7,
+            Tracker::Items(ItemsKind::ClosedSlice) => 8,
+            Tracker::Items(ItemsKind::Set) => 9,
+            Tracker::Entries(EntriesKind::Map(_)) => 10,
+            Tracker::Items(ItemsKind::Array) => 11,
+            Tracker::Fields(Some(k)) => 13 + k as u64,
         }
     }
 
     /// How many entries a map had when it was begun.
     fn base(self) -> u32
-        ensures { result ≡ base_of_form (as_form self) }
+        ensures { result ≡ base_of_tracker (as_tracker self) }
     {
         match self {
-            Form::Map(base) => base,
-            Form::Struct | Form::Array | Form::Variant(_) | Form::List | Form::Set => 0,
-            Form::Some | Form::Ok | Form::Err | Form::Pointer => 0,
-            Form::Slice | Form::ClosedSlice | Form::DynArray => 0,
+            Tracker::Entries(EntriesKind::Map(base)) => base,
+            Tracker::Fields(_) | Tracker::Elements | Tracker::Content(_) | Tracker::Items(_) => 0,
         }
     }
 
     /// Whether both are the same way to be begun.
-    pub fn is(self, other: Form) -> bool
-        ensures same { result ≡ same_form (as_form self) (as_form other) }
+    pub fn is(self, other: Tracker) -> bool
+        ensures same { result ≡ same_tracker (as_tracker self) (as_tracker other) }
     {
         self.number() == other.number() && self.base() == other.base()
     }
 
     /// Whether what is made of a place that is begun so holds a box.
     pub(crate) fn boxes(self) -> bool
-        ensures { result ≡ boxes (as_form self) }
+        ensures { result ≡ boxes (as_tracker self) }
     {
         match self {
-            Form::Struct | Form::Array | Form::Variant(_) | Form::List => false,
-            Form::Some | Form::Ok | Form::Err | Form::Pointer => true,
-            Form::Slice | Form::ClosedSlice => true,
-            Form::Set | Form::Map(_) | Form::DynArray => false,
+            Tracker::Content(_) | Tracker::Items(ItemsKind::Slice | ItemsKind::ClosedSlice) => true,
+            Tracker::Items(ItemsKind::List | ItemsKind::Set | ItemsKind::Array) => false,
+            Tracker::Fields(_) | Tracker::Elements | Tracker::Entries(_) => false,
         }
     }
 
     /// Whether what is made of a place that is begun so is put together anew.
     pub(crate) fn gathers(self) -> bool
-        ensures { result ≡ gathers (as_form self) }
+        ensures { result ≡ gathers (as_tracker self) }
     {
         match self {
-            Form::Struct | Form::Array | Form::Variant(_) | Form::List => false,
-            Form::Some | Form::Ok | Form::Err | Form::Pointer => false,
-            Form::Slice | Form::ClosedSlice => false,
-            Form::Set | Form::Map(_) | Form::DynArray => true,
+            Tracker::Items(ItemsKind::Set | ItemsKind::Array) | Tracker::Entries(_) => true,
+            Tracker::Items(ItemsKind::List | ItemsKind::Slice | ItemsKind::ClosedSlice) => false,
+            Tracker::Fields(_) | Tracker::Elements | Tracker::Content(_) => false,
         }
     }
 
     /// Whether the items of a place that is begun so keep their slots: it is a list or a pointer to
     /// a slice.
     pub(crate) fn keeps_items(self) -> bool
-        ensures told { result ≡ has_items (as_form self) }
+        ensures told { result ≡ has_items (as_tracker self) }
         ensures kept { result ≡ keeps_items self }
     {
         match self {
-            Form::List | Form::Slice | Form::ClosedSlice => true,
-            Form::Struct | Form::Array | Form::Variant(_) | Form::Set | Form::Map(_) => false,
-            Form::Some | Form::Ok | Form::Err | Form::Pointer | Form::DynArray => false,
+            Tracker::Items(ItemsKind::List | ItemsKind::Slice | ItemsKind::ClosedSlice) => true,
+            Tracker::Items(ItemsKind::Set | ItemsKind::Array) => false,
+            Tracker::Fields(_) | Tracker::Elements | Tracker::Content(_) | Tracker::Entries(_) => {
+                false
+            }
         }
     }
 
-    /// What the children of a place are that is begun so.
-    pub(crate) fn parts(self) -> Parts
-        ensures { result ≡ parts_in (as_form self) }
+    /// Whose fields the children of a place are that is begun so, if they are fields: there are
+    /// fills and validators for them alone.
+    pub(crate) fn fields(self) -> Option<Option<u32>>
+        ensures { result ≡ fields_of_tracker (as_tracker self) }
     {
         match self {
-            Form::Struct => Parts::Fields(None),
-            Form::Variant(k) => Parts::Fields(Some(k)),
-            Form::Array | Form::Some | Form::Ok | Form::Err | Form::Pointer => Parts::Others,
-            Form::List | Form::Slice | Form::ClosedSlice => Parts::Others,
-            Form::Set | Form::Map(_) | Form::DynArray => Parts::Others,
+            Tracker::Fields(selected) => Some(selected),
+            Tracker::Elements | Tracker::Content(_) | Tracker::Items(_) | Tracker::Entries(_) => {
+                None
+            }
         }
     }
+}
+
+/// The way to a child of a begun place: to the one of this number, as it is; to a new item behind
+/// the other children; to the key of a new entry of a map, whose value isn't there yet; or to the
+/// value that a dynamic object has under a key, if need be of a new entry.
+#[derive(Clone, Copy)]
+pub enum ChildWay<'k> {
+    Child(u32),
+    Item,
+    Key,
+    Entry(&'k str),
+}
+
+/// What comes behind the children of a begun place: an item; the key and the value of an entry of a
+/// map; or the value that a dynamic object has under a key, which it didn't have.
+#[derive(Drop)]
+pub(crate) enum Growth {
+    Item,
+    Entry,
+    EntryFor(Text),
 }
 
 /// What was put at a place so far: nothing, all of its value, or some of its children. A dynamic
@@ -204,7 +234,7 @@ impl Form {
 pub enum Piece {
     Entered,
     Whole(Value),
-    Begun(Form, Children),
+    Begun(Tracker, Children),
     Object(Keys, Children),
 }
 

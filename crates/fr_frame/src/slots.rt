@@ -1,12 +1,7 @@
 //! All slots of a builder.
-ghost use Rattle.std.specs.Prelude.{◌≡◌, ℕ, ◌+◌, ◌<◌, length, slice_get, slice_set, Some, None, IfOk, IfSome, OnErr};
+ghost use Rattle.std.specs.Prelude.{◌+◌, ◌<◌, ◌≡◌};
+ghost use Rattle.fr_frame.specs.Common.{IfOk, IfSome, IsInUse, IsReserved, None, OnErr, SameTokens, Shows, Some, body_occurs, body_of, heap_of, length, node_of, option_copied, option_map, outlined, slice_get, slice_set, slots_occur, with_slot, ℕ};
 ghost use Rattle.std.specs.Borrow.{Lends, sem};
-ghost use Rattle.std.specs.Option.{option_map, option_copied};
-ghost use Rattle.fr_frame.specs.Bodies.{body_occurs};
-ghost use Rattle.fr_frame.specs.Changes.{IsInUse, SameTokens, Shows};
-ghost use Rattle.fr_frame.specs.Heap.{body_of, heap_of, node_of, slots_occur, with_slot};
-ghost use Rattle.fr_frame.specs.Outlines.{outlined};
-ghost use Rattle.fr_frame.specs.Items.{IsReserved};
 ghost use Rattle.fr_frame.specs.RawSlots.{IsFreeAt};
 ghost use Rattle.fr_frame.specs.declared.places.Slot.{Slot as Entry};
 

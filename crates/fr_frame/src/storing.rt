@@ -1,14 +1,8 @@
 //! Places that are left half done and entered again: their mark, and the slot that a child is in.
-ghost use Rattle.std.specs.Prelude.{◌≡◌, false, true, IsOk, IsSome, OnErr, OnOk, Some};
-ghost use Rattle.std.specs.Option.{option_and_then, option_map};
-ghost use Rattle.fr_shape.specs.Released.{Conserved, Room, RoseBy};
-ghost use Rattle.fr_shape.specs.Val.{Val};
-ghost use Rattle.fr_frame.specs.Bodies.{body_occurs, cell_at, takes_memory, value_of, whole_body};
-ghost use Rattle.fr_frame.specs.Cells.{slot_of_cell};
-ghost use Rattle.fr_frame.specs.Changes.{Becomes, IfInUse, IsInUse, SameTokens, Shows};
-ghost use Rattle.fr_frame.specs.Heap.{body_of, child_slot, heap_of, marked, slots_occur, with_mark};
-ghost use Rattle.fr_frame.specs.Items.{is_used, items_of};
-ghost use Rattle.fr_frame.specs.RawSlots.{body_with, with_stored};
+ghost use Rattle.std.specs.Prelude.{◌≡◌};
+ghost use Rattle.fr_frame.specs.Common.{Becomes, Conserved, IfInUse, IsInUse, IsOk, IsSome, OnErr, OnOk, Room, RoseBy, SameTokens, Shows, Some, Val, body_occurs, body_of, body_with, cell_at, false, heap_of, is_used, items_of, option_and_then, option_map, slot_of_cell, slots_occur, takes_memory, true, value_of, whole_body, with_mark};
+ghost use Rattle.fr_frame.specs.Heap.{child_slot, marked};
+ghost use Rattle.fr_frame.specs.RawSlots.{with_stored};
 ghost use Rattle.fr_frame.specs.declared.places.SlotId.{SlotId as Number};
 
 use crate::draining::holds_item;

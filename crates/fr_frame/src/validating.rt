@@ -1,23 +1,12 @@
 //! Running the validators of a place whose children are all there. What a plan says of its fields
 //! is read without a table, and holds for every table that it is a plan of.
-ghost use Rattle.std.specs.Prelude.{◌≡◌, ◌<◌, length, slice_get, None, IfErr, IsSome, OnOk};
-ghost use Rattle.std.specs.Option.{option_copied, option_map};
-ghost use Rattle.fr_shape.specs.Checked.{IsChecked};
-ghost use Rattle.fr_shape.specs.Look.{Table};
-ghost use Rattle.fr_shape.specs.View.{view};
-ghost use Rattle.fr_model.specs.Failing.{first_invalid};
-ghost use Rattle.fr_frame.specs.Bodies.{as_fields, trees_of, HasAllChildren};
-ghost use Rattle.fr_frame.specs.Cells.{values_of};
-ghost use Rattle.fr_frame.specs.Completing.{shape_of, IsFull, IsPlanFor};
-ghost use Rattle.fr_frame.specs.Defaults.{invalid};
-ghost use Rattle.fr_frame.specs.FieldDefaults.{refused_of, HasTheseFields, HasValidators, IsPlanned};
-ghost use Rattle.fr_frame.specs.Filling.{IsCauseOf};
-ghost use Rattle.fr_frame.specs.Heap.{body_of};
+ghost use Rattle.std.specs.Prelude.{◌<◌, ◌≡◌};
+ghost use Rattle.fr_frame.specs.Common.{HasAllChildren, HasTheseFields, HasValidators, IfErr, IsCauseOf, IsChecked, IsFull, IsPlanFor, IsPlanned, IsSome, None, OnOk, Table, as_fields, body_of, first_invalid, invalid, length, option_copied, option_map, refused_of, shape_of, slice_get, trees_of, values_of, view};
 
 use crate::children::Children;
 use crate::field_plans::{fields_told, has_validators};
 use crate::lacking::run_validators;
-use crate::places::{Parts, Piece};
+use crate::places::Piece;
 use fr_plan::{FieldPlan, NodeId, TypePlanCore};
 use fr_shape::{Hooks, ReflectErrorKind, Value};
 use std::alloc::Global;
@@ -107,9 +96,9 @@ pub(crate) fn test_valid<H: Hooks>(
 {
     match piece {
         Piece::Entered | Piece::Whole(_) => Ok(()),
-        Piece::Begun(form, children) => match form.parts() {
-            Parts::Fields(selected) => test_values(alloc, plan, hooks, node, selected, children),
-            Parts::Others => Ok(()),
+        Piece::Begun(tracker, children) => match tracker.fields() {
+            Some(selected) => test_values(alloc, plan, hooks, node, selected, children),
+            None => Ok(()),
         },
         Piece::Object(..) => Ok(()),
     }

@@ -1,12 +1,8 @@
 //! Finding a value among those of a list that grows at its end.
-ghost use Rattle.std.specs.Prelude.{◌≡◌, ℕ, ◌+◌, ◌-◌, ◌<◌, ◌≤◌, true, false, List, [], ◌∷◌, ◌++◌, length, map, take, drop, is_some, IfOk, IfSome, IfNone, OnOk, OnErr};
-ghost use Rattle.std.specs.List.Sorted.{IsPermutation};
+ghost use Rattle.fr_frame.specs.Common.{IfNone, IfOk, IfSome, Indexes, IsPermutation, IsRun, List, OnErr, OnOk, [], false, has_number, is_some, is_there, joined, length, runs_of, same, true, val_at, vals_view, view, ℕ};
+ghost use Rattle.std.specs.Prelude.{◌-◌, map, take, drop, ◌++◌, ◌+◌, ◌<◌, ◌∷◌, ◌≡◌, ◌≤◌};
 ghost use Rattle.fr_shape.specs.declared.value.Value.{Value as TheValue};
-ghost use Rattle.fr_shape.specs.Same.{same};
-ghost use Rattle.fr_shape.specs.View.{view, vals_view};
-ghost use Rattle.fr_model.specs.Gathering.{is_there};
 ghost use Rattle.fr_frame.specs.ChildIndex.{IsCutAt};
-ghost use Rattle.fr_frame.specs.Indexing.{val_at, has_number, joined, runs_of, IsRun, Indexes};
 
 use crate::contents::ByContents;
 use fr_shape::{OutOfMemory, Value, compare};

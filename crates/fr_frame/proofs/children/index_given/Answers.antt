@@ -1,5 +1,5 @@
 use Rattle.std.proofs.Common.{◌≡◌, ◌+◌, take, refl, sym, ◌∙◌}
-use Rattle.fr_frame.specs.ChildIndex.{IsIndexed}
+use Rattle.fr_frame.specs.Common.{IsIndexed}
 use Rattle.fr_frame.proofs.IndexLaws.{count_is, indexed_before, indexed_more, indexed_refused}
 use Rattle.fr_frame.proofs.children.index_given.Goals as goal
 

@@ -1,5 +1,5 @@
 use Rattle.std.proofs.Common.{◌≡◌}
-use Rattle.fr_frame.specs.ChildIndex.{IsIndexed}
+use Rattle.fr_frame.specs.Common.{IsIndexed}
 use Rattle.fr_frame.proofs.children.index_given.Given as goal
 
 -- the index has the values before this one

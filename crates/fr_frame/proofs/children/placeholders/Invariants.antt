@@ -1,7 +1,5 @@
 use Rattle.std.proofs.Common.{◌≡◌, length}
-use Rattle.std.specs.List.{All}
-use Rattle.fr_shape.specs.Val.{unit}
-use Rattle.fr_shape.specs.View.{view}
+use Rattle.fr_frame.specs.Common.{All, unit, view}
 use Rattle.fr_frame.proofs.children.placeholders.Given as goal
 
 abbrev pub invariant-loop-i : goal.invariant-loop-i

@@ -1,11 +1,6 @@
 use Rattle.std.proofs.Common.{arith}
-use Rattle.std.specs.Prelude.{IfErr}
+use Rattle.fr_frame.specs.Common.{IfErr, IsCauseOf, WhyNot, body_of, lack, own_tree, shape_of}
 use Rattle.std.proofs.lemmas.Grind.{common_steps}
-use Rattle.fr_model.specs.Complete.{lack}
-use Rattle.fr_frame.specs.Bodies.{own_tree}
-use Rattle.fr_frame.specs.Completing.{shape_of, WhyNot}
-use Rattle.fr_frame.specs.Filling.{IsCauseOf}
-use Rattle.fr_frame.specs.Heap.{body_of}
 use Rattle.fr_frame.proofs.LackLaws.{err_so, body_whole}
 use Rattle.fr_frame.proofs.WhyLaws.{why_lacking, why_no_memory, is_filled}
 use Rattle.fr_frame.proofs.completing.fill_piece.Goals as goal

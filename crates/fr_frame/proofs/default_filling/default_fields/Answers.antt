@@ -1,6 +1,5 @@
 use Rattle.std.proofs.Common.{sym}
-use Rattle.fr_frame.specs.Bodies.{as_fields}
-use Rattle.fr_frame.specs.Completing.{shape_of}
+use Rattle.fr_frame.specs.Common.{as_fields, shape_of}
 use Rattle.fr_frame.proofs.DefaultLaws.{all_there_stay, all_there_met}
 use Rattle.fr_frame.proofs.default_filling.default_fields.Goals as goal
 

@@ -1,6 +1,6 @@
 use Rattle.std.proofs.Common.{◌≡◌, Some, sym, ◌∙◌, ap}
-use Rattle.fr_shape.specs.Fills.{preset_in, preset_of}
-use Rattle.fr_shape.specs.Tokens.{tokens}
+use Rattle.fr_frame.specs.Common.{preset_of, tokens}
+use Rattle.fr_shape.specs.Fills.{preset_in}
 use Rattle.fr_frame.proofs.FillLaws.{preset_light}
 use Rattle.fr_frame.proofs.default_filling.default_of_entered.Goals as goal
 

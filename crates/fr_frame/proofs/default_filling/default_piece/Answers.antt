@@ -1,10 +1,5 @@
 use Rattle.std.proofs.Common.{refl, sym, ◌∙◌, ap, subst}
-use Rattle.fr_model.specs.Tree.{as_dyn_object}
-use Rattle.fr_frame.specs.declared.places.Piece.{Piece}
-use Rattle.fr_frame.specs.Bodies.{Body, begun_body, body_occurs, entered_body, IsClosed}
-use Rattle.fr_frame.specs.Completing.{shape_of}
-use Rattle.fr_frame.specs.Defaults.{defaulted, unmet}
-use Rattle.fr_frame.specs.Heap.{as_form, body_of}
+use Rattle.fr_frame.specs.Common.{Body, EntriesKind, IsClosed, Piece, as_entries, as_tracker, begun_body, body_occurs, body_of, defaulted, entered_body, shape_of, unmet}
 use Rattle.fr_frame.proofs.DefaultLaws.{closed_after, others_met, others_stay, tokens_after}
 use Rattle.fr_frame.proofs.default_filling.default_piece.Goals as goal
 
@@ -19,29 +14,29 @@ returns-in_ok-piece-in-Entered-clause-closed c =
     subst IsClosed (sym c.in_ok-piece-in-Entered.ensures.filled)
     (closed_after c.args.table.now (shape_of c.args.plan.now c.args.node) entered_body tt)
 
-pub returns-in-Others-clause-filled : goal.returns-in-Others-clause-filled
-returns-in-Others-clause-filled c =
-    ap (begun_body (as_form c.in-Begun.form))
-    (others_stay c.args.table.now (shape_of c.args.plan.now c.args.node) (as_form c.in-Begun.form) (sym c.in-Others.ensures) 0
+pub returns-in-None-clause-filled : goal.returns-in-None-clause-filled
+returns-in-None-clause-filled c =
+    ap (begun_body (as_tracker c.in-Begun.tracker))
+    (others_stay c.args.table.now (shape_of c.args.plan.now c.args.node) (as_tracker c.in-Begun.tracker) (sym c.in-None.ensures) 0
     c.in-Begun.children)
     ∙ ap (λ (piece : Piece). defaulted c.args.table.now (shape_of c.args.plan.now c.args.node) (body_of piece)) (sym c.in-Begun.is)
 
-pub returns-in-Others-clause-met : goal.returns-in-Others-clause-met
-returns-in-Others-clause-met c =
+pub returns-in-None-clause-met : goal.returns-in-None-clause-met
+returns-in-None-clause-met c =
     ap (λ (piece : Piece). unmet c.args.table.now (shape_of c.args.plan.now c.args.node) (body_of piece)) c.in-Begun.is
-    ∙ others_met c.args.table.now (shape_of c.args.plan.now c.args.node) (as_form c.in-Begun.form) (sym c.in-Others.ensures) 0
+    ∙ others_met c.args.table.now (shape_of c.args.plan.now c.args.node) (as_tracker c.in-Begun.tracker) (sym c.in-None.ensures) 0
     c.in-Begun.children
 
 pub returns-in-Object-clause-filled : goal.returns-in-Object-clause-filled
 returns-in-Object-clause-filled c =
     ap body_of c.in-Object.is
-    ∙ ap (begun_body (as_dyn_object c.in-Object.field-0))
-    (others_stay c.args.table.now (shape_of c.args.plan.now c.args.node) (as_dyn_object c.in-Object.field-0) refl 0
+    ∙ ap (begun_body (as_entries (EntriesKind.Object c.in-Object.field-0)))
+    (others_stay c.args.table.now (shape_of c.args.plan.now c.args.node) (as_entries (EntriesKind.Object c.in-Object.field-0)) refl 0
     c.in-Object.field-1)
     ∙ ap (λ (piece : Piece). defaulted c.args.table.now (shape_of c.args.plan.now c.args.node) (body_of piece)) (sym c.in-Object.is)
 
 pub returns-in-Object-clause-met : goal.returns-in-Object-clause-met
 returns-in-Object-clause-met c =
     ap (λ (piece : Piece). unmet c.args.table.now (shape_of c.args.plan.now c.args.node) (body_of piece)) c.in-Object.is
-    ∙ others_met c.args.table.now (shape_of c.args.plan.now c.args.node) (as_dyn_object c.in-Object.field-0) refl 0
+    ∙ others_met c.args.table.now (shape_of c.args.plan.now c.args.node) (as_entries (EntriesKind.Object c.in-Object.field-0)) refl 0
     c.in-Object.field-1

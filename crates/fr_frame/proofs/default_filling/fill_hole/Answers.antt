@@ -1,11 +1,5 @@
 use Rattle.std.proofs.Common.{◌≡◌, None, sym, ◌∙◌, ap}
-use Rattle.std.specs.Option.{option_map}
-use Rattle.std.specs.Prelude.{is_some}
-use Rattle.fr_shape.specs.View.{view}
-use Rattle.fr_model.specs.Complete.{hole_takes}
-use Rattle.fr_model.specs.Places.{deferred_column}
-use Rattle.fr_frame.specs.Bodies.{as_fields}
-use Rattle.fr_frame.specs.Cells.{value_at}
+use Rattle.fr_frame.specs.Common.{as_fields, deferred_column, hole_takes, is_some, option_map, value_at, view}
 use Rattle.fr_frame.proofs.FillLaws.{copied_some, not_some}
 use Rattle.fr_frame.proofs.DefaultLaws.{nth_there, nth_nothing, nth_fill}
 use Rattle.fr_frame.proofs.default_filling.fill_hole.Goals as goal

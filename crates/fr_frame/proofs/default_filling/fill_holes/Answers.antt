@@ -1,12 +1,5 @@
 use Rattle.std.proofs.Common.{◌≡◌, List, Option, length, sym, ◌∙◌, ap, subst, arith}
-use Rattle.fr_shape.specs.Val.{Val}
-use Rattle.fr_model.specs.Complete.{hole_takes}
-use Rattle.fr_model.specs.Places.{deferred_column}
-use Rattle.fr_frame.specs.Bodies.{as_fields, AreUnplaced}
-use Rattle.fr_frame.specs.Cells.{Cell, cells_occur}
-use Rattle.fr_frame.specs.Completing.{shape_of}
-use Rattle.fr_frame.specs.FieldDefaults.{defaulted_nth}
-use Rattle.fr_frame.specs.Filling.{IsTold}
+use Rattle.fr_frame.specs.Common.{AreUnplaced, Cell, IsTold, Val, as_fields, cells_occur, defaulted_nth, deferred_column, hole_takes, shape_of}
 use Rattle.fr_frame.proofs.LackLaws.{told_here, item_is}
 use Rattle.fr_frame.proofs.DefaultLaws.{first_all, first_closed, first_count, first_more, first_tokens, its_fill, names_field}
 use Rattle.fr_frame.proofs.default_filling.fill_holes.Goals as goal

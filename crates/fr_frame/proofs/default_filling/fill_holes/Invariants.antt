@@ -1,6 +1,5 @@
 use Rattle.std.proofs.Common.{◌≡◌}
-use Rattle.fr_frame.specs.Bodies.{as_fields}
-use Rattle.fr_frame.specs.Completing.{shape_of}
+use Rattle.fr_frame.specs.Common.{as_fields, shape_of}
 use Rattle.fr_frame.specs.FieldDefaults.{defaulted_first}
 use Rattle.fr_frame.proofs.default_filling.fill_holes.Given as goal
 

@@ -1,13 +1,6 @@
 use Rattle.std.proofs.Common.{◌≡◌, length, Some, ◌∙◌, arith}
-use Rattle.std.specs.Prelude.{IfErr}
-use Rattle.std.specs.Option.{option_map, option_copied}
+use Rattle.fr_frame.specs.Common.{IfErr, IsTold, as_fields, first_unmet, option_copied, option_map, shape_of, trees_of, unmet_child, view}
 use Rattle.std.proofs.lemmas.Grind.{common_steps}
-use Rattle.fr_shape.specs.View.{view}
-use Rattle.fr_model.specs.Failing.{first_unmet}
-use Rattle.fr_frame.specs.Bodies.{as_fields, trees_of}
-use Rattle.fr_frame.specs.Completing.{shape_of}
-use Rattle.fr_frame.specs.FieldDefaults.{unmet_child}
-use Rattle.fr_frame.specs.Filling.{IsTold}
 use Rattle.fr_frame.proofs.LackLaws.{told_here, item_is, err_so}
 use Rattle.fr_frame.proofs.DefaultLaws.{marks_preserved, marks_cause}
 use Rattle.fr_frame.proofs.default_filling.test_marks.Goals as goal

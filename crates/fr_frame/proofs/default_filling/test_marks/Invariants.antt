@@ -1,7 +1,5 @@
 use Rattle.std.proofs.Common.{◌≡◌, drop}
-use Rattle.fr_model.specs.Failing.{first_unmet}
-use Rattle.fr_frame.specs.Bodies.{as_fields, trees_of}
-use Rattle.fr_frame.specs.Completing.{shape_of}
+use Rattle.fr_frame.specs.Common.{as_fields, first_unmet, shape_of, trees_of}
 use Rattle.fr_frame.proofs.default_filling.test_marks.Given as goal
 
 abbrev pub invariant-loop-i : goal.invariant-loop-i

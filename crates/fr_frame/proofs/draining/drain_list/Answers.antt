@@ -1,5 +1,5 @@
 use Rattle.std.proofs.Common.{true, ◌≡◌, length-set, sym, ◌∙◌, arith}
-use Rattle.fr_frame.specs.Items.{is_list}
+use Rattle.fr_frame.specs.Common.{is_list}
 use Rattle.fr_frame.proofs.DrainLaws.{is_drained, list_in, list_inside, list_read}
 use Rattle.fr_frame.proofs.draining.drain_list.Goals as goal
 

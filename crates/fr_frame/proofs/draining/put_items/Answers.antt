@@ -1,5 +1,5 @@
 use Rattle.std.proofs.Common.{ap, sym, ◌∙◌, arith}
-use Rattle.fr_frame.specs.Items.{items_of, with_items}
+use Rattle.fr_frame.specs.Common.{items_of, with_items}
 use Rattle.fr_frame.proofs.DrainLaws.{frees_on, holds_on, filled_on, filled_past, none_to_come}
 use Rattle.fr_frame.proofs.draining.put_items.Goals as goal
 

@@ -1,5 +1,5 @@
 use Rattle.std.proofs.Common.{◌≡◌, length}
-use Rattle.fr_frame.specs.Items.{children_with, items_of, with_items, FreesItems}
+use Rattle.fr_frame.specs.Common.{FreesItems, children_with, items_of, with_items}
 use Rattle.fr_frame.proofs.DrainLaws.{HoldsFrom}
 use Rattle.fr_frame.proofs.draining.put_items.Given as goal
 

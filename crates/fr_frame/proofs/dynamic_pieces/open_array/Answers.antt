@@ -1,8 +1,5 @@
 use Rattle.std.proofs.Common.{ap, sym, ◌∙◌}
-use Rattle.fr_shape.specs.View.{view}
-use Rattle.fr_frame.specs.declared.places.Piece.{Piece}
-use Rattle.fr_frame.specs.Bodies.{body_occurs}
-use Rattle.fr_frame.specs.Heap.{body_of}
+use Rattle.fr_frame.specs.Common.{Piece, body_occurs, body_of, view}
 use Rattle.fr_frame.proofs.ObjectLaws.{array_occurs}
 use Rattle.fr_frame.proofs.dynamic_pieces.open_array.Goals as goal
 

@@ -1,5 +1,5 @@
 use Rattle.std.proofs.Common.{map, sym, ◌∙◌, arith}
-use Rattle.std.specs.Vec.Iter.{into_iter_items}
+use Rattle.fr_frame.specs.Common.{into_iter_items}
 use Rattle.fr_frame.proofs.DynamicLaws.{element_cell, element_cells, entered_all, none_left}
 use Rattle.fr_frame.proofs.dynamics.enter_elements.Goals as goal
 

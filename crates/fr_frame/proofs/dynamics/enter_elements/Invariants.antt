@@ -1,5 +1,5 @@
 use Rattle.std.proofs.Common.{◌≡◌, ◌+◌, ◌++◌, length, map, take}
-use Rattle.std.specs.Vec.Iter.{into_iter_items, into_iter_len}
+use Rattle.fr_frame.specs.Common.{into_iter_items, into_iter_len}
 use Rattle.fr_frame.proofs.DynamicLaws.{element_cell}
 use Rattle.fr_frame.proofs.dynamics.enter_elements.Given as goal
 

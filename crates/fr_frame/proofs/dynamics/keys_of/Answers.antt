@@ -1,6 +1,6 @@
 use Rattle.std.proofs.Common.{ℕ, List, map, sym, ap, ◌∙◌}
 use Rattle.std.proofs.lemmas.List.{take_all}
-use Rattle.fr_shape.specs.declared.value.Dyn.{Dyn}
+use Rattle.fr_frame.specs.Common.{Dyn}
 use Rattle.fr_frame.proofs.DynamicLaws.{keys_viewed}
 use Rattle.fr_frame.proofs.dynamics.keys_of.Goals as goal
 

@@ -1,5 +1,5 @@
 use Rattle.std.proofs.Common.{◌≡◌, ℕ, List, map, take}
-use Rattle.fr_shape.specs.declared.value.Dyn.{Dyn}
+use Rattle.fr_frame.specs.Common.{Dyn}
 use Rattle.fr_frame.proofs.dynamics.keys_of.Given as goal
 
 abbrev pub invariant-loop-member : goal.invariant-loop-member

@@ -1,7 +1,6 @@
 use Rattle.std.proofs.Common.{◌≡◌, [], map, sym, ap, ◌∙◌, arith}
-use Rattle.std.specs.Vec.Iter.{into_iter_items}
-use Rattle.fr_shape.specs.Tokens.{vals_occur}
-use Rattle.fr_shape.specs.View.{vals_view, dyn_view, dynamics_of}
+use Rattle.fr_frame.specs.Common.{dyn_view, into_iter_items, vals_occur, vals_view}
+use Rattle.fr_shape.specs.View.{dynamics_of}
 use Rattle.fr_frame.proofs.DynamicLaws.{dynamic_of, elements_made, made_all, none_left, room_next}
 use Rattle.fr_frame.proofs.dynamics.put_elements.Goals as goal
 

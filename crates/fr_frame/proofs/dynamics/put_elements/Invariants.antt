@@ -1,8 +1,5 @@
 use Rattle.std.proofs.Common.{◌≡◌, ◌≤◌, ◌+◌, ◌++◌, length, map, vec_len, vec_capacity}
-use Rattle.std.specs.Vec.Iter.{into_iter_items, into_iter_len}
-use Rattle.fr_shape.specs.Released.{Conserved}
-use Rattle.fr_shape.specs.Tokens.{vals_occur}
-use Rattle.fr_shape.specs.View.{vals_view, dyn_view}
+use Rattle.fr_frame.specs.Common.{Conserved, dyn_view, into_iter_items, into_iter_len, vals_occur, vals_view}
 use Rattle.fr_frame.proofs.DynamicLaws.{dynamic_of}
 use Rattle.fr_frame.proofs.dynamics.put_elements.Given as goal
 

@@ -1,8 +1,6 @@
 use Rattle.std.proofs.Common.{◌≡◌, [], sym, ap, ◌∙◌, arith}
-use Rattle.std.specs.Vec.Iter.{into_iter_items}
-use Rattle.fr_shape.specs.Tokens.{vals_occur}
-use Rattle.fr_shape.specs.View.{vals_view, member_view, members_of}
-use Rattle.fr_frame.specs.KeyNames.{names_of}
+use Rattle.fr_frame.specs.Common.{into_iter_items, names_of, vals_occur, vals_view}
+use Rattle.fr_shape.specs.View.{member_view, members_of}
 use Rattle.fr_frame.proofs.DynamicLaws.{members_made, made_all, none_left, pairs_in, pairs_none, room_next}
 use Rattle.fr_frame.proofs.dynamics.put_members.Goals as goal
 

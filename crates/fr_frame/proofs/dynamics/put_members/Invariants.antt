@@ -1,9 +1,6 @@
 use Rattle.std.proofs.Common.{◌≡◌, ◌≤◌, ◌+◌, ◌++◌, length, map, vec_len, vec_capacity}
-use Rattle.std.specs.Vec.Iter.{into_iter_items, into_iter_len}
-use Rattle.fr_shape.specs.Released.{Conserved}
-use Rattle.fr_shape.specs.Tokens.{vals_occur}
-use Rattle.fr_shape.specs.View.{vals_view, member_view}
-use Rattle.fr_frame.specs.KeyNames.{names_of}
+use Rattle.fr_frame.specs.Common.{Conserved, into_iter_items, into_iter_len, names_of, vals_occur, vals_view}
+use Rattle.fr_shape.specs.View.{member_view}
 use Rattle.fr_frame.proofs.DynamicLaws.{pairs_in}
 use Rattle.fr_frame.proofs.dynamics.put_members.Given as goal
 

@@ -1,7 +1,5 @@
 use Rattle.std.proofs.Common.{sym, ◌∙◌, ap}
-use Rattle.fr_shape.specs.Tokens.{tokens}
-use Rattle.fr_model.specs.Places.{deferred_column}
-use Rattle.fr_frame.specs.Bodies.{as_fields}
+use Rattle.fr_frame.specs.Common.{as_fields, deferred_column, tokens}
 use Rattle.fr_frame.proofs.FillLaws.{takes_light}
 use Rattle.fr_frame.proofs.field_defaults.copy_default.Goals as goal
 

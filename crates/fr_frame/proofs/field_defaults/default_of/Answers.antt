@@ -1,5 +1,5 @@
 use Rattle.std.proofs.Common.{◌∙◌}
-use Rattle.fr_frame.proofs.FormLaws.{told_takes}
+use Rattle.fr_frame.proofs.TrackerLaws.{told_takes}
 use Rattle.fr_frame.proofs.field_defaults.default_of.Goals as goal
 
 pub returns-in-Template : goal.returns-in-Template

@@ -1,6 +1,5 @@
 use Rattle.std.proofs.Common.{None, sym, subst}
-use Rattle.fr_frame.specs.Completing.{shape_of}
-use Rattle.fr_frame.specs.Filling.{AreTold}
+use Rattle.fr_frame.specs.Common.{AreTold, shape_of}
 use Rattle.fr_frame.proofs.ToldLaws.{FoundFor, IsFound, struct_found, found_inside, found_told, has_told, none_told}
 use Rattle.fr_frame.proofs.field_plans.plans_of_struct.Goals as goal
 

@@ -1,9 +1,6 @@
 use Rattle.std.proofs.Common.{◌≡◌, List, Some, ap, sym, ◌∙◌, subst}
-use Rattle.std.specs.Prelude.{slice_get}
+use Rattle.fr_frame.specs.Common.{AreTold, part_of, shape_of, slice_get}
 use Rattle.fr_plan.specs.declared.plans.VariantPlanMeta.{VariantPlanMeta}
-use Rattle.fr_rules.specs.Pools.{part_of}
-use Rattle.fr_frame.specs.Completing.{shape_of}
-use Rattle.fr_frame.specs.Filling.{AreTold}
 use Rattle.fr_frame.proofs.ToldLaws.{EnumFor, IsEnumFound, enum_found, has_told, no_enum_told, variant_found, variant_none, variants_inside}
 use Rattle.fr_frame.proofs.field_plans.plans_of_variant.Goals as goal
 

@@ -1,15 +1,6 @@
 use Rattle.std.proofs.Common.{◌≡◌, ◌+◌, List, length, length-set, set, Some, None, ap, sym, ◌∙◌, subst, arith}
-use Rattle.std.specs.Prelude.{is_some}
-use Rattle.fr_shape.specs.View.{view}
-use Rattle.fr_rules.specs.FillRules.{fill_told}
-use Rattle.fr_plan.specs.declared.plans.FieldPlan.{FieldPlan}
-use Rattle.fr_model.specs.Complete.{hole_takes}
-use Rattle.fr_model.specs.Places.{strict_column}
-use Rattle.fr_frame.specs.Bodies.{as_fields}
-use Rattle.fr_frame.specs.Cells.{Cell, given, value_at}
-use Rattle.fr_frame.specs.Completing.{shape_of}
-use Rattle.fr_frame.specs.Filling.{IsTold, IsLightFill}
-use Rattle.fr_frame.proofs.FormLaws.{field_takes}
+use Rattle.fr_frame.specs.Common.{Cell, FieldPlan, IsLightFill, IsTold, as_fields, fill_told, given, hole_takes, is_some, shape_of, strict_column, value_at, view}
+use Rattle.fr_frame.proofs.TrackerLaws.{field_takes}
 use Rattle.fr_frame.proofs.LackLaws.{told_here, item_is}
 use Rattle.fr_frame.proofs.FillLaws.{Filling, copied_some, not_some, filling_begins, filling_light, filling_set, filling_there, filling_ends}
 use Rattle.fr_frame.proofs.filling.fill_holes.Goals as goal

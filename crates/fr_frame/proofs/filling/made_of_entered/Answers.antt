@@ -1,9 +1,6 @@
 use Rattle.std.proofs.Common.{◌≡◌, List, Some, ap, sym, ◌∙◌, subst}
-use Rattle.fr_shape.specs.Fills.{preset_of, preset_in}
-use Rattle.fr_shape.specs.Tokens.{tokens}
-use Rattle.fr_shape.specs.View.{view}
-use Rattle.fr_frame.specs.Bodies.{AreUnplaced}
-use Rattle.fr_frame.specs.Cells.{Cell, cells_occur}
+use Rattle.fr_frame.specs.Common.{AreUnplaced, Cell, cells_occur, preset_of, tokens, view}
+use Rattle.fr_shape.specs.Fills.{preset_in}
 use Rattle.fr_frame.proofs.FillLaws.{preset_light, light_occurs, none_occur, none_placed}
 use Rattle.fr_frame.proofs.filling.made_of_entered.Goals as goal
 

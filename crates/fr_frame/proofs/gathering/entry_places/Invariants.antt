@@ -1,6 +1,5 @@
 use Rattle.std.proofs.Common.{◌≡◌, ◌*◌, ◌++◌, map, drop}
-use Rattle.fr_frame.specs.declared.contents.ByContents.{ByContents}
-use Rattle.fr_shape.specs.View.{view}
+use Rattle.fr_frame.specs.Common.{ByContents, view}
 use Rattle.fr_frame.proofs.Gathered.{turn_keys}
 use Rattle.fr_frame.proofs.gathering.entry_places.Given as goal
 

@@ -1,10 +1,7 @@
 use Rattle.std.proofs.Common.{◌≡◌, [], map, take, ap, ◌∙◌}
 use Rattle.std.proofs.lemmas.List.{take_all}
 use Rattle.std.proofs.lemmas.Result.{IfOk-weaker}
-use Rattle.fr_frame.specs.declared.contents.ByContents.{ByContents}
-use Rattle.fr_shape.specs.View.{view}
-use Rattle.fr_shape.specs.Same.{same}
-use Rattle.fr_frame.specs.KeyPlaces.{places_of}
+use Rattle.fr_frame.specs.Common.{ByContents, places_of, same, view}
 use Rattle.fr_frame.proofs.Gathered.{places_of_map, items_placed}
 use Rattle.fr_frame.proofs.gathering.item_places.Goals as goal
 

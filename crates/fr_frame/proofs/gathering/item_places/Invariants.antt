@@ -1,6 +1,5 @@
 use Rattle.std.proofs.Common.{◌≡◌, map, take}
-use Rattle.fr_frame.specs.declared.contents.ByContents.{ByContents}
-use Rattle.fr_shape.specs.View.{view}
+use Rattle.fr_frame.specs.Common.{ByContents, view}
 use Rattle.fr_frame.proofs.gathering.item_places.Given as goal
 
 abbrev pub invariant-loop-item : goal.invariant-loop-item

@@ -1,6 +1,4 @@
-use Rattle.std.specs.Vec.Iter.{into_iter_items}
-use Rattle.fr_shape.specs.View.{vals_view}
-use Rattle.fr_shape.specs.Tokens.{vals_occur}
+use Rattle.fr_frame.specs.Common.{into_iter_items, vals_occur, vals_view}
 use Rattle.fr_frame.proofs.Kept.{room_first}
 use Rattle.fr_frame.proofs.gathering.keep_items.Goals as goal
 

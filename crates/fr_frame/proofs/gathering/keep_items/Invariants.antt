@@ -1,12 +1,5 @@
 use Rattle.std.proofs.Common.{◌≡◌, ◌≤◌, ◌+◌, length, drop, vec_len, vec_capacity}
-use Rattle.std.specs.Vec.Iter.{into_iter_items, into_iter_len}
-use Rattle.fr_shape.specs.Released.{Conserved}
-use Rattle.fr_shape.specs.TokenLaws.{both}
-use Rattle.fr_shape.specs.Tokens.{vals_occur}
-use Rattle.fr_shape.specs.Val.{no_vals}
-use Rattle.fr_shape.specs.View.{vals_view}
-use Rattle.fr_model.specs.Gathering.{items_in}
-use Rattle.fr_frame.specs.KeyPlaces.{item_places}
+use Rattle.fr_frame.specs.Common.{Conserved, both, into_iter_items, into_iter_len, item_places, items_in, no_vals, vals_occur, vals_view}
 use Rattle.fr_frame.proofs.gathering.keep_items.Given as goal
 
 abbrev pub invariant-loop-item : goal.invariant-loop-item

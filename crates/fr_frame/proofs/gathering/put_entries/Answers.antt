@@ -1,9 +1,5 @@
 use Rattle.std.proofs.Common.{◌≡◌, ◌∷◌, List, length, ap, sym, ◌∙◌, arith}
-use Rattle.std.specs.Vec.Iter.{into_iter_items}
-use Rattle.fr_shape.specs.declared.value.Value.{Value}
-use Rattle.fr_shape.specs.View.{vals_view, entries_view}
-use Rattle.fr_shape.specs.Tokens.{vals_occur, entries_occur}
-use Rattle.fr_model.specs.Gathering.{entries_in}
+use Rattle.fr_frame.specs.Common.{Value, entries_in, entries_occur, entries_view, into_iter_items, vals_occur, vals_view}
 use Rattle.fr_frame.proofs.Kept.{room_first, entry_conserved, placed_next}
 use Rattle.fr_frame.proofs.gathering.put_entries.Goals as goal
 

@@ -1,12 +1,5 @@
 use Rattle.std.proofs.Common.{◌≡◌, ◌≤◌, ◌+◌, ◌*◌, length, drop, vec_len, vec_capacity}
-use Rattle.std.specs.Vec.Iter.{into_iter_items, into_iter_len}
-use Rattle.fr_shape.specs.Released.{Conserved}
-use Rattle.fr_shape.specs.TokenLaws.{both}
-use Rattle.fr_shape.specs.Tokens.{vals_occur, entries_occur}
-use Rattle.fr_shape.specs.Val.{no_entries}
-use Rattle.fr_shape.specs.View.{vals_view, entries_view}
-use Rattle.fr_model.specs.Gathering.{entries_in}
-use Rattle.fr_frame.specs.KeyPlaces.{entry_places}
+use Rattle.fr_frame.specs.Common.{Conserved, both, entries_in, entries_occur, entries_view, entry_places, into_iter_items, into_iter_len, no_entries, vals_occur, vals_view}
 use Rattle.fr_frame.proofs.gathering.put_entries.Given as goal
 
 abbrev pub invariant-loop-key : goal.invariant-loop-key

@@ -1,9 +1,5 @@
 use Rattle.std.proofs.Common.{◌<◌, length, set, arith, ap, sym, ◌∙◌, subst}
-use Rattle.fr_shape.specs.declared.value.Value.{Value}
-use Rattle.fr_shape.specs.View.{view, entries_view}
-use Rattle.fr_shape.specs.Tokens.{occurs, entries_occur}
-use Rattle.fr_shape.specs.Released.{RoseBy, Room, Conserved}
-use Rattle.fr_shape.specs.TokenLaws.{both, Room_fewer, Room_risen}
+use Rattle.fr_frame.specs.Common.{Conserved, Room, Room_fewer, Room_risen, RoseBy, Value, both, entries_occur, entries_view, occurs, view}
 use Rattle.fr_frame.proofs.Kept.{put_present, put_absent, pushed_conserved, put_conserved, value_fewer}
 use Rattle.fr_frame.proofs.gathering.put_entry.Goals as goal
 

@@ -1,8 +1,6 @@
 use Rattle.std.proofs.Common.{◌≡◌, ◌++◌, ◌∷◌, [], List, ap, subst, ◌∙◌}
 use Rattle.std.specs.Box.{with_value}
-use Rattle.fr_frame.specs.declared.places.Slot.{Slot}
-use Rattle.fr_frame.specs.declared.places.SlotId.{SlotId}
-use Rattle.fr_frame.specs.RawItems.{HasRoomIn, IsSeenAs}
+use Rattle.fr_frame.specs.Common.{HasRoomIn, IsSeenAs, Slot, SlotId}
 use Rattle.fr_frame.proofs.AddItemLaws.{added_in, ok_three}
 use Rattle.fr_frame.proofs.items.add_item_in.Goals as goal
 

@@ -1,6 +1,5 @@
 use Rattle.std.proofs.Common.{ap, subst, ◌∙◌}
-use Rattle.fr_frame.specs.declared.places.Slot.{Slot}
-use Rattle.fr_frame.specs.RawItems.{IsSeenAs}
+use Rattle.fr_frame.specs.Common.{IsSeenAs, Slot}
 use Rattle.fr_frame.proofs.AddItemLaws.{seen_made}
 use Rattle.fr_frame.proofs.items.begin_rope.Goals as goal
 

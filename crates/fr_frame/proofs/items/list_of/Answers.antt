@@ -1,7 +1,5 @@
 use Rattle.std.proofs.Common.{Some, ap, sym, ◌∙◌, subst, arith}
-use Rattle.fr_frame.specs.declared.places.Slot.{Slot}
-use Rattle.fr_frame.specs.Heap.{node_of}
-use Rattle.fr_frame.specs.Items.{IsListedIn}
+use Rattle.fr_frame.specs.Common.{IsListedIn, Slot, node_of}
 use Rattle.fr_frame.proofs.SlotLaws.{read}
 use Rattle.fr_frame.proofs.items.list_of.Goals as goal
 

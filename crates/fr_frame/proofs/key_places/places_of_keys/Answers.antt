@@ -2,7 +2,7 @@ use Rattle.std.proofs.Common.{◌≡◌, ◌+◌, [], ◌∷◌, ◌++◌, Some,
 use Rattle.std.specs.BTreeMap as tree
 use Rattle.std.specs.BTreeMap.{btree_map_len}
 use Rattle.std.proofs.lemmas.List.{length_push}
-use Rattle.fr_frame.specs.KeyPlaces.{place, with_key}
+use Rattle.fr_frame.specs.Common.{place, with_key}
 use Rattle.fr_frame.proofs.Placed.{keys_after, after_more, placed_more, with_key_present, with_key_absent, place_push}
 use Rattle.fr_frame.proofs.key_places.places_of_keys.Goals as goal
 use Rattle.fr_frame.proofs.key_places.places_of_keys.Goals.{in-Some, in-None+in_ok-insert-in-None}

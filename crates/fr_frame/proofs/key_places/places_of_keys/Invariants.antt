@@ -1,7 +1,7 @@
 use Rattle.std.proofs.Common.{◌≡◌, [], ◌++◌, length, take, drop}
 use Rattle.std.specs.BTreeMap as tree
 use Rattle.std.specs.BTreeMap.{btree_map_len}
-use Rattle.fr_frame.specs.KeyPlaces.{place, places_of}
+use Rattle.fr_frame.specs.Common.{place, places_of}
 use Rattle.fr_frame.proofs.Placed.{keys_after}
 use Rattle.fr_frame.proofs.key_places.places_of_keys.Given as goal
 

@@ -1,6 +1,5 @@
 use Rattle.std.proofs.Common.{◌≡◌, drop}
-use Rattle.fr_shape.specs.View.{view}
-use Rattle.fr_frame.specs.Filling.{first_refused}
+use Rattle.fr_frame.specs.Common.{first_refused, view}
 use Rattle.fr_frame.proofs.lacking.run_validators.Given as goal
 
 abbrev pub invariant-loop-validator : goal.invariant-loop-validator

@@ -1,10 +1,6 @@
 use Rattle.std.proofs.Common.{◌≡◌, Option, None, ap, sym, ◌∙◌, subst}
-use Rattle.std.specs.Prelude.{IfErr, OnOk, List}
-use Rattle.std.specs.Option.{option_map, option_copied}
-use Rattle.fr_shape.specs.declared.error.ReflectErrorKind.{ReflectErrorKind}
-use Rattle.fr_shape.specs.View.{view}
+use Rattle.fr_frame.specs.Common.{IfErr, IsCauseOf, List, OnOk, ReflectErrorKind, first_refused, option_copied, option_map, view}
 use Rattle.fr_rules.specs.declared.validators.PrecomputedValidator.{PrecomputedValidator}
-use Rattle.fr_frame.specs.Filling.{first_refused, IsCauseOf}
 use Rattle.fr_frame.proofs.LackLaws.{field_lacks}
 use Rattle.fr_frame.proofs.lacking.test_field.Goals as goal
 

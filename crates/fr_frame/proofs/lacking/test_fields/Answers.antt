@@ -1,13 +1,6 @@
 use Rattle.std.proofs.Common.{◌≡◌, length, Option, sym, ◌∙◌, subst, arith}
-use Rattle.std.specs.Prelude.{IfErr}
-use Rattle.std.specs.Option.{option_map, option_copied}
+use Rattle.fr_frame.specs.Common.{IfErr, IsCauseOf, IsTold, ReflectErrorKind, as_fields, lack_among, lack_of_child, option_copied, option_map, shape_of, trees_of, view}
 use Rattle.std.proofs.lemmas.Grind.{common_steps}
-use Rattle.fr_shape.specs.declared.error.ReflectErrorKind.{ReflectErrorKind}
-use Rattle.fr_shape.specs.View.{view}
-use Rattle.fr_model.specs.Complete.{lack_among}
-use Rattle.fr_frame.specs.Bodies.{as_fields, trees_of}
-use Rattle.fr_frame.specs.Completing.{shape_of}
-use Rattle.fr_frame.specs.Filling.{IsTold, IsCauseOf, lack_of_child}
 use Rattle.fr_frame.proofs.LackLaws.{told_here, told_itself, item_is, err_so, fields_preserved, fields_cause, no_validator_lacks}
 use Rattle.fr_frame.proofs.lacking.test_fields.Goals as goal
 

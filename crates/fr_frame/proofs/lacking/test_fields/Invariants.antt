@@ -1,7 +1,5 @@
 use Rattle.std.proofs.Common.{◌≡◌, drop}
-use Rattle.fr_model.specs.Complete.{lack_among}
-use Rattle.fr_frame.specs.Bodies.{as_fields, trees_of}
-use Rattle.fr_frame.specs.Completing.{shape_of}
+use Rattle.fr_frame.specs.Common.{as_fields, lack_among, shape_of, trees_of}
 use Rattle.fr_frame.proofs.lacking.test_fields.Given as goal
 
 abbrev pub invariant-loop-i : goal.invariant-loop-i

@@ -1,12 +1,5 @@
 use Rattle.std.proofs.Common.{◌≡◌, length, Some, None, sym, ◌∙◌, ap, arith}
-use Rattle.std.specs.Prelude.{is_some}
-use Rattle.fr_shape.specs.declared.error.ReflectErrorKind.{ReflectErrorKind}
-use Rattle.fr_shape.specs.View.{view}
-use Rattle.fr_plan.specs.declared.plans.FieldPlan.{FieldPlan}
-use Rattle.fr_frame.specs.Bodies.{as_fields}
-use Rattle.fr_frame.specs.Cells.{value_at}
-use Rattle.fr_frame.specs.Completing.{shape_of}
-use Rattle.fr_frame.specs.Filling.{IsTold}
+use Rattle.fr_frame.specs.Common.{FieldPlan, IsTold, ReflectErrorKind, as_fields, is_some, shape_of, value_at, view}
 use Rattle.fr_frame.proofs.FillLaws.{copied_some, not_some}
 use Rattle.fr_frame.proofs.LackLaws.{told_here, item_is}
 use Rattle.fr_frame.proofs.DefaultLaws.{absent_cause, absent_preserved, none_absent}

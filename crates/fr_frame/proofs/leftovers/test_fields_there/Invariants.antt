@@ -1,7 +1,5 @@
 use Rattle.std.proofs.Common.{◌≡◌, drop}
-use Rattle.fr_frame.specs.Bodies.{as_fields}
-use Rattle.fr_frame.specs.Completing.{shape_of}
-use Rattle.fr_frame.specs.Defaults.{first_absent}
+use Rattle.fr_frame.specs.Common.{as_fields, first_absent, shape_of}
 use Rattle.fr_frame.proofs.leftovers.test_fields_there.Given as goal
 
 abbrev pub invariant-loop-i : goal.invariant-loop-i

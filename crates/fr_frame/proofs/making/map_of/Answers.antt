@@ -1,8 +1,5 @@
 use Rattle.std.proofs.Common.{sym, subst}
-use Rattle.fr_shape.specs.Released.{Conserved}
-use Rattle.fr_shape.specs.Tokens.{occurs, vals_occur}
-use Rattle.fr_shape.specs.Val.{Val}
-use Rattle.fr_shape.specs.View.{vals_view}
+use Rattle.fr_frame.specs.Common.{Conserved, Val, occurs, vals_occur, vals_view}
 use Rattle.fr_frame.proofs.making.map_of.Goals as goal
 
 pub returns-in-Ok-clause-conserved : goal.returns-in-Ok-clause-conserved

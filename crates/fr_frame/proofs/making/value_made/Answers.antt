@@ -1,8 +1,8 @@
-use Rattle.fr_frame.specs.Heap.{as_form}
+use Rattle.fr_frame.specs.Common.{as_tracker}
 use Rattle.fr_frame.proofs.BodyLaws.{one_listed}
 use Rattle.fr_frame.proofs.making.value_made.Goals as goal
 
 pub value_in_box-requires-clause-one : goal.value_in_box-requires-clause-one
 value_in_box-requires-clause-one c around =
-    one_listed (as_form c.args.form) c.args.children c.into_values.result.items around c.requires.there
+    one_listed (as_tracker c.args.tracker) c.args.children c.into_values.result.items around c.requires.there
     c.into_values.ensures

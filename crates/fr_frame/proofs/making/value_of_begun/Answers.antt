@@ -1,13 +1,10 @@
 use Rattle.std.proofs.Common.{sym, ◌∙◌}
-use Rattle.fr_shape.specs.Tokens.{occurs}
-use Rattle.fr_shape.specs.View.{view}
-use Rattle.fr_frame.specs.Cells.{cells_occur}
-use Rattle.fr_frame.specs.Heap.{as_form}
+use Rattle.fr_frame.specs.Common.{as_tracker, cells_occur, occurs, view}
 use Rattle.fr_frame.proofs.BodyLaws.{as_before, begun_occurs, boxes_as_it_is}
 use Rattle.fr_frame.proofs.making.value_of_begun.Goals as goal
 
 pub returns-in-Ok-clause-conserved : goal.returns-in-Ok-clause-conserved
 returns-in-Ok-clause-conserved c =
     as_before (cells_occur c.args.children) (occurs (view c.value_made.result)) c.args.ledger.now
-    (begun_occurs (as_form c.args.form) c.args.children (view c.value_made.result)
-    (boxes_as_it_is (as_form c.args.form) (sym c.boxes.ensures ∙ c.if-not-boxes.false)) c.value_made.ensures)
+    (begun_occurs (as_tracker c.args.tracker) c.args.children (view c.value_made.result)
+    (boxes_as_it_is (as_tracker c.args.tracker) (sym c.boxes.ensures ∙ c.if-not-boxes.false)) c.value_made.ensures)

@@ -1,11 +1,6 @@
 use Rattle.std.proofs.Common.{map, sym, ◌∙◌, ap, refl}
-use Rattle.fr_shape.specs.declared.value.Value.{Value}
-use Rattle.fr_shape.specs.Tokens.{vals_occur}
-use Rattle.fr_shape.specs.TokenLaws.{Conserved_same, Room_same}
-use Rattle.fr_shape.specs.Tokens.{occurs}
-use Rattle.fr_shape.specs.View.{view, vals_view}
-use Rattle.fr_frame.specs.Cells.{given, cells_occur}
-use Rattle.fr_frame.specs.Heap.{as_form}
+use Rattle.fr_frame.specs.Common.{Room_same, Value, as_tracker, cells_occur, given, occurs, vals_occur, vals_view, view}
+use Rattle.fr_shape.specs.TokenLaws.{Conserved_same}
 use Rattle.fr_frame.proofs.BodyLaws.{as_before, begun_occurs, boxless_value}
 use Rattle.fr_frame.proofs.CellLaws.{values_occur, cells_by_values}
 use Rattle.fr_frame.proofs.making.value_of_children.Goals as goal
@@ -13,9 +8,9 @@ use Rattle.fr_frame.proofs.making.value_of_children.Goals as goal
 pub returns-then-not-gathers-clause-conserved : goal.returns-then-not-gathers-clause-conserved
 returns-then-not-gathers-clause-conserved c =
     as_before (cells_occur c.args.children) (occurs (view c.value_of_parts.result)) c.args.ledger.now
-    (begun_occurs (as_form c.args.form) c.args.children (view c.value_of_parts.result)
+    (begun_occurs (as_tracker c.args.tracker) c.args.children (view c.value_of_parts.result)
     (sym c.gathers.ensures ∙ c.if-not-gathers.true)
-    (boxless_value (as_form c.args.form) c.args.children (vals_view c.into_parts-values.result.0.items)
+    (boxless_value (as_tracker c.args.tracker) c.args.children (vals_view c.into_parts-values.result.0.items)
     (view c.value_of_parts.result) c.requires.no_box c.into_parts-values.ensures.values c.value_of_parts.ensures))
 
 pub value_gathered-requires-clause-room : goal.value_gathered-requires-clause-room

@@ -1,9 +1,6 @@
 use Rattle.std.proofs.Common.{map, sym, ◌∙◌, ap, refl}
-use Rattle.fr_shape.specs.declared.value.Value.{Value}
-use Rattle.fr_shape.specs.Tokens.{occurs, vals_occur}
-use Rattle.fr_shape.specs.TokenLaws.{Conserved_same, Room_same}
-use Rattle.fr_shape.specs.View.{view, vals_view}
-use Rattle.fr_frame.specs.Cells.{given, cells_occur}
+use Rattle.fr_frame.specs.Common.{Room_same, Value, cells_occur, given, occurs, vals_occur, vals_view, view}
+use Rattle.fr_shape.specs.TokenLaws.{Conserved_same}
 use Rattle.fr_frame.proofs.CellLaws.{values_occur, cells_by_values}
 use Rattle.fr_frame.proofs.making.value_of_object.Goals as goal
 

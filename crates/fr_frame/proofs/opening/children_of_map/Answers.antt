@@ -1,7 +1,5 @@
 use Rattle.std.proofs.Common.{ap, sym, ◌∙◌}
-use Rattle.fr_shape.specs.declared.value.Value.{Value}
-use Rattle.fr_shape.specs.View.{view}
-use Rattle.fr_model.specs.Places.{entries_of}
+use Rattle.fr_frame.specs.Common.{Value, entries_of, view}
 use Rattle.fr_frame.proofs.EntryLaws.{as_many}
 use Rattle.fr_frame.proofs.opening.children_of_map.Goals as goal
 

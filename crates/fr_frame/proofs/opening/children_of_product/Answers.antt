@@ -1,8 +1,5 @@
 use Rattle.std.proofs.Common.{◌≡◌, Some, option_map, ap, sym, ◌∙◌, rules}
-use Rattle.fr_shape.specs.declared.value.Value.TheFolds.{the_lemmas}
-use Rattle.fr_shape.specs.View.{view, vals_view}
-use Rattle.fr_model.specs.Places.{parts_of}
-use Rattle.fr_frame.specs.Bodies.{cells_of_vals}
+use Rattle.fr_frame.specs.Common.{cells_of_vals, parts_of, the_lemmas, vals_view, view}
 use Rattle.fr_frame.proofs.CellLaws.{cells_of_given}
 use Rattle.fr_frame.proofs.opening.children_of_product.Goals as goal
 

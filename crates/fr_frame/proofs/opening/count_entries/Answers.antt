@@ -1,10 +1,5 @@
 use Rattle.std.proofs.Common.{◌≡◌, ◌+◌, Option, Some, length, sym, subst, rules, arith}
-use Rattle.std.specs.Prelude.{IfSome}
-use Rattle.fr_shape.specs.Val.{Vals}
-use Rattle.fr_shape.specs.declared.value.Value.TheFolds.{the_lemmas}
-use Rattle.fr_shape.specs.View.{view, entries_view}
-use Rattle.fr_model.specs.Places.{entries_of, in_turn}
-use Rattle.fr_frame.specs.Bodies.{cells_of_vals}
+use Rattle.fr_frame.specs.Common.{IfSome, Vals, cells_of_vals, entries_of, entries_view, in_turn, the_lemmas, view}
 use Rattle.fr_frame.proofs.EntryLaws.{entry_count}
 use Rattle.fr_frame.proofs.opening.count_entries.Goals as goal
 

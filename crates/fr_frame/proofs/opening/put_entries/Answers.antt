@@ -1,6 +1,5 @@
 use Rattle.std.proofs.Common.{◌+◌, ◌-◌, List, set, ap, sym, ◌∙◌, arith}
-use Rattle.fr_shape.specs.View.{view}
-use Rattle.fr_frame.specs.Cells.{Cell, given}
+use Rattle.fr_frame.specs.Common.{Cell, given, view}
 use Rattle.fr_frame.proofs.EntryLaws.{entering_begins, entering_one, entering_step}
 use Rattle.fr_frame.proofs.opening.put_entries.Goals as goal
 

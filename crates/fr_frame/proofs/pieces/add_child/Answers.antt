@@ -1,7 +1,5 @@
 use Rattle.std.proofs.Common.{ap, sym, ◌∙◌}
-use Rattle.fr_frame.specs.declared.places.Piece.{Piece}
-use Rattle.fr_frame.specs.Bodies.{body_occurs}
-use Rattle.fr_frame.specs.Heap.{body_of}
+use Rattle.fr_frame.specs.Common.{Piece, body_occurs, body_of}
 use Rattle.fr_frame.proofs.GrowLaws.{pushed_occur}
 use Rattle.fr_frame.proofs.pieces.add_child.Goals as goal
 

@@ -1,6 +1,5 @@
 use Rattle.std.proofs.Common.{List, Option, ap, arith}
-use Rattle.fr_shape.specs.Val.{Val}
-use Rattle.fr_frame.specs.Cells.{Cell, placed, cells_occur, value_occurs}
+use Rattle.fr_frame.specs.Common.{Cell, Val, cells_occur, placed, value_occurs}
 use Rattle.fr_frame.proofs.CellLaws.{occur_taken}
 use Rattle.fr_frame.proofs.pieces.link_child.Goals as goal
 

@@ -1,9 +1,5 @@
 use Rattle.std.proofs.Common.{List, ap, sym, ◌∙◌}
-use Rattle.fr_shape.specs.View.{view}
-use Rattle.fr_frame.specs.declared.places.Piece.{Piece}
-use Rattle.fr_frame.specs.Bodies.{body_occurs}
-use Rattle.fr_frame.specs.Cells.{Cell, cells_occur}
-use Rattle.fr_frame.specs.Heap.{as_form, body_of}
+use Rattle.fr_frame.specs.Common.{Cell, Piece, as_tracker, body_occurs, body_of, cells_occur, view}
 use Rattle.fr_frame.proofs.BodyLaws.{none_occur, parts_occur}
 use Rattle.fr_frame.proofs.pieces.open.Goals as goal
 
@@ -14,5 +10,5 @@ returns-in_ok-children-in-Entered-clause-tokens c t =
 
 pub returns-in_ok-children-in-Whole-clause-tokens : goal.returns-in_ok-children-in-Whole-clause-tokens
 returns-in_ok-children-in-Whole-clause-tokens c t =
-    parts_occur (as_form c.args.form) (view c.in-Whole.value) c.in_ok-children-in-Whole.children t c.in_ok-children-in-Whole.ensures.parts
+    parts_occur (as_tracker c.args.tracker) (view c.in-Whole.value) c.in_ok-children-in-Whole.children t c.in_ok-children-in-Whole.ensures.parts
     ∙ sym (ap (λ (p : Piece). body_occurs (body_of p) t) c.in-Whole.is)

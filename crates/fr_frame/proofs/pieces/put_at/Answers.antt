@@ -1,6 +1,5 @@
 use Rattle.std.proofs.Common.{◌≡◌, List, Some, slice_get, ap, sym, ◌∙◌, arith}
-use Rattle.fr_shape.specs.View.{view}
-use Rattle.fr_frame.specs.Cells.{Cell, absent, given, cells_occur}
+use Rattle.fr_frame.specs.Common.{Cell, absent, cells_occur, given, view}
 use Rattle.fr_frame.proofs.CellLaws.{occur_set}
 use Rattle.fr_frame.proofs.pieces.put_at.Goals as goal
 

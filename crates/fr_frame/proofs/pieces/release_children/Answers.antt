@@ -1,9 +1,7 @@
 use Rattle.std.proofs.Common.{ℕ, List, sym, subst, arith}
-use Rattle.fr_shape.specs.View.{view}
-use Rattle.fr_frame.specs.Cells.{value_at, value_occurs}
+use Rattle.fr_frame.specs.Common.{RoseBy, value_at, value_occurs, view}
 use Rattle.fr_frame.proofs.CellLaws.{releasing_begins, releasing_room, releasing_step, releasing_ends, rose_not, rose_by}
 use Rattle.fr_frame.proofs.pieces.release_children.Goals as goal
-use Rattle.fr_shape.specs.Released.{RoseBy}
 use Rattle.fr_frame.proofs.pieces.release_children.Goals.{in-Some, in-None}
 
 pub loop-i-init : goal.loop-i-init

@@ -1,6 +1,5 @@
 use Rattle.std.proofs.Common.{◌≡◌, List, Option, Some, None, ap, arith}
-use Rattle.fr_shape.specs.Val.{Val}
-use Rattle.fr_frame.specs.Cells.{Cell, absent, cells_occur, slot_at, value_at, value_occurs}
+use Rattle.fr_frame.specs.Common.{Cell, Val, absent, cells_occur, slot_at, value_at, value_occurs}
 use Rattle.fr_frame.proofs.CellLaws.{occur_taken, slot_no_value}
 use Rattle.fr_frame.proofs.pieces.unlink_child.Goals as goal
 

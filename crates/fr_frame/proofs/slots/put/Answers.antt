@@ -1,5 +1,5 @@
 use Rattle.std.proofs.Common.{arith}
-use Rattle.fr_frame.specs.declared.places.Slot.{Slot}
+use Rattle.fr_frame.specs.Common.{Slot}
 use Rattle.fr_frame.proofs.SlotLaws.{there}
 use Rattle.fr_frame.proofs.slots.put.Goals as goal
 

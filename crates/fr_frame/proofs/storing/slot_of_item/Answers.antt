@@ -1,9 +1,5 @@
 use Rattle.std.proofs.Common.{◌≡◌, ℕ, ◌-◌, length, slice_get, ap, sym, ◌∙◌, arith}
-use Rattle.std.specs.Option.{option_and_then}
-use Rattle.fr_frame.specs.Bodies.{count_cells}
-use Rattle.fr_frame.specs.Cells.{slot_of_cell}
-use Rattle.fr_frame.specs.Heap.{body_of}
-use Rattle.fr_frame.specs.Items.{items_of}
+use Rattle.fr_frame.specs.Common.{body_of, count_cells, items_of, option_and_then, slot_of_cell}
 use Rattle.fr_frame.proofs.RawLaws.{cell_before, cell_no_list, cell_past, slot_kept, slot_taken}
 use Rattle.fr_frame.proofs.storing.slot_of_item.Goals as goal
 

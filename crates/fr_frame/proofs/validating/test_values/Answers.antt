@@ -1,14 +1,6 @@
 use Rattle.std.proofs.Common.{◌≡◌, length, sym, ◌∙◌, arith}
-use Rattle.std.specs.Prelude.{IfErr}
-use Rattle.std.specs.Option.{option_map, option_copied}
+use Rattle.fr_frame.specs.Common.{AreTold, HasTheseFields, IfErr, IsCauseOf, Table, as_fields, first_invalid, option_copied, option_map, refused_of, shape_of, trees_of, view}
 use Rattle.std.proofs.lemmas.Grind.{common_steps}
-use Rattle.fr_shape.specs.Look.{Table}
-use Rattle.fr_shape.specs.View.{view}
-use Rattle.fr_model.specs.Failing.{first_invalid}
-use Rattle.fr_frame.specs.Bodies.{as_fields, trees_of}
-use Rattle.fr_frame.specs.Completing.{shape_of}
-use Rattle.fr_frame.specs.FieldDefaults.{refused_of, HasTheseFields}
-use Rattle.fr_frame.specs.Filling.{AreTold, IsCauseOf}
 use Rattle.fr_frame.proofs.LackLaws.{err_so}
 use Rattle.fr_frame.proofs.ValidLaws.{all_valid, valid_preserved, valid_cause}
 use Rattle.fr_frame.proofs.validating.test_values.Goals as goal

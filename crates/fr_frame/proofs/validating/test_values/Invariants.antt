@@ -1,9 +1,5 @@
 use Rattle.std.proofs.Common.{◌≡◌, drop}
-use Rattle.fr_shape.specs.Look.{Table}
-use Rattle.fr_model.specs.Failing.{first_invalid}
-use Rattle.fr_frame.specs.Bodies.{as_fields, trees_of}
-use Rattle.fr_frame.specs.Completing.{shape_of}
-use Rattle.fr_frame.specs.FieldDefaults.{HasTheseFields}
+use Rattle.fr_frame.specs.Common.{HasTheseFields, Table, as_fields, first_invalid, shape_of, trees_of}
 use Rattle.fr_frame.proofs.validating.test_values.Given as goal
 
 abbrev pub invariant-loop-i : goal.invariant-loop-i

@@ -1,13 +1,8 @@
 use Rattle.std.proofs.Common.{◌≡◌, ℕ, ◌+◌, ◌-◌, ◌/◌, ◌<◌, List, length, map, get_or, sym, ap, ◌∙◌, ⊎_elim, arith}
 use Rattle.std.proofs.lemmas.Bool.{cases_lt}
 use Rattle.std.proofs.lemmas.List.{length-map}
-use Rattle.std.specs.declared.cmp.Ordering.TheVariants.{Less, Greater}
+use Rattle.fr_frame.specs.Common.{Greater, IsRun, Less, Value, compare, same_tied, val_at, view}
 use Rattle.std.specs.Ordering.{is_eq}
-use Rattle.fr_shape.specs.declared.value.Value.{Value}
-use Rattle.fr_shape.specs.Compare.{compare}
-use Rattle.fr_shape.specs.CompareSame.{same_tied}
-use Rattle.fr_shape.specs.View.{view}
-use Rattle.fr_frame.specs.Indexing.{val_at, IsRun}
 use Rattle.fr_frame.proofs.Indexed.{below_at, run_before, run_behind, run_lacks, val_is}
 use Rattle.fr_frame.proofs.value_index.find_in.Goals as goal
 

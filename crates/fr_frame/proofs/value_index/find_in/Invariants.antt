@@ -1,8 +1,5 @@
 use Rattle.std.proofs.Common.{◌≡◌, ℕ, ◌<◌, ◌≤◌, ◌-◌, length, map, slice_index}
-use Rattle.std.specs.declared.cmp.Ordering.TheVariants.{Less, Greater}
-use Rattle.fr_shape.specs.Compare.{compare}
-use Rattle.fr_shape.specs.View.{view}
-use Rattle.fr_frame.specs.Indexing.{val_at}
+use Rattle.fr_frame.specs.Common.{Greater, Less, compare, val_at, view}
 use Rattle.fr_frame.proofs.value_index.find_in.Given as goal
 
 abbrev pub invariant-loop-low : goal.invariant-loop-low

@@ -1,9 +1,6 @@
 use Rattle.std.proofs.Common.{◌≡◌, ℕ, ◌<◌, true, ◌∷◌, ◌++◌, [], length, map, get_or, subst, sym, ap, ◌∙◌, arith}
 use Rattle.std.proofs.lemmas.List.{map_push, take_all, length-map}
-use Rattle.std.specs.List.Sorted.{IsPermutation}
-use Rattle.fr_frame.specs.declared.contents.ByContents.{ByContents}
-use Rattle.fr_shape.specs.View.{view}
-use Rattle.fr_frame.specs.Indexing.{has_number, IsRun}
+use Rattle.fr_frame.specs.Common.{ByContents, IsPermutation, IsRun, has_number, view}
 use Rattle.fr_frame.proofs.Indexed.{number_at, keyed_of, keyed_more, with_value, sorted_run}
 use Rattle.fr_frame.proofs.value_index.sorted.Goals as goal
 

@@ -1,6 +1,5 @@
 use Rattle.std.proofs.Common.{◌≡◌, ℕ, map, take}
-use Rattle.fr_frame.specs.declared.contents.ByContents.{ByContents}
-use Rattle.fr_shape.specs.View.{view}
+use Rattle.fr_frame.specs.Common.{ByContents, view}
 use Rattle.fr_frame.proofs.Indexed.{with_value, keyed_of}
 use Rattle.fr_frame.proofs.value_index.sorted.Given as goal
 

@@ -1,5 +1,5 @@
-use Rattle.std.proofs.Common.{ℕ, subst, arith}
-use Rattle.std.specs.Prelude.{IsTrue, ◌↔◌}
+use Rattle.std.proofs.Common.{ℕ, subst, arith, ◌↔◌}
+use Rattle.std.specs.Prelude.{IsTrue}
 use Rattle.fr_arena.specs.BitSets.{HasAllBelow}
 use Rattle.fr_frame.proofs.CellLaws.{all_set_is}
 use Rattle.fr_frame.proofs.children.Children.are_all_there.Goals as goal

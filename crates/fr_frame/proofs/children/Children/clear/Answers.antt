@@ -1,6 +1,5 @@
 use Rattle.std.proofs.Common.{◌∙◌, ap, arith}
-use Rattle.fr_shape.specs.View.{view}
-use Rattle.fr_frame.specs.Cells.{absent, cell, in_slot}
+use Rattle.fr_frame.specs.Common.{absent, cell, in_slot, view}
 use Rattle.fr_frame.proofs.CellLaws.{same_length, has_room, cells_put, bit_unset, bit_unset_here}
 use Rattle.fr_frame.proofs.children.Children.clear.Goals as goal
 

@@ -1,7 +1,5 @@
 use Rattle.std.proofs.Common.{◌≡◌, ℕ, List, [], ◌∷◌, ◌++◌, length, ap, sym, ◌∙◌}
-use Rattle.fr_shape.specs.View.{view}
-use Rattle.fr_frame.specs.Bodies.{has_same_cell, without_cell}
-use Rattle.fr_frame.specs.Cells.{Cell, absent}
+use Rattle.fr_frame.specs.Common.{Cell, absent, has_same_cell, view, without_cell}
 use Rattle.fr_frame.proofs.ItemLaws.{comes_behind, comes_last, item_kept, item_released, there_already}
 use Rattle.fr_frame.proofs.children.Children.end_item.Goals as goal
 

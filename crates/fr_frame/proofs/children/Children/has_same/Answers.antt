@@ -1,6 +1,5 @@
 use Rattle.std.proofs.Common.{ap, sym, ◌∙◌, arith}
-use Rattle.fr_shape.specs.View.{view}
-use Rattle.fr_frame.specs.Bodies.{has_same_cell}
+use Rattle.fr_frame.specs.Common.{has_same_cell, view}
 use Rattle.fr_frame.proofs.CellLaws.{past_all}
 use Rattle.fr_frame.proofs.ItemLaws.{same_here, same_later}
 use Rattle.fr_frame.proofs.children.Children.has_same.Goals as goal

@@ -1,6 +1,5 @@
 use Rattle.std.proofs.Common.{◌≡◌, drop}
-use Rattle.fr_shape.specs.View.{view}
-use Rattle.fr_frame.specs.Bodies.{has_same_cell}
+use Rattle.fr_frame.specs.Common.{has_same_cell, view}
 use Rattle.fr_frame.proofs.children.Children.has_same.Given as goal
 
 abbrev pub invariant-loop-i : goal.invariant-loop-i

@@ -1,6 +1,5 @@
 use Rattle.std.proofs.Common.{List, ap, ◌∙◌, arith}
-use Rattle.std.specs.Prelude.{is_some}
-use Rattle.fr_frame.specs.Cells.{Cell, values_of}
+use Rattle.fr_frame.specs.Common.{Cell, is_some, values_of}
 use Rattle.fr_frame.proofs.CellLaws.{bits_by, values_are}
 use Rattle.fr_frame.proofs.children.Children.into_parts.Goals as goal
 

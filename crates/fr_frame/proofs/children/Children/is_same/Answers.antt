@@ -1,5 +1,5 @@
 use Rattle.std.proofs.Common.{◌∙◌}
-use Rattle.fr_shape.specs.View.{view}
+use Rattle.fr_frame.specs.Common.{view}
 use Rattle.fr_frame.proofs.ItemLaws.{none_same, value_same}
 use Rattle.fr_frame.proofs.children.Children.is_same.Goals as goal
 

@@ -1,6 +1,5 @@
 use Rattle.std.proofs.Common.{List, set, ap, ◌∙◌}
-use Rattle.fr_shape.specs.View.{view}
-use Rattle.fr_frame.specs.Cells.{Cell, given, placed}
+use Rattle.fr_frame.specs.Common.{Cell, given, placed, view}
 use Rattle.fr_frame.proofs.ItemLaws.{moved_given, moved_nothing, no_child, slot_child, value_child}
 use Rattle.fr_frame.proofs.children.Children.move_back.Goals as goal
 

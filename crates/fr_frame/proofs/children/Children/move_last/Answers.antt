@@ -1,5 +1,5 @@
 use Rattle.std.proofs.Common.{arith}
-use Rattle.fr_frame.specs.Cells.{absent}
+use Rattle.fr_frame.specs.Common.{absent}
 use Rattle.fr_frame.proofs.ItemLaws.{get_inside, sinking_begins, sinking_count, sinking_ends, sinking_here, sinking_step, without_length}
 use Rattle.fr_frame.proofs.children.Children.move_last.Goals as goal
 

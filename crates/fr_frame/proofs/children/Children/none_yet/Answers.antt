@@ -1,5 +1,5 @@
 use Rattle.std.proofs.Common.{replicate, ◌∙◌, ap}
-use Rattle.fr_frame.specs.Cells.{absent}
+use Rattle.fr_frame.specs.Common.{absent}
 use Rattle.fr_frame.proofs.CellLaws.{cells_absent}
 use Rattle.fr_frame.proofs.children.Children.none_yet.Goals as goal
 

@@ -1,7 +1,5 @@
 use Rattle.std.proofs.Common.{List, take, ap, sym, ◌∙◌}
-use Rattle.fr_shape.specs.declared.value.Value.{Value}
-use Rattle.fr_shape.specs.View.{view, vals_view}
-use Rattle.fr_model.specs.Gathering.{is_there}
+use Rattle.fr_frame.specs.Common.{Value, is_there, vals_view, view}
 use Rattle.fr_frame.proofs.IndexLaws.{count_is, found_first, found_later}
 use Rattle.fr_frame.proofs.children.Children.past_index.Goals as goal
 

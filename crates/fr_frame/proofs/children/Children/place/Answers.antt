@@ -1,8 +1,6 @@
 use Rattle.std.proofs.Common.{Some, sym, ◌∙◌, ap, arith}
 use Rattle.std.specs.FinSet as finite
-use Rattle.fr_shape.specs.declared.value.Value.{Value}
-use Rattle.fr_shape.specs.View.{view}
-use Rattle.fr_frame.specs.Cells.{placed, cell, in_slot}
+use Rattle.fr_frame.specs.Common.{Value, cell, in_slot, placed, view}
 use Rattle.fr_frame.proofs.CellLaws.{same_length, has_room, cells_put, cell_is, bit_unset, bit_unset_here, value_here, no_value_at}
 use Rattle.fr_frame.proofs.children.Children.place.Goals as goal
 

@@ -1,8 +1,7 @@
-use Rattle.std.proofs.Common.{◌≡◌, ℕ, List, length, ap, subst, ◌∙◌, arith}
+use Rattle.std.proofs.Common.{◌≡◌, ℕ, List, length, ap, subst, ◌∙◌, arith, ◌&&◌}
 use Rattle.std.specs.FinSet as finite
-use Rattle.std.specs.Prelude.{not, ◌&&◌, ◌==◌}
-use Rattle.fr_shape.specs.declared.value.Value.{Value}
-use Rattle.fr_frame.specs.Cells.{cells_of, in_slot}
+use Rattle.fr_frame.specs.Common.{Value, cells_of, in_slot}
+use Rattle.std.specs.Prelude.{not, ◌==◌}
 use Rattle.fr_frame.proofs.CellLaws.{cells_pushed}
 use Rattle.fr_frame.proofs.children.Children.push.Goals as goal
 

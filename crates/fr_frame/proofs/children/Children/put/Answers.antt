@@ -1,6 +1,5 @@
 use Rattle.std.proofs.Common.{◌∙◌, ap, arith}
-use Rattle.fr_shape.specs.View.{view}
-use Rattle.fr_frame.specs.Cells.{given, cell}
+use Rattle.fr_frame.specs.Common.{cell, given, view}
 use Rattle.fr_frame.proofs.CellLaws.{same_length, has_room, cells_put, bit_set, bit_set_here}
 use Rattle.fr_frame.proofs.children.Children.put.Goals as goal
 

@@ -1,6 +1,6 @@
 use Rattle.std.proofs.Common.{sym, ◌∙◌, arith}
 use Rattle.std.specs.FinSet as finite
-use Rattle.fr_shape.specs.View.{view}
+use Rattle.fr_frame.specs.Common.{view}
 use Rattle.fr_frame.proofs.CellLaws.{same_length, has_room, cell_is, slot_here, no_slot_at}
 use Rattle.fr_frame.proofs.children.Children.slot.Goals as goal
 

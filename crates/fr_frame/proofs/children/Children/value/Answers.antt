@@ -1,6 +1,6 @@
 use Rattle.std.proofs.Common.{sym, ◌∙◌, arith}
 use Rattle.std.specs.FinSet as finite
-use Rattle.fr_shape.specs.View.{view}
+use Rattle.fr_frame.specs.Common.{view}
 use Rattle.fr_frame.proofs.CellLaws.{same_length, has_room, cell_is, value_here, no_value_at}
 use Rattle.fr_frame.proofs.children.Children.value.Goals as goal
 

@@ -1,5 +1,5 @@
 use Rattle.std.proofs.Common.{rules}
-use Rattle.fr_shape.specs.declared.value.Value.TheFolds.{the_lemmas}
+use Rattle.fr_frame.specs.Common.{the_lemmas}
 use Rattle.fr_frame.proofs.KeyLaws.{found_in}
 use Rattle.fr_frame.proofs.keys.KeyList.number_of.Goals as goal
 

@@ -1,23 +1,12 @@
 use Rattle.std.proofs.Common.{◌≡◌, ◌⊎◌, List, true, Some, None, sym, subst, arith}
-use Rattle.fr_frame.specs.Bodies.{HasAllChildren}
-use Rattle.std.specs.Prelude.{IfErr, IsSomeAnd, Option}
+use Rattle.fr_frame.specs.Common.{FillsAt, HasAllChildren, IfErr, IfInUse, IsCauseOf, IsChecked, IsPlanFor, IsPlanned, MayComplete, Node, Plan, Slot, Table, WhyNotDefault, deferred_column, heap_of, invalid, left_out, shape_of, takes_template, unmet}
+use Rattle.std.specs.Prelude.{IsSomeAnd, Option}
 use Rattle.std.proofs.lemmas.Grind.{common_steps}
 use Rattle.std.proofs.lemmas.Result.{on_ok_weaker}
 use Rattle.fr_shape.specs.declared.error.ReflectErrorKind.{ReflectErrorKind as Kind}
-use Rattle.fr_shape.specs.Checked.{IsChecked}
-use Rattle.fr_shape.specs.Look.{Table}
-use Rattle.fr_model.specs.Places.{deferred_column}
-use Rattle.fr_plan.specs.TypePlan.{Plan}
-use Rattle.fr_frame.specs.declared.places.Slot.{Slot}
-use Rattle.fr_frame.specs.Changes.{IfInUse}
-use Rattle.fr_frame.specs.Completing.{shape_of, takes_template, FillsAt, IsPlanFor, MayComplete}
-use Rattle.fr_frame.specs.Defaults.{invalid, left_out, unmet, WhyNotDefault}
-use Rattle.fr_frame.specs.FieldDefaults.{IsPlanned}
-use Rattle.fr_frame.specs.Filling.{IsCauseOf}
-use Rattle.fr_frame.specs.Heap.{Node, heap_of}
 use Rattle.fr_frame.proofs.LackLaws.{err_so}
 use Rattle.fr_frame.proofs.DefaultLaws.{ok_so}
-use Rattle.fr_frame.proofs.DefaultedLaws.{HasTaken, has_taken, unmet_so, may_after, form_so, left_so, there_so, invalid_so, filled_so}
+use Rattle.fr_frame.proofs.DefaultedLaws.{HasTaken, has_taken, unmet_so, may_after, tracker_so, left_so, there_so, invalid_so, filled_so}
 use Rattle.fr_frame.proofs.places.SlotId.complete_by_defaults.Goals as goal
 
 pub returns-in_err-fill_defaults-clause-why : goal.returns-in_err-fill_defaults-clause-why
@@ -133,8 +122,8 @@ returns-clause-why g c =
     (g.H.Hooks.means c.args.hooks.now) kind c.requires.checked c.requires.plan full failing)
     c.run_validators.ensures.failing
 
-pub returns-clause-form : goal.returns-clause-form
-returns-clause-form g c =
+pub returns-clause-tracker : goal.returns-clause-tracker
+returns-clause-tracker g c =
     let taken : HasTaken c.args.table.now c.args.plan.now c.args.slots.now c.require_full_initialization.new.slots c.args.self.0
     = subst (λ (slots : List Slot). HasTaken c.args.table.now c.args.plan.now c.args.slots.now slots c.args.self.0)
     (sym c.require_full_initialization.ensures.unchanged)
@@ -142,5 +131,5 @@ returns-clause-form g c =
     c.in_ok-fill_defaults.ensures.filled c.in_ok-fill_defaults.ensures.met) in
     on_ok_weaker c.run_validators.result
     (λ passing.
-    form_so c.args.table.now c.args.plan.now c.args.slots.now c.require_full_initialization.new.slots c.args.self.0 taken)
+    tracker_so c.args.table.now c.args.plan.now c.args.slots.now c.require_full_initialization.new.slots c.args.self.0 taken)
     c.run_validators.ensures.passing

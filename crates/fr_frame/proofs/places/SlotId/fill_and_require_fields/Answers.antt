@@ -1,13 +1,6 @@
 use Rattle.std.proofs.Common.{◌≡◌, ◌⊎◌, List, inl, inr, set, arith}
 use Rattle.std.proofs.lemmas.Result.{on_ok_weaker, IfErr-weaker}
-use Rattle.fr_shape.specs.declared.error.ReflectErrorKind.{ReflectErrorKind}
-use Rattle.fr_model.specs.Places.{strict_column}
-use Rattle.fr_frame.specs.declared.places.Slot.{Slot}
-use Rattle.fr_frame.specs.Heap.{Node, body_of, heap_of}
-use Rattle.fr_frame.specs.Changes.{IfInUse, Shows}
-use Rattle.fr_frame.specs.Closed.{IsClosedAt}
-use Rattle.fr_frame.specs.Completing.{FillsAt}
-use Rattle.fr_frame.specs.Defaults.{KeepsForm}
+use Rattle.fr_frame.specs.Common.{FillsAt, IfInUse, IsClosedAt, KeepsTracker, Node, ReflectErrorKind, Shows, Slot, body_of, heap_of, strict_column}
 use Rattle.fr_frame.proofs.PlaceLaws.{repieced, set_other, of_place, of_repieced, becomes, shows_same, occur_change}
 use Rattle.fr_frame.proofs.places.SlotId.fill_and_require_fields.Goals as goal
 
@@ -71,14 +64,14 @@ returns-clause-tokens g c t =
       c.fill_piece.ensures.tokens t,
     )
 
-pub returns-clause-form : goal.returns-clause-form
-returns-clause-form g c =
+pub returns-clause-tracker : goal.returns-clause-tracker
+returns-clause-tracker g c =
     let after : List Slot
     = set c.args.slots.now c.args.self.0 (Slot.Used (repieced c.place_mut-place.result.now c.fill_piece.new.piece)) in
     on_ok_weaker c.fill_piece.result
     (λ kept.
     of_place c.args.slots.now c.args.self.0 c.place_mut-place.result.now c.place_mut-place.ensures.value
-    (λ (at : Node). IfInUse after c.args.self.0 (λ (then_at : Node). KeepsForm at.body then_at.body))
+    (λ (at : Node). IfInUse after c.args.self.0 (λ (then_at : Node). KeepsTracker at.body then_at.body))
     (of_repieced c.args.slots.now c.args.self.0 c.place_mut-place.result.now c.place_mut-place.ensures.value
-    c.fill_piece.new.piece (λ (then_at : Node). KeepsForm (body_of c.place_mut-place.result.now.piece) then_at.body) kept))
-    c.fill_piece.ensures.form
+    c.fill_piece.new.piece (λ (then_at : Node). KeepsTracker (body_of c.place_mut-place.result.now.piece) then_at.body) kept))
+    c.fill_piece.ensures.tracker

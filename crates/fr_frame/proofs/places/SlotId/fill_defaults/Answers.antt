@@ -1,13 +1,6 @@
 use Rattle.std.proofs.Common.{◌≡◌, ◌⊎◌, List, inl, inr, set, subst, arith}
 use Rattle.std.proofs.lemmas.Result.{on_ok_weaker, IfErr-weaker}
-use Rattle.fr_shape.specs.declared.error.ReflectErrorKind.{ReflectErrorKind}
-use Rattle.fr_frame.specs.declared.places.Slot.{Slot}
-use Rattle.fr_frame.specs.Bodies.{Body}
-use Rattle.fr_frame.specs.Changes.{Becomes, Shows}
-use Rattle.fr_frame.specs.Closed.{IsClosedAt}
-use Rattle.fr_frame.specs.Completing.{shape_of}
-use Rattle.fr_frame.specs.Defaults.{defaulted}
-use Rattle.fr_frame.specs.Heap.{Node, body_of, heap_of, node_of}
+use Rattle.fr_frame.specs.Common.{Becomes, Body, IsClosedAt, Node, ReflectErrorKind, Shows, Slot, body_of, defaulted, heap_of, node_of, shape_of}
 use Rattle.fr_frame.proofs.PlaceLaws.{repieced, set_other, of_place, becomes, shows_same, occur_change}
 use Rattle.fr_frame.proofs.places.SlotId.fill_defaults.Goals as goal
 

@@ -1,9 +1,5 @@
 use Rattle.std.proofs.Common.{ap}
-use Rattle.std.specs.Prelude.{is_some}
-use Rattle.fr_shape.specs.Tokens.{occurs}
-use Rattle.fr_shape.specs.View.{view}
-use Rattle.fr_frame.specs.Bodies.{body_occurs}
-use Rattle.fr_frame.specs.Heap.{body_of, slots_occur}
+use Rattle.fr_frame.specs.Common.{body_occurs, body_of, is_some, occurs, slots_occur, view}
 use Rattle.fr_frame.proofs.HandLaws.{gave_up, handed_conserved, handed_up, is_taken, IsTaken}
 use Rattle.fr_frame.proofs.places.SlotId.hand_over.Goals as goal
 

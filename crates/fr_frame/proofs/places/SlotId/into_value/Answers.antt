@@ -1,9 +1,6 @@
 use Rattle.std.proofs.Common.{◌+◌, refl}
 use Rattle.std.proofs.lemmas.Result.{IfOk-weaker}
-use Rattle.fr_shape.specs.Tokens.{occurs}
-use Rattle.fr_shape.specs.View.{view}
-use Rattle.fr_frame.specs.Bodies.{body_occurs}
-use Rattle.fr_frame.specs.Heap.{body_of, slots_occur}
+use Rattle.fr_frame.specs.Common.{body_occurs, body_of, occurs, slots_occur, view}
 use Rattle.fr_frame.proofs.HandLaws.{handed_conserved}
 use Rattle.fr_frame.proofs.places.SlotId.into_value.Goals as goal
 

@@ -1,10 +1,6 @@
 use Rattle.std.proofs.Common.{◌≡◌, List, Some, set, subst}
 use Rattle.std.proofs.lemmas.Result.{on_ok_weaker, IfErr-weaker}
-use Rattle.fr_shape.specs.Val.{Val}
-use Rattle.fr_frame.specs.declared.places.Slot.{Slot}
-use Rattle.fr_frame.specs.Bodies.{Body, body_occurs, value_of, whole_body}
-use Rattle.fr_frame.specs.Changes.{Becomes}
-use Rattle.fr_frame.specs.Heap.{Node, body_of, node_of, slots_occur}
+use Rattle.fr_frame.specs.Common.{Becomes, Body, Node, Slot, Val, body_occurs, body_of, node_of, slots_occur, value_of, whole_body}
 use Rattle.fr_frame.proofs.HandLaws.{changed_conserved}
 use Rattle.fr_frame.proofs.PlaceLaws.{repieced, of_place, becomes, shows_same, occur_change}
 use Rattle.fr_frame.proofs.places.SlotId.make_whole.Goals as goal

@@ -1,6 +1,6 @@
 use Rattle.std.proofs.Common.{arith}
 use Rattle.std.proofs.lemmas.Result.{on_ok_weaker, IfErr-weaker}
-use Rattle.fr_frame.specs.Bodies.{opened_array}
+use Rattle.fr_frame.specs.Common.{opened_array}
 use Rattle.fr_frame.proofs.PlaceLaws.{shows, shows_same, occur_change}
 use Rattle.fr_frame.proofs.places.SlotId.open_array.Goals as goal
 

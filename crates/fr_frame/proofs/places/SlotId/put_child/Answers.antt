@@ -1,7 +1,5 @@
 use Rattle.std.proofs.Common.{arith}
-use Rattle.fr_shape.specs.View.{view}
-use Rattle.fr_frame.specs.Bodies.{Body, with_cell}
-use Rattle.fr_frame.specs.Cells.{given}
+use Rattle.fr_frame.specs.Common.{Body, given, view, with_cell}
 use Rattle.fr_frame.proofs.PlaceLaws.{shows, occur_change}
 use Rattle.fr_frame.proofs.places.SlotId.put_child.Goals as goal
 

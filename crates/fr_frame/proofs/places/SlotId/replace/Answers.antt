@@ -1,8 +1,5 @@
 use Rattle.std.proofs.Common.{◌≡◌, ℕ, ◌+◌, set, ap, arith}
-use Rattle.fr_frame.specs.declared.places.Piece.{Piece}
-use Rattle.fr_frame.specs.declared.places.Slot.{Slot}
-use Rattle.fr_frame.specs.Bodies.{Body, body_occurs}
-use Rattle.fr_frame.specs.Heap.{Node, body_of, slots_occur}
+use Rattle.fr_frame.specs.Common.{Body, Node, Piece, Slot, body_occurs, body_of, slots_occur}
 use Rattle.fr_frame.proofs.PlaceLaws.{repieced, of_place, occur_change, shows}
 use Rattle.fr_frame.proofs.places.SlotId.replace.Goals as goal
 

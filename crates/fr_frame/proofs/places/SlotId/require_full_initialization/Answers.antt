@@ -1,9 +1,6 @@
 use Rattle.std.proofs.Common.{◌≡◌, Some, None}
 use Rattle.std.proofs.lemmas.Result.{on_ok_weaker, IfErr-weaker}
-use Rattle.fr_frame.specs.declared.places.Slot.{Slot}
-use Rattle.fr_frame.specs.Completing.{shape_of}
-use Rattle.fr_frame.specs.Defaults.{left_out}
-use Rattle.fr_frame.specs.Heap.{Node}
+use Rattle.fr_frame.specs.Common.{Node, Slot, left_out, shape_of}
 use Rattle.fr_frame.proofs.PlaceLaws.{of_place, set_as_was}
 use Rattle.fr_frame.proofs.places.SlotId.require_full_initialization.Goals as goal
 

@@ -1,9 +1,5 @@
 use Rattle.std.proofs.Common.{◌≡◌, ℕ, ◌+◌, List, set, ap, ◌∙◌, arith}
-use Rattle.fr_frame.specs.declared.places.Piece.{Piece}
-use Rattle.fr_frame.specs.declared.places.Slot.{Slot}
-use Rattle.fr_frame.specs.Bodies.{begun_body, body_occurs, restarted}
-use Rattle.fr_frame.specs.Cells.{Cell, cells_occur}
-use Rattle.fr_frame.specs.Heap.{Node, as_form, body_of, slots_occur}
+use Rattle.fr_frame.specs.Common.{Cell, Node, Piece, Slot, as_tracker, begun_body, body_occurs, body_of, cells_occur, restarted, slots_occur}
 use Rattle.fr_frame.proofs.BodyLaws.{none_occur}
 use Rattle.fr_frame.proofs.PlaceLaws.{repieced, of_place, occur_change, shows}
 use Rattle.fr_frame.proofs.places.SlotId.restart.Goals as goal
@@ -11,9 +7,9 @@ use Rattle.fr_frame.proofs.places.SlotId.restart.Goals as goal
 pub returns-clause-restarted : goal.returns-clause-restarted
 returns-clause-restarted c =
     shows c.args.slots.now c.args.self.0 c.place_mut-place.result.now c.place_mut-place.ensures.value c.replace-was.new.dest
-    (restarted (as_form c.args.form) c.args.count)
+    (restarted (as_tracker c.args.tracker) c.args.count)
     (ap body_of c.replace-was.ensures.after
-    ∙ ap (λ (cells : List Cell). begun_body (as_form c.args.form) cells) c.in_ok-children.ensures)
+    ∙ ap (λ (cells : List Cell). begun_body (as_tracker c.args.tracker) cells) c.in_ok-children.ensures)
 
 pub returns-clause-tokens : goal.returns-clause-tokens
 returns-clause-tokens c =

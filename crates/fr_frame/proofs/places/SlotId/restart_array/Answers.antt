@@ -1,15 +1,12 @@
 use Rattle.std.proofs.Common.{List, ap, ◌∙◌, arith}
-use Rattle.fr_model.specs.Tree.{as_dyn_array}
-use Rattle.fr_frame.specs.Bodies.{Body, begun_body}
-use Rattle.fr_frame.specs.Cells.{Cell, cells_occur}
-use Rattle.fr_frame.specs.Heap.{heap_of, with_body}
+use Rattle.fr_frame.specs.Common.{Body, Cell, ItemsKind, as_items, begun_body, cells_occur, heap_of, with_body}
 use Rattle.fr_frame.proofs.PlaceLaws.{in_use_so}
 use Rattle.fr_frame.proofs.places.SlotId.restart_array.Goals as goal
 
 pub returns-clause-restarted : goal.returns-clause-restarted
 returns-clause-restarted c m =
     c.replace.ensures.put m
-    ∙ ap (λ (cells : List Cell). with_body (heap_of c.args.slots.now) c.args.self.0 (λ (old : Body). begun_body as_dyn_array cells) m)
+    ∙ ap (λ (cells : List Cell). with_body (heap_of c.args.slots.now) c.args.self.0 (λ (old : Body). begun_body (as_items ItemsKind.Array) cells) m)
     c.none-children.ensures
 
 pub returns-clause-tokens : goal.returns-clause-tokens

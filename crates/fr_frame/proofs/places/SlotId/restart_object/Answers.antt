@@ -1,8 +1,5 @@
 use Rattle.std.proofs.Common.{ℕ, List, [], ap, ◌∙◌, arith}
-use Rattle.fr_model.specs.Tree.{as_dyn_object}
-use Rattle.fr_frame.specs.Bodies.{Body, begun_body}
-use Rattle.fr_frame.specs.Cells.{Cell, cells_occur}
-use Rattle.fr_frame.specs.Heap.{heap_of, with_body}
+use Rattle.fr_frame.specs.Common.{Body, Cell, EntriesKind, as_entries, begun_body, cells_occur, heap_of, with_body}
 use Rattle.fr_frame.proofs.PlaceLaws.{in_use_so}
 use Rattle.fr_frame.proofs.places.SlotId.restart_object.Goals as goal
 
@@ -11,9 +8,9 @@ returns-clause-restarted c m =
     c.replace.ensures.put m
     ∙ ap
     (λ (names : List (List ℕ)).
-    with_body (heap_of c.args.slots.now) c.args.self.0 (λ (old : Body). begun_body (as_dyn_object names) c.none-children.result) m)
+    with_body (heap_of c.args.slots.now) c.args.self.0 (λ (old : Body). begun_body (as_entries (EntriesKind.Object names)) c.none-children.result) m)
     c.none-keys.ensures.empty
-    ∙ ap (λ (cells : List Cell). with_body (heap_of c.args.slots.now) c.args.self.0 (λ (old : Body). begun_body (as_dyn_object []) cells) m)
+    ∙ ap (λ (cells : List Cell). with_body (heap_of c.args.slots.now) c.args.self.0 (λ (old : Body). begun_body (as_entries (EntriesKind.Object [])) cells) m)
     c.none-children.ensures
 
 pub returns-clause-tokens : goal.returns-clause-tokens

@@ -1,14 +1,7 @@
 use Rattle.std.proofs.Common.{◌≡◌, Option, Some, None, IsSomeAnd, sym, ◌∙◌, subst}
 use Rattle.std.proofs.lemmas.Result.{on_ok_weaker, IfErr-weaker}
-use Rattle.fr_shape.specs.Checked.{IsChecked}
-use Rattle.fr_shape.specs.Look.{Table}
-use Rattle.fr_frame.specs.Bodies.{HasAllChildren}
-use Rattle.fr_frame.specs.Completing.{shape_of, IsPlanFor, MayComplete}
-use Rattle.fr_frame.specs.Defaults.{invalid}
-use Rattle.fr_frame.specs.FieldDefaults.{IsPlanned}
-use Rattle.fr_frame.specs.Filling.{IsCauseOf}
-use Rattle.fr_frame.specs.Heap.{Node, heap_of, node_of}
-use Rattle.fr_frame.specs.OutlineLaws.{found_same, of_outline, same_body, same_list}
+use Rattle.fr_frame.specs.Common.{HasAllChildren, IsCauseOf, IsChecked, IsPlanFor, IsPlanned, MayComplete, Node, Table, heap_of, invalid, node_of, of_outline, same_body, shape_of}
+use Rattle.fr_frame.specs.OutlineLaws.{found_same, same_list}
 use Rattle.fr_frame.proofs.HandLaws.{so_of}
 use Rattle.fr_frame.proofs.StayLaws.{list_valid}
 use Rattle.fr_frame.proofs.places.SlotId.run_validators.Goals as goal

@@ -1,11 +1,6 @@
 use Rattle.std.proofs.Common.{◌≡◌, ℕ, ◌<◌, true, List, length, set, sym, subst, ap}
-use Rattle.std.specs.Prelude.{OnErr, OnOk}
+use Rattle.fr_frame.specs.Common.{IfInUse, IsReserved, KeepsReserved, Node, OnErr, OnOk, SameTokens, Shows, Slot, heap_of, is_list_body, slots_occur, slots_seen, with_body, with_placed}
 use Rattle.std.proofs.lemmas.Result.{on_ok_weaker, IfErr-weaker}
-use Rattle.fr_frame.specs.declared.places.Slot.{Slot}
-use Rattle.fr_frame.specs.Changes.{IfInUse, SameTokens, Shows}
-use Rattle.fr_frame.specs.Heap.{Node, heap_of, slots_occur, with_body}
-use Rattle.fr_frame.specs.Items.{slots_seen, with_placed, IsReserved, KeepsReserved}
-use Rattle.fr_frame.specs.Outlines.{is_list_body}
 use Rattle.fr_frame.proofs.AddItemLaws.{added_reserved, added_shows, added_tokens, either_way, kept_as, list_in}
 use Rattle.fr_frame.proofs.CompleteItemLaws.{in_use, raw_inside}
 use Rattle.fr_frame.proofs.SlotLaws.{read}

@@ -1,7 +1,5 @@
 use Rattle.std.proofs.Common.{List, ap, ◌∙◌, arith}
-use Rattle.fr_frame.specs.declared.places.Slot.{Slot}
-use Rattle.fr_frame.specs.Heap.{heap_of, slots_occur}
-use Rattle.fr_frame.specs.Items.{slots_seen}
+use Rattle.fr_frame.specs.Common.{Slot, heap_of, slots_occur, slots_seen}
 use Rattle.fr_frame.proofs.SlotLaws.{append_occur, append_reserved, append_shows, past_seen}
 use Rattle.fr_frame.proofs.slots.Slots.append.Goals as goal
 

@@ -1,13 +1,5 @@
 use Rattle.std.proofs.Common.{◌≡◌, Some, slice_get, ap, sym, ◌∙◌, arith}
-use Rattle.std.specs.Option.{option_and_then}
-use Rattle.fr_arena.specs.Ropes.{Rope}
-use Rattle.fr_frame.specs.declared.places.Slot.{Slot}
-use Rattle.fr_frame.specs.declared.places.SlotId.{SlotId}
-use Rattle.fr_frame.specs.Bodies.{cell_at}
-use Rattle.fr_frame.specs.Cells.{slot_of_cell}
-use Rattle.fr_frame.specs.Heap.{body_of}
-use Rattle.fr_frame.specs.Items.{items_of}
-use Rattle.fr_frame.specs.RawSlots.{body_with}
+use Rattle.fr_frame.specs.Common.{Rope, Slot, SlotId, body_of, body_with, cell_at, items_of, option_and_then, slot_of_cell}
 use Rattle.fr_frame.proofs.RawLaws.{child_of_list, child_of_none, child_past, child_seen}
 use Rattle.fr_frame.proofs.SlotLaws.{no_place, read}
 use Rattle.fr_frame.proofs.slots.Slots.child_slot.Goals as goal

@@ -1,12 +1,5 @@
 use Rattle.std.proofs.Common.{◌≡◌, ℕ, ◌<◌, true, false, List, length, length-set, IsSome, set, sym, subst, ap, ap₂, ◌∙◌, arith}
-use Rattle.fr_shape.specs.Released.{Room}
-use Rattle.fr_shape.specs.Tokens.{occurs}
-use Rattle.fr_shape.specs.View.{view}
-use Rattle.fr_frame.specs.declared.places.Piece.{Piece}
-use Rattle.fr_frame.specs.declared.places.Slot.{Slot}
-use Rattle.fr_frame.specs.Bodies.{body_occurs, takes_memory, value_of}
-use Rattle.fr_frame.specs.Heap.{Node, body_of, slots_occur}
-use Rattle.fr_frame.specs.Items.{slots_seen}
+use Rattle.fr_frame.specs.Common.{Node, Piece, Room, Slot, body_occurs, body_of, occurs, slots_occur, slots_seen, takes_memory, value_of, view}
 use Rattle.fr_frame.proofs.CompleteItemLaws.{handed, handed_tokens, in_use, of_it, raw_inside, ready, refused, refused_tokens, so_of_it, taken_as, taken_in_use, IsReady}
 use Rattle.fr_frame.proofs.FreeLaws.{emptied_at}
 use Rattle.fr_frame.proofs.HandLaws.{changed_conserved, rose_conserved}

@@ -1,9 +1,5 @@
 use Rattle.std.proofs.Common.{set}
-use Rattle.fr_shape.specs.Tokens.{occurs}
-use Rattle.fr_shape.specs.View.{view}
-use Rattle.fr_frame.specs.declared.places.Slot.{Slot}
-use Rattle.fr_frame.specs.Bodies.{body_occurs, with_ended}
-use Rattle.fr_frame.specs.Heap.{body_of, slots_occur}
+use Rattle.fr_frame.specs.Common.{Slot, body_occurs, body_of, occurs, slots_occur, view, with_ended}
 use Rattle.fr_frame.proofs.HandLaws.{joined_conserved}
 use Rattle.fr_frame.proofs.PlaceLaws.{repieced, shows, occur_change}
 use Rattle.fr_frame.proofs.slots.Slots.end_child.Goals as goal

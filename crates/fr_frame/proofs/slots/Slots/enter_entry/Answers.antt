@@ -1,11 +1,6 @@
 use Rattle.std.proofs.Common.{◌≡◌, ℕ, List, Some, sym, ◌∙◌, ap}
 use Rattle.std.proofs.lemmas.Result.{IfOk-weaker}
-use Rattle.fr_shape.specs.Look.{def_of}
-use Rattle.fr_model.specs.DynamicPlaces.{entry_found}
-use Rattle.fr_frame.specs.Bodies.{keys_in, with_entry_for}
-use Rattle.fr_frame.specs.Changes.{IfInUse, Shows}
-use Rattle.fr_frame.specs.Completing.{shape_of}
-use Rattle.fr_frame.specs.Heap.{Node, heap_of, with_body, with_entered}
+use Rattle.fr_frame.specs.Common.{IfInUse, Node, Shows, def_of, entry_found, heap_of, keys_in, shape_of, with_body, with_entered, with_entry_for}
 use Rattle.fr_frame.specs.Kids.{child_owner}
 use Rattle.fr_frame.proofs.GrowLaws.{with_entered_alike}
 use Rattle.fr_frame.proofs.ObjectLaws.{known_alike, known_so}
@@ -22,11 +17,11 @@ returns-in-Some-clause-entered c =
     (λ above is.
     sym c.in-Some.is ∙ is ∙ ap (λ (key : List ℕ). entry_found key (keys_in above.body)) c.in_ok-name.ensures.copy)
     c.entry_number-found.ensures.number in
-    IfOk-weaker c.enter_child.result _ _
+    IfOk-weaker c.enter_numbered.result _ _
     (λ id shown.
     known_so (heap_of c.args.self.now c.args.parent.0) c.args.key.now c.in-Some.i
     (λ (above : Node) (n : ℕ).
-    Shows c.enter_child.new.self (with_entered (def_of c.args.table.now (shape_of c.args.plan.now c.args.node))
+    Shows c.enter_numbered.new.self (with_entered (def_of c.args.table.now (shape_of c.args.plan.now c.args.node))
     (with_body (heap_of c.args.self.now) c.args.parent.0 (with_entry_for c.args.key.now)) c.args.node
     (child_owner c.args.parent.0 n) id.0))
     known
@@ -36,4 +31,4 @@ returns-in-Some-clause-entered c =
     (with_body (heap_of c.args.self.now) c.args.parent.0 (with_entry_for c.args.key.now))
     (def_of c.args.table.now (shape_of c.args.plan.now c.args.node)) c.args.node (child_owner c.args.parent.0 c.in-Some.i) id.0
     (known_alike c.args.self.now c.args.parent.0 c.args.key.now c.in-Some.i known) m))
-    c.enter_child.ensures.entered
+    c.enter_numbered.ensures.entered

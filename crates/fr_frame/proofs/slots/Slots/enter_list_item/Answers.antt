@@ -1,8 +1,5 @@
 use Rattle.std.proofs.Common.{◌≡◌, ap, ◌∙◌, arith}
-use Rattle.fr_shape.specs.Look.{def_of}
-use Rattle.fr_frame.specs.Bodies.{Body, body_occurs}
-use Rattle.fr_frame.specs.Completing.{shape_of}
-use Rattle.fr_frame.specs.Heap.{body_of}
+use Rattle.fr_frame.specs.Common.{Body, body_occurs, body_of, def_of, shape_of}
 use Rattle.fr_frame.proofs.ListLaws.{fresh_by, fresh_occurs, item_listed}
 use Rattle.fr_frame.proofs.slots.Slots.enter_list_item.Goals as goal
 

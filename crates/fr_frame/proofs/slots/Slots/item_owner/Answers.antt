@@ -1,8 +1,6 @@
 use Rattle.std.proofs.Common.{◌≡◌, ◌+◌, ◌<◌, ◌^◌, ap, ◌∙◌, arith}
-use Rattle.fr_frame.specs.declared.places.FrameOwner.{FrameOwner}
-use Rattle.fr_frame.specs.Bodies.{count_cells}
-use Rattle.fr_frame.specs.Heap.{Node, body_of, heap_of, item_owner, node_of}
-use Rattle.fr_frame.specs.OutlineLaws.{of_outline, same_body, same_count}
+use Rattle.fr_frame.specs.Common.{FrameOwner, Node, body_of, count_cells, heap_of, item_owner, node_of, of_outline, same_body}
+use Rattle.fr_frame.specs.OutlineLaws.{same_count}
 use Rattle.fr_frame.proofs.slots.Slots.item_owner.Goals as goal
 
 pub returns-clause-owner : goal.returns-clause-owner

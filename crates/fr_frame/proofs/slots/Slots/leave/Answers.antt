@@ -1,8 +1,5 @@
 use Rattle.std.proofs.Common.{◌≡◌, ℕ, ◌+◌, ◌<◌, List, length, Some, set, slice_get, refl, sym, subst, ap, ap₂, ◌∙◌}
-use Rattle.fr_frame.specs.declared.places.Slot.{Slot}
-use Rattle.fr_frame.specs.Bodies.{body_occurs}
-use Rattle.fr_frame.specs.Heap.{body_of, heap_of, slots_occur}
-use Rattle.fr_frame.specs.Items.{IsPlain, slots_seen}
+use Rattle.fr_frame.specs.Common.{IsPlain, Slot, body_occurs, body_of, heap_of, slots_occur, slots_seen}
 use Rattle.fr_frame.proofs.SlotLaws.{drained_inside, drained_slot, emptied_occur, node_seen, plain_used, read, set_shows}
 use Rattle.fr_frame.proofs.slots.Slots.leave.Goals as goal
 

@@ -1,7 +1,5 @@
 use Rattle.std.proofs.Common.{List, refl, ap, ◌∙◌}
-use Rattle.fr_frame.specs.declared.places.Slot.{Slot}
-use Rattle.fr_frame.specs.Heap.{heap_of, slots_occur}
-use Rattle.fr_frame.specs.Items.{slots_seen}
+use Rattle.fr_frame.specs.Common.{Slot, heap_of, slots_occur, slots_seen}
 use Rattle.fr_frame.proofs.SlotLaws.{filled_occur, reserved_in, set_shows}
 use Rattle.fr_frame.proofs.slots.Slots.lower.Goals as goal
 

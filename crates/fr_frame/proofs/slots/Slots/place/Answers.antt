@@ -1,6 +1,5 @@
 use Rattle.std.proofs.Common.{◌≡◌, Some, slice_get, option_map, ap, sym, ◌∙◌, arith}
-use Rattle.fr_frame.specs.Items.{items_of}
-use Rattle.fr_frame.specs.Outlines.{outlined}
+use Rattle.fr_frame.specs.Common.{items_of, outlined}
 use Rattle.fr_frame.proofs.SlotLaws.{no_place, node_seen, past_seen, read, with_place}
 use Rattle.fr_frame.proofs.slots.Slots.place.Goals as goal
 

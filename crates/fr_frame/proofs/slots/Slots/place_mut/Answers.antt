@@ -1,7 +1,5 @@
 use Rattle.std.proofs.Common.{◌≡◌, ℕ, ◌<◌, length, Some, set, slice_get, refl, sym, subst, ap, ◌∙◌}
-use Rattle.fr_frame.specs.declared.places.Place.{Place}
-use Rattle.fr_frame.specs.declared.places.Slot.{Slot}
-use Rattle.fr_frame.specs.Items.{slots_seen}
+use Rattle.fr_frame.specs.Common.{Place, Slot, slots_seen}
 use Rattle.fr_frame.proofs.SlotLaws.{drained_inside, drained_slot, get_seen, read, set_seen}
 use Rattle.fr_frame.proofs.slots.Slots.place_mut.Goals as goal
 

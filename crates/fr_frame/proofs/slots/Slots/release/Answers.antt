@@ -1,6 +1,5 @@
 use Rattle.std.proofs.Common.{arith}
-use Rattle.fr_frame.specs.Bodies.{body_occurs}
-use Rattle.fr_frame.specs.Heap.{body_of}
+use Rattle.fr_frame.specs.Common.{body_occurs, body_of}
 use Rattle.fr_frame.proofs.ReleaseLaws.{releasing_starts, releasing_room, releasing_ends}
 use Rattle.fr_frame.proofs.slots.Slots.release.Goals as goal
 

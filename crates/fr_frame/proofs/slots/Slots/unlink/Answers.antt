@@ -1,7 +1,5 @@
 use Rattle.std.proofs.Common.{◌≡◌, not, None, ap, sym, ◌∙◌, arith}
-use Rattle.fr_frame.specs.declared.places.FrameOwner.{FrameOwner}
-use Rattle.fr_frame.specs.Bodies.{unlinked}
-use Rattle.fr_frame.specs.Heap.{heap_of, unlinks}
+use Rattle.fr_frame.specs.Common.{FrameOwner, heap_of, unlinked, unlinks}
 use Rattle.fr_frame.specs.OutlineLaws.{place_missing, place_there}
 use Rattle.fr_frame.proofs.HeapLaws.{with_body_free}
 use Rattle.fr_frame.proofs.PlaceLaws.{shows, occur_change}

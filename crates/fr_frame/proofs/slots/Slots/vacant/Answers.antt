@@ -1,7 +1,5 @@
 use Rattle.std.proofs.Common.{List, slice_get, refl, ap, ◌∙◌}
-use Rattle.fr_frame.specs.declared.places.Slot.{Slot}
-use Rattle.fr_frame.specs.Heap.{heap_of, slots_occur}
-use Rattle.fr_frame.specs.Items.{slots_seen}
+use Rattle.fr_frame.specs.Common.{Slot, heap_of, slots_occur, slots_seen}
 use Rattle.fr_frame.proofs.FreeLaws.{free_at}
 use Rattle.fr_frame.proofs.SlotLaws.{get_now, kept_occur, node_seen, set_same}
 use Rattle.fr_frame.proofs.slots.Slots.vacant.Goals as goal

@@ -1,10 +1,8 @@
 use Rattle.std.proofs.Common.{◌≡◌, ℕ, ◌+◌, ◌-◌, ◌<◌, ◌∷◌, List, length, map, take, drop, subst, sym, ap, ◌∙◌, arith}
 use Rattle.std.proofs.lemmas.List.{length-map, length-take-le, take-map}
-use Rattle.std.specs.List.Sorted.{IsPermutation}
-use Rattle.fr_shape.specs.declared.value.Value.{Value}
-use Rattle.fr_shape.specs.View.{view}
+use Rattle.fr_frame.specs.Common.{Indexes, IsPermutation, Value, has_number, joined, runs_of, view}
 use Rattle.fr_frame.specs.declared.value_index.ValueIndex.{ValueIndex}
-use Rattle.fr_frame.specs.Indexing.{joined, runs_of, has_number, AreRuns, Indexes}
+use Rattle.fr_frame.specs.Indexing.{AreRuns}
 use Rattle.fr_frame.proofs.Indexed.{numbers_after, runs_after}
 use Rattle.fr_frame.proofs.value_index.ValueIndex.add.Goals as goal
 

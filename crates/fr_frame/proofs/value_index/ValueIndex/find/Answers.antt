@@ -1,7 +1,6 @@
 use Rattle.std.proofs.Common.{◌≡◌, ℕ, ◌<◌, List, [], length, map, get_or, subst, sym, ap, ◌∙◌, arith}
 use Rattle.std.proofs.lemmas.List.{length-map, take_all}
-use Rattle.fr_shape.specs.View.{view}
-use Rattle.fr_frame.specs.Indexing.{is_held, has_number, runs_of, IsRun}
+use Rattle.fr_frame.specs.Common.{IsRun, has_number, is_held, runs_of, view}
 use Rattle.fr_frame.proofs.Indexed.{read_map, there_found, there_none, of_none, lacks_more}
 use Rattle.fr_frame.proofs.value_index.ValueIndex.find.Goals as goal
 

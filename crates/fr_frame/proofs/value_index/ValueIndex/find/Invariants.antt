@@ -1,7 +1,5 @@
 use Rattle.std.proofs.Common.{◌≡◌, ℕ, true, false, map, take}
-use Rattle.fr_shape.specs.Same.{same}
-use Rattle.fr_shape.specs.View.{view}
-use Rattle.fr_frame.specs.Indexing.{val_at, is_held, runs_of}
+use Rattle.fr_frame.specs.Common.{is_held, runs_of, same, val_at, view}
 use Rattle.fr_frame.proofs.value_index.ValueIndex.find.Given as goal
 
 abbrev pub invariant-loop-run : goal.invariant-loop-run

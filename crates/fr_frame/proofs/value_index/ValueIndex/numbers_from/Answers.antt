@@ -1,6 +1,6 @@
 use Rattle.std.proofs.Common.{◌≡◌, ◌<◌, ◌∷◌, [], length, drop, get_or, ◌∙◌, arith}
 use Rattle.std.proofs.lemmas.List.{length-map}
-use Rattle.fr_frame.specs.Indexing.{joined, runs_of}
+use Rattle.fr_frame.specs.Common.{joined, runs_of}
 use Rattle.fr_frame.proofs.Indexed.{read_map, joined_more}
 use Rattle.fr_frame.proofs.value_index.ValueIndex.numbers_from.Goals as goal
 

@@ -1,5 +1,5 @@
 use Rattle.std.proofs.Common.{◌≡◌, ◌++◌, ◌∷◌, drop}
-use Rattle.fr_frame.specs.Indexing.{joined, runs_of}
+use Rattle.fr_frame.specs.Common.{joined, runs_of}
 use Rattle.fr_frame.proofs.value_index.ValueIndex.numbers_from.Given as goal
 
 abbrev pub invariant-loop-i : goal.invariant-loop-i
