@@ -1,31 +1,14 @@
 -- The children of one place that are in slots, as they are written down: from the last in the order of their steps to the first.
 use Rattle.std.proofs.Common.{◌≡◌, ℕ, zero, suc, ◌+◌, ◌<◌, ◌≤◌, Bool, true, false, List, [], ◌∷◌, ◌++◌, length, map, ltb, Option, Some, None, refl, sym, ◌∙◌, ap, subst, arith}
-use Rattle.std.specs.List.{All, Contains}
-use Rattle.std.specs.declared.cmp.Ordering.TheVariants.{Less}
+use Rattle.fr_store.specs.Common.{All, AllMarked, AllMarkedIn, AreLeftAll, AreLeftRightly, Cell, ComesBefore, Contains, EntriesKind, FrameOwner, Heap, Holds, IsHere, IsLeftRightly, IsPlaced, IsThere, ItemsKind, Kid, Kids, Less, MayHave, NodeId, Pairs, PathStep, Place, Plan, Tracker, Tree, as_entries, as_items, at, begun_plot, body_in, cell_of, cells_count, cells_found, cells_in, child_tree, count_kids, entry_of, from_last, gone, holds_at, is_map_found, is_map_tracker, kid, kid_at, kid_at_append, kid_below, kid_nth, left_at, marked_nth, may_have_all, no_kids, node_along, owner_along, slot_here, slot_of_cell, slotted, step_as, step_order, steps_in, there, tree_at, tree_of, tree_of_at, walk_order}
 use Rattle.std.proofs.lemmas.Bool.{ltb-true, ltb-false}
 use Rattle.std.proofs.lemmas.List.Elements.{All-nil, All-cons, All-append, All-weaker, All-map, Contains-append_left, Contains-append_right}
-use Rattle.fr_path.specs.declared.path_steps.PathStep.{PathStep}
-use Rattle.fr_path.specs.Order.{step_order, walk_order}
-use Rattle.fr_model.specs.Paths.{step_as, step_below, steps_in}
-use Rattle.fr_model.specs.Places.{Place, entry_of}
-use Rattle.fr_model.specs.Tree.{Form, as_set, as_map, as_dyn_object, Tree, child_tree, tree_at}
-use Rattle.fr_model.specs.Collections.{is_map_form}
-use Rattle.fr_plan.specs.declared.nodes.NodeId.{NodeId}
-use Rattle.fr_plan.specs.TypePlan.{Plan}
-use Rattle.fr_frame.specs.declared.places.FrameOwner.{FrameOwner}
-use Rattle.fr_frame.specs.Cells.{Cell, slot_at, slot_of_cell}
-use Rattle.fr_frame.specs.Heap.{Heap}
-use Rattle.fr_frame.specs.Kids.{Kid, gone, there, at, begun_plot, Kids, no_kids, kid, MayHave, is_stored, tree_of, cell_of, cells_in, body_in, Holds, IsThere, IsLeftRightly, AreLeftRightly, AreLeftAll}
-use Rattle.fr_store.specs.Beneath.{from_last, number_if, slot_if, slotted_numbers, slotted, is_map_body, is_map_found}
-use Rattle.fr_store.specs.HoldLaws.{holds_at, may_have_all}
-use Rattle.fr_store.specs.LeaveLaws.{kid_at_append}
-use Rattle.fr_store.specs.LeftLaws.{left_at}
-use Rattle.fr_store.specs.Places.{Pairs, IsHere, IsPlaced, slot_here, slot_at as slot_of_place}
-use Rattle.fr_store.specs.Prunes.{kids_below, cells_found}
-use Rattle.fr_store.specs.TopLaws.{cells_count}
-use Rattle.fr_store.specs.Walks.{ComesBefore}
-use Rattle.fr_store.specs.Ways.{count_kids, kid_nth, kid_below, kid_at, AllMarked, AllMarkedIn, node_along, owner_along}
-use Rattle.fr_store.specs.WayLaws.{tree_of_at, marked_nth}
+use Rattle.fr_model.specs.Paths.{step_below}
+use Rattle.fr_frame.specs.Cells.{slot_at}
+use Rattle.fr_frame.specs.Kids.{is_stored}
+use Rattle.fr_store.specs.Beneath.{number_if, slot_if, slotted_numbers, is_map_body}
+use Rattle.fr_store.specs.Places.{slot_at as slot_of_place}
+use Rattle.fr_store.specs.Prunes.{kids_below}
 use Rattle.fr_store.proofs.ChildOrder.{HasOwnStep, from_last_within, from_last_onto, listed_order}
 use Rattle.fr_store.proofs.PairLaws.{first_in, in_map, pairs_append, pairs_map}
 use Rattle.fr_store.proofs.PathOrder.{first_last}
@@ -40,14 +23,12 @@ slot_of_kid zero (kid k ks) = refl
 slot_of_kid (suc c) (kid k ks) = slot_of_kid c ks
 
 here_is : (x : Kid) (slot : ℕ) → slot_of_cell (cell_of x) ≡ Some slot → IsHere x
-here_is gone slot e = cc
-here_is (there v) slot e = cc
 here_is (at n stored plot) slot e = tt
+here_is _ slot e = cc
 
 here_told : (x : Kid) → IsHere x → slot_of_cell (cell_of x) ≡ Some (slot_here x)
-here_told gone here = absurd here
-here_told (there v) here = absurd here
 here_told (at n stored plot) here = refl
+here_told _ here = absurd here
 
 slot_same : (x : Kid) → slot_here x ≡ slot_if (slot_of_cell (cell_of x))
 slot_same gone = refl
@@ -93,30 +74,26 @@ module _ (of_map : Bool) (ks : Kids) where
             j = i;
             early = omega arith;
             is = refl;
-          })
-          (All-nil (IsAmong of_map ks (suc i)))
+          }) (All-nil (IsAmong of_map ks (suc i)))
 
   all_among : (i : ℕ) → i ≤ length (cells_in ks) → All (IsAmong of_map ks i) (numbers i)
   all_among zero h = All-nil (IsAmong of_map ks zero)
   all_among (suc i) h =
       All-append (IsAmong of_map ks (suc i)) (numbers i) (number_if (slot_at (cells_in ks) (next i)) (next i))
-      (All-weaker (IsAmong of_map ks i) (IsAmong of_map ks (suc i))
-      (λ c is.
+      (All-weaker (IsAmong of_map ks i) (IsAmong of_map ks (suc i)) (λ c is.
       record {
         within = is.within;
         here = is.here;
         j = is.j;
         early = omega (arith, is.early);
         is = is.is;
-      }) (numbers i) (all_among i (omega arith)))
-      (one_among i (omega arith))
+      }) (numbers i) (all_among i (omega arith))) (one_among i (omega arith))
 
   in_order : (i : ℕ) → i ≤ length (cells_in ks) → Pairs (AreListed of_map (length (cells_in ks))) (numbers i)
   in_order zero h = tt
   in_order (suc i) h =
       pairs_append (AreListed of_map (length (cells_in ks))) (numbers i)
-      (number_if (slot_at (cells_in ks) (next i)) (next i)) (in_order i (omega arith))
-      (one (slot_at (cells_in ks) (next i)))
+      (number_if (slot_at (cells_in ks) (next i)) (next i)) (in_order i (omega arith)) (one (slot_at (cells_in ks) (next i)))
       (All-weaker (IsAmong of_map ks i)
       (λ c. All (AreListed of_map (length (cells_in ks)) c) (number_if (slot_at (cells_in ks) (next i)) (next i)))
       (λ c is. before c is (slot_at (cells_in ks) (next i))) (numbers i) (all_among i (omega arith)))
@@ -130,14 +107,7 @@ module _ (of_map : Bool) (ks : Kids) where
       before c is None = All-nil (AreListed of_map (length (cells_in ks)) c)
       before c is (Some slot) =
           All-cons (AreListed of_map (length (cells_in ks)) c) (next i) []
-          (record {
-            j = is.j;
-            i = i;
-            later = is.early;
-            within = omega (arith, h);
-            first = is.is;
-            second = refl;
-          })
+          (record { j = is.j; i = i; later = is.early; within = omega (arith, h); first = is.is; second = refl })
           (All-nil (AreListed of_map (length (cells_in ks)) c))
 
   listed_by : (i j : ℕ) → j < i → IsHere (kid_nth (next j) ks) → Contains (numbers i) (next j)
@@ -151,14 +121,12 @@ module _ (of_map : Bool) (ks : Kids) where
       same : i ≡ j → Contains (number_if (slot_at (cells_in ks) (next i)) (next i)) (next j)
       same e =
           subst (λ (m : ℕ). Contains (number_if (slot_at (cells_in ks) (next i)) (next i)) (next m)) e
-          (last (slot_at (cells_in ks) (next i))
-          (slot_of_kid (next i) ks
+          (last (slot_at (cells_in ks) (next i)) (slot_of_kid (next i) ks
           ∙ here_told (kid_nth (next i) ks) (subst (λ (m : ℕ). IsHere (kid_nth (next m) ks)) (sym e) here)))
 
       go : (b : Bool) → ltb j i ≡ b → (j < i → Contains (numbers i) (next j)) → Contains (numbers (suc i)) (next j)
       go true e rest =
-          Contains-append_left (numbers i) (number_if (slot_at (cells_in ks) (next i)) (next i)) (next j)
-          (rest (ltb-true j i e))
+          Contains-append_left (numbers i) (number_if (slot_at (cells_in ks) (next i)) (next i)) (next j) (rest (ltb-true j i e))
       go false e rest =
           Contains-append_right (numbers i) (number_if (slot_at (cells_in ks) (next i)) (next i)) (next j)
           (same (omega (arith, ltb-false j i e)))
@@ -175,41 +143,38 @@ not_both : (x : Kid) → is_stored x ≡ true → is_stored x ≡ false → ⊥
 not_both x e f = let no : true ≡ false = sym e ∙ f in cc
 
 there_unstored : (x : Kid) → IsThere x → is_stored x ≡ false
-there_unstored gone there_now = absurd there_now
 there_unstored (there v) there_now = refl
-there_unstored (at slot stored plot) there_now = absurd there_now
+there_unstored _ there_now = absurd there_now
 
-own_step : (form : Form) (c : ℕ) (x : Kid) → is_stored x ≡ true → IsLeftRightly form c x → HasOwnStep form c
-own_step as_set c x stored left = not_both x stored left
-own_step (as_map base) c x stored left = go (ltb (entry_of c) base) refl
+own_step : (tracker : Tracker) (c : ℕ) (x : Kid) → is_stored x ≡ true → IsLeftRightly tracker c x → HasOwnStep tracker c
+own_step (as_items ItemsKind.Set) c x stored left = not_both x stored left
+own_step (as_entries (EntriesKind.Map base)) c x stored left = go (ltb (entry_of c) base) refl
   where
     go : (b : Bool) → ltb (entry_of c) base ≡ b → base ≤ entry_of c
     go true e = absurd (not_both x stored (there_unstored x (left (ltb-true (entry_of c) base e))))
     go false e = ltb-false (entry_of c) base e
-own_step (as_dyn_object keys) c x stored left = not_both x stored left
+own_step (as_entries (EntriesKind.Object keys)) c x stored left = not_both x stored left
 own_step _ c x stored left = tt
 
-left_nth : (form : Form) (first c m : ℕ) (ks : Kids) → m ≡ first + c → c < count_kids ks → AreLeftAll form first ks
-    → IsLeftRightly form m (kid_nth c ks) × AreLeftRightly (kid_nth c ks)
-left_nth form first c m no_kids e h left = absurd (omega arith)
-left_nth form first zero m (kid k ks) e h left =
-    let same : first ≡ m = omega arith in (subst (λ (n : ℕ). IsLeftRightly form n k) same left.0, left.1)
-left_nth form first (suc c) m (kid k ks) e h left = left_nth form (suc first) c m ks (omega arith) (omega arith) left.2
+left_nth : (tracker : Tracker) (first c m : ℕ) (ks : Kids) → m ≡ first + c → c < count_kids ks → AreLeftAll tracker first ks
+    → IsLeftRightly tracker m (kid_nth c ks) × AreLeftRightly (kid_nth c ks)
+left_nth tracker first c m no_kids e h left = absurd (omega arith)
+left_nth tracker first zero m (kid k ks) e h left =
+    let same : first ≡ m = omega arith in (subst (λ (n : ℕ). IsLeftRightly tracker n k) same left.0, left.1)
+left_nth tracker first (suc c) m (kid k ks) e h left = left_nth tracker (suc first) c m ks (omega arith) (omega arith) left.2
 
 -- What lies beneath is stored.
 
 abbrev pub BeneathIsStored : Kid → Type 0
-BeneathIsStored gone = Unit {0}
-BeneathIsStored (there v) = Unit {0}
 BeneathIsStored (at slot stored plot) = AllMarkedIn true plot
+BeneathIsStored _ = Unit {0}
 
 beneath_any : (x : Kid) → AllMarked true x → BeneathIsStored x
-beneath_any gone all = tt
-beneath_any (there v) all = tt
 beneath_any (at slot stored plot) all = all.1
+beneath_any _ all = tt
 
 beneath_child : (i : ℕ) (k : Kid) → BeneathIsStored k → AllMarked true (kid_below i k)
-beneath_child i (at slot stored (begun_plot form kids)) all = marked_nth true i kids all
+beneath_child i (at slot stored (begun_plot tracker kids)) all = marked_nth true i kids all
 beneath_child i _ all = tt
 
 pub beneath_at : (place : Place) (k : Kid) → BeneathIsStored k → BeneathIsStored (kid_at place k)
@@ -217,36 +182,33 @@ beneath_at [] k all = all
 beneath_at (i ∷ place) k all = beneath_at place (kid_below i k) (beneath_any (kid_below i k) (beneath_child i k all))
 
 marked_here : (x : Kid) → IsHere x → AllMarked true x → is_stored x ≡ true
-marked_here gone here all = absurd here
-marked_here (there v) here all = absurd here
 marked_here (at slot stored plot) here all = all.0
+marked_here _ here all = absurd here
 
 -- One place and its children.
 
 abbrev pub is_map_kid : Kid → Bool
-is_map_kid gone = false
-is_map_kid (there v) = false
 is_map_kid (at slot stored plot) = is_map_body (body_in plot)
+is_map_kid _ = false
 
 -- what is found in its slot
 found_of : (plan : Plan) (heap : Heap) (node : NodeId) (owner : FrameOwner) (depth : ℕ) (x : Kid)
     → Holds plan heap node owner depth x → IsHere x
     → (cells_found (heap (slot_here x)) ≡ cells_in (kids_below x)) × (is_map_found (heap (slot_here x)) ≡ is_map_kid x)
-found_of plan heap node owner depth gone holds here = absurd here
-found_of plan heap node owner depth (there v) holds here = absurd here
 found_of plan heap node owner depth (at slot stored plot) holds here =
     (ap cells_found holds.0 ∙ plot_cells plot, ap is_map_found holds.0)
+found_of plan heap node owner depth _ holds here = absurd here
 
 child_reached : (c : ℕ) (x : Kid) → c < count_kids (kids_below x) → IsHere (kid_nth c (kids_below x)) → IsPlaced x (c ∷ [])
-child_reached c (at slot stored (begun_plot form kids)) h here = record { reaches = (h, tt); here = here }
+child_reached c (at slot stored (begun_plot tracker kids)) h here = record { reaches = (h, tt); here = here }
 child_reached c _ h here = absurd (omega arith)
 
 reached_child : (c : ℕ) (x : Kid) → IsPlaced x (c ∷ []) → (c < count_kids (kids_below x)) × IsHere (kid_nth c (kids_below x))
-reached_child c (at slot stored (begun_plot form kids)) placed = (placed.reaches.0, placed.here)
+reached_child c (at slot stored (begun_plot tracker kids)) placed = (placed.reaches.0, placed.here)
 reached_child c _ placed = absurd placed.reaches
 
 kid_of_number : (c : ℕ) (x : Kid) → kid_at (c ∷ []) x ≡ kid_nth c (kids_below x)
-kid_of_number c (at slot stored (begun_plot form kids)) = refl
+kid_of_number c (at slot stored (begun_plot tracker kids)) = refl
 kid_of_number c _ = refl
 
 -- their steps
@@ -254,16 +216,16 @@ steps_differ : (plan : Plan) (heap : Heap) (node : NodeId) (owner : FrameOwner) 
     → Holds plan heap node owner depth x → AreLeftRightly x → BeneathIsStored x → d < count_kids (kids_below x)
     → IsHere (kid_nth d (kids_below x)) → AreListed (is_map_kid x) (length (cells_in (kids_below x))) c d
     → step_order (step_below d (tree_of x)) (step_below c (tree_of x)) ≡ Less
-steps_differ plan heap node owner depth (at slot stored (begun_plot form kids)) c d holds left all h here listed =
-    let may : MayHave form (length (cells_in kids))
-    = subst (MayHave form) (sym (cells_count kids)) (may_have_all plan heap node slot form (suc depth) kids holds.2) in
-    let own : HasOwnStep form d
-    = own_step form d (kid_nth d kids) (marked_here (kid_nth d kids) here (marked_nth true d kids all))
-    (left_nth form 0 d d kids (omega arith) h left).0 in
-    ap (λ (m : ℕ). step_order (step_as form m) (step_as form c)) listed.second
-    ∙ ap (λ (m : ℕ). step_order (step_as form (from_last (is_map_form form) (length (cells_in kids)) listed.i)) (step_as form m)) listed.first
-    ∙ listed_order form (length (cells_in kids)) listed.j listed.i listed.later listed.within may
-    (subst (HasOwnStep form) listed.second own)
+steps_differ plan heap node owner depth (at slot stored (begun_plot tracker kids)) c d holds left all h here listed =
+    let may : MayHave tracker (length (cells_in kids))
+    = subst (MayHave tracker) (sym (cells_count kids)) (may_have_all plan heap node slot tracker (suc depth) kids holds.2) in
+    let own : HasOwnStep tracker d
+    = own_step tracker d (kid_nth d kids) (marked_here (kid_nth d kids) here (marked_nth true d kids all))
+    (left_nth tracker 0 d d kids (omega arith) h left).0 in
+    ap (λ (m : ℕ). step_order (step_as tracker m) (step_as tracker c)) listed.second
+    ∙ ap (λ (m : ℕ). step_order (step_as tracker (from_last (is_map_tracker tracker) (length (cells_in kids)) listed.i)) (step_as tracker m)) listed.first
+    ∙ listed_order tracker (length (cells_in kids)) listed.j listed.i listed.later listed.within may
+    (subst (HasOwnStep tracker) listed.second own)
 steps_differ plan heap node owner depth _ c d holds left all h here listed = absurd (omega arith)
 
 pub steps_of_child : (place : Place) (i : ℕ) (t : Tree) → steps_in (place ++ i ∷ []) t ≡ steps_in place t ++ step_below i (tree_at place t) ∷ []
@@ -345,8 +307,7 @@ module _ (plan : Plan) (heap : Heap) (node : NodeId) (owner : FrameOwner) (depth
       ≡ slotted (is_map_found (heap (slot_of_place k p))) (cells_found (heap (slot_of_place k p)))
       (length (cells_found (heap (slot_of_place k p))))
   slots_here =
-      go nums
-      ∙ sym (ap (λ (cs : List Cell). slotted (is_map_kid x) cs (length cs)) found.0)
+      go nums ∙ sym (ap (λ (cs : List Cell). slotted (is_map_kid x) cs (length cs)) found.0)
       ∙ sym (ap (λ (b : Bool). slotted b (cells_found (heap (slot_of_place k p))) (length (cells_found (heap (slot_of_place k p))))) found.1)
     where
       found : (cells_found (heap (slot_of_place k p)) ≡ cells_in (kids_below (kid_at p k)))

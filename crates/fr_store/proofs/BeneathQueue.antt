@@ -1,19 +1,11 @@
 -- The queue of the places that lie beneath one: each place is followed by its children.
 use Rattle.std.proofs.Common.{◌≡◌, ◌≢◌, ◌⊎◌, ℕ, ◌+◌, ◌-◌, ◌<◌, ◌≤◌, true, false, List, [], ◌∷◌, ◌++◌, length, length-append, get_or, map, reverse, take, append_assoc, inl, inr, refl, sym, ◌∙◌, ap, subst, arith}
-use Rattle.std.specs.List.{All, Contains}
+use Rattle.fr_store.specs.Common.{All, AllMarked, AreInWalkOrder, AreOnce, AreStoredAt, Contains, IsHere, IsPlaced, IsStoredAt, IsWalk, Kid, Pairs, PathStep, Place, Plot, at, begun_plot, gone, kid_at, kid_below, marked_nth, slot_at, slot_here, steps_in, stored_here, there, tree_at, tree_of, uses, walk_order}
 use Rattle.std.proofs.Math.Seq.{take-append_seam}
 use Rattle.std.proofs.lemmas.List.{append-nil, length-map, map-append, reverse-append}
 use Rattle.std.proofs.lemmas.List.Elements.{All-nil, All-cons, All-head, All-tail, All-append, All-contains, Contains-append_left, Contains-append_right, Contains-push, Contains-push_cases}
-use Rattle.fr_path.specs.declared.path_steps.PathStep.{PathStep}
-use Rattle.fr_path.specs.Order.{walk_order}
-use Rattle.fr_model.specs.Paths.{step_below, steps_in}
-use Rattle.fr_model.specs.Places.{Place}
-use Rattle.fr_model.specs.Tree.{tree_at}
-use Rattle.fr_frame.specs.Kids.{Kid, gone, there, at, Plot, begun_plot, tree_of}
-use Rattle.fr_store.specs.Places.{Pairs, AreOnce, IsHere, IsPlaced, slot_at, slot_here, stored_here}
-use Rattle.fr_store.specs.Walks.{IsStoredAt, AreStoredAt, AreInWalkOrder, IsWalk}
-use Rattle.fr_store.specs.Ways.{kid_at, kid_below, uses, AllMarked}
-use Rattle.fr_store.specs.WayLaws.{marked_at, marked_nth}
+use Rattle.fr_model.specs.Paths.{step_below}
+use Rattle.fr_store.specs.WayLaws.{marked_at}
 use Rattle.fr_store.proofs.BeneathChildren.{AreChildrenHere, ComesAfter, BeneathIsStored, steps_of_child}
 use Rattle.fr_store.proofs.HeadLaws.{before_itself}
 use Rattle.fr_store.proofs.PairLaws.{all_reverse, all_right, first_in, in_cases, in_reverse, map_reverse, of_map, pairs_append, pairs_cross, pairs_reverse, parts}
@@ -71,8 +63,7 @@ module _ (k : Kid) (done rest : List Place) (p : Place) (s : IsListing k done (p
   listed = done ++ p ∷ rest
 
   before_p : All (λ q. ComesAfter k q p) done
-  before_p i d h =
-      All-head (ComesAfter k (get_or done i d)) p rest (pairs_cross (ComesAfter k) done (p ∷ rest) s.order i d h)
+  before_p i d h = All-head (ComesAfter k (get_or done i d)) p rest (pairs_cross (ComesAfter k) done (p ∷ rest) s.order i d h)
 
   before_added : (q : Place) → IsFrom done q → All (ComesAfter k q) added
   before_added q (inl e) i d h =
@@ -81,8 +72,7 @@ module _ (k : Kid) (done rest : List Place) (p : Place) (s : IsListing k done (p
       (subst (λ (l : Place). ComesAfter k l (p ++ child.0 ∷ [])) (sym e) (child_before k p child.0))
   before_added q (inr from) i d h =
       let child = are.each i d h in
-      subst (ComesAfter k q) (sym child.1)
-      (subst (λ (l : Place). ComesAfter k l (p ++ child.0 ∷ [])) (sym from.3)
+      subst (ComesAfter k q) (sym child.1) (subst (λ (l : Place). ComesAfter k l (p ++ child.0 ∷ [])) (sym from.3)
       (children_after k from.0 p from.1 child.0 (All-contains (λ q. ComesAfter k q p) done from.0 before_p from.2)))
 
   children_more : (place : Place) (i : ℕ) → Contains (done ++ p ∷ []) place → IsPlaced k (place ++ i ∷ [])
@@ -92,8 +82,7 @@ module _ (k : Kid) (done rest : List Place) (p : Place) (s : IsListing k done (p
       go : Contains done place ⊎ (p ≡ place) → Contains (listed ++ added) (place ++ i ∷ [])
       go (inl old) = Contains-append_left listed added (place ++ i ∷ []) (s.children place i old placed)
       go (inr e) =
-          Contains-append_right listed added (place ++ i ∷ [])
-          (subst (λ (q : Place). Contains added (q ++ i ∷ [])) e
+          Contains-append_right listed added (place ++ i ∷ []) (subst (λ (q : Place). Contains added (q ++ i ∷ [])) e
           (are.all i (subst (λ (q : Place). IsPlaced k (q ++ i ∷ [])) (sym e) placed)))
 
   from_still : (q : Place) → IsFrom done q → IsFrom (done ++ p ∷ []) q
@@ -109,8 +98,7 @@ module _ (k : Kid) (done rest : List Place) (p : Place) (s : IsListing k done (p
   lists_on = record {
     placed = subst (All (IsPlaced k)) (sym (parts done rest p added)) (All-append (IsPlaced k) listed added s.placed are.placed);
     order =
-        subst (Pairs (ComesAfter k)) (sym (parts done rest p added))
-        (pairs_append (ComesAfter k) listed added s.order are.order
+        subst (Pairs (ComesAfter k)) (sym (parts done rest p added)) (pairs_append (ComesAfter k) listed added s.order are.order
         (λ i d h. before_added (get_or listed i d) (s.origin i d h)));
     rest = s.rest ++ added;
     root = parts done rest p added ∙ ap (λ (l : List Place). l ++ added) s.root;
@@ -126,11 +114,9 @@ reached k done s front [] found placed = subst (Contains done) (sym (append-nil 
 reached k done s front (i ∷ back) found placed =
     let longer : (front ++ i ∷ []) ++ back ≡ front ++ i ∷ back = append_assoc front (i ∷ []) back in
     let placed_on : IsPlaced k ((front ++ i ∷ []) ++ back) = subst (IsPlaced k) (sym longer) placed in
-    subst (Contains done) longer
-    (reached k done s (front ++ i ∷ []) back
+    subst (Contains done) longer (reached k done s (front ++ i ∷ []) back
     (subst (λ (l : List Place). Contains l (front ++ i ∷ [])) (append-nil done)
-    (s.children front i found (placed_above (front ++ i ∷ []) back k placed_on)))
-    placed_on)
+    (s.children front i found (placed_above (front ++ i ∷ []) back k placed_on))) placed_on)
 
 -- The queue of their slots.
 pub record IsQueueBeneath (k : Kid) (queue : List ℕ) (head : ℕ) : Type 0 where
@@ -189,8 +175,7 @@ module _ (k : Kid) (queue : List ℕ) (head : ℕ) (q : IsQueueBeneath k queue h
         waits = e;
         placed = first_placed k q.done rest p (subst (IsListing k q.done) e q.listing);
         slot =
-            sym
-            (ap (λ (l : List ℕ). get_or l head d)
+            sym (ap (λ (l : List ℕ). get_or l head d)
             (q.queue_is ∙ ap (λ (l : List Place). map (slot_at k) (q.done ++ l)) e ∙ map-append (slot_at k) q.done (p ∷ rest))
             ∙ behind (map (slot_at k) q.done) (slot_at k p) (map (slot_at k) rest) head d
             (q.head_is ∙ sym (length-map q.done (slot_at k))));
@@ -243,12 +228,11 @@ module _ (k : Kid) (queue : List ℕ) (head : ℕ) (q : IsQueueBeneath k queue h
     order_all = subst (Pairs (ComesAfter k)) q.listing.root q.listing.order
 
     stored_below : (x : Kid) → IsHere x → AllMarked true x → stored_here x ≡ true
-    stored_below gone here all = absurd here
-    stored_below (there v) here all = absurd here
     stored_below (at slot stored plot) here all = all.0
+    stored_below _ here all = absurd here
 
     marked_child : (i : ℕ) (x : Kid) → BeneathIsStored x → AllMarked true (kid_below i x)
-    marked_child i (at slot stored (begun_plot form kids)) all = marked_nth true i kids all
+    marked_child i (at slot stored (begun_plot tracker kids)) all = marked_nth true i kids all
     marked_child i _ all = tt
 
     -- one that isn't the first is stored
@@ -258,13 +242,11 @@ module _ (k : Kid) (queue : List ℕ) (head : ℕ) (q : IsQueueBeneath k queue h
         stored_below (kid_at (i ∷ p) k) placed.here (marked_at true p (kid_below i k) (marked_child i k beneath))
 
     not_first : All (λ p. p ≢ []) others
-    not_first i d h e =
-        before_itself (tree_of k) [] (subst (ComesAfter k []) e (order_all.0 i d h))
+    not_first i d h e = before_itself (tree_of k) [] (subst (ComesAfter k []) e (order_all.0 i d h))
 
     plot_there : (x : Kid) → IsHere x → stored_here x ≡ true → (plot : Plot) × (x ≡ at (slot_here x) true plot)
-    plot_there gone here is = absurd here
-    plot_there (there v) here is = absurd here
     plot_there (at slot stored plot) here is = (plot, ap (λ mark. at slot mark plot) is)
+    plot_there _ here is = absurd here
 
     stored_list : (places : List Place) → All (IsPlaced k) places → All (λ p. p ≢ []) places
         → AreStoredAt k (map (slot_at k) places) places
@@ -283,17 +265,14 @@ module _ (k : Kid) (queue : List ℕ) (head : ℕ) (q : IsQueueBeneath k queue h
     among_others : (slot : ℕ) (place : Place) → IsStoredAt k slot place → Contains others place
     unfolding others
     among_others slot place stored =
-        go
-        (in_cases [] place q.listing.rest
-        (subst (λ (l : List Place). Contains l place) all_places
+        go (in_cases [] place q.listing.rest (subst (λ (l : List Place). Contains l place) all_places
         (reached k q.done listing_done [] place
         (subst (λ (l : List Place). Contains l []) (sym all_places) (first_in [] q.listing.rest))
         (record { reaches = stored.reaches; here = subst IsHere (sym stored.is) tt }))))
       where
         go : ([] ≡ place) ⊎ Contains q.listing.rest place → Contains q.listing.rest place
         go (inl e) =
-            let no : false ≡ true
-            = sym unstored ∙ ap (λ (p : Place). stored_here (kid_at p k)) e ∙ ap stored_here stored.is in
+            let no : false ≡ true = sym unstored ∙ ap (λ (p : Place). stored_here (kid_at p k)) e ∙ ap stored_here stored.is in
             absurd (cc)
         go (inr found) = found
 
@@ -304,8 +283,7 @@ module _ (k : Kid) (queue : List ℕ) (head : ℕ) (q : IsQueueBeneath k queue h
       places = reverse others;
       stored =
           subst (λ (l : List ℕ). AreStoredAt k l (reverse others)) (map_reverse (slot_at k) others ∙ sym walk_is)
-          (stored_list (reverse others)
-          (all_reverse (IsPlaced k) others (All-tail (IsPlaced k) [] others placed_all))
+          (stored_list (reverse others) (all_reverse (IsPlaced k) others (All-tail (IsPlaced k) [] others placed_all))
           (all_reverse (λ p. p ≢ []) others not_first));
       order = in_walk (reverse others) (pairs_reverse (ComesAfter k) others order_all.1);
       all = λ slot place stored. in_reverse others place (among_others slot place stored);
@@ -319,11 +297,8 @@ module _ (k : Kid) (queue : List ℕ) (head : ℕ) (q : IsQueueBeneath k queue h
             ap (λ (n : ℕ). take n (xs ++ z ∷ [])) (omega (arith, length-append xs (z ∷ []))) ∙ take-append_seam xs (z ∷ [])
 
         back : reverse queue ≡ reverse (map (slot_at k) q.listing.rest) ++ slot_here k ∷ []
-        back =
-            ap (λ (l : List ℕ). reverse l) queue_now
-            ∙ reverse-append (slot_here k ∷ []) (map (slot_at k) q.listing.rest)
+        back = ap (λ (l : List ℕ). reverse l) queue_now ∙ reverse-append (slot_here k ∷ []) (map (slot_at k) q.listing.rest)
 
         walk_is : walk ≡ reverse (map (slot_at k) q.listing.rest)
         walk_is =
-            is ∙ ap (λ (l : List ℕ). take (length l - 1) l) back
-            ∙ front (reverse (map (slot_at k) q.listing.rest)) (slot_here k)
+            is ∙ ap (λ (l : List ℕ). take (length l - 1) l) back ∙ front (reverse (map (slot_at k) q.listing.rest)) (slot_here k)

@@ -1,44 +1,16 @@
 -- The turns of the places that lie beneath the one at which a builder works, one after another.
 use Rattle.std.proofs.Common.{◌≡◌, ◌≢◌, ◌↔◌, ℕ, zero, suc, ◌≤◌, Bool, true, false, List, [], ◌∷◌, ◌++◌, append-nil, Option, Some, None, refl, sym, ◌∙◌, ap, ap₂, subst, arith}
-use Rattle.std.specs.Prelude.{is_some}
-use Rattle.std.specs.List.{Contains}
-use Rattle.fr_shape.specs.declared.error.ReflectErrorKind.{ReflectErrorKind}
-use Rattle.fr_shape.specs.Checked.{IsChecked}
-use Rattle.fr_shape.specs.Hooks.{Meanings}
-use Rattle.fr_shape.specs.Look.{Table}
-use Rattle.fr_path.specs.declared.path_steps.PathStep.{PathStep}
-use Rattle.fr_model.specs.Failing.{Failure, failures, first_by_walk, own_lack}
-use Rattle.fr_model.specs.FailingLaws.{EachFailureHasItsPlace, FirstByWalkIs, LackingFails}
-use Rattle.fr_model.specs.FinishLaws.{closed_at, Closes, ClosingKeepsFinish}
+use Rattle.fr_store.specs.Common.{AllMarked, AreStoredAt, AtCursor, Contains, EachFailureHasItsPlace, Failure, FirstByWalkIs, FrameOwner, HasPlace, HasTurned, IsChecked, IsClosed, IsHeldUpHere, IsHere, IsKept, IsLackingAt, IsLast, IsOpen, IsPlaced, IsStoredAt, IsWalk, KeepsTheRest, Kid, Kids, LackingFails, Leads, MayTurn, Meanings, Node, NoneStored, PathStep, Place, Plan, Plot, Reaches, ReflectErrorKind, Slot, StayPutButBeneath, Suits, Table, Top, Tree, at, begun_plot, body_in, closed_at, cursor_in, deferred_column, first_by_walk, gone, heap_of, is_some, kid, kid_at, kid_at_append, kid_here, kid_nth, kid_on_top, leads_at, marked, no_kids, off_stored, open_reach, open_top, own_lack, put_append, put_at, put_nth, reach_place, root_shape, shape_in, slot_at, slot_here, so_top, steps_in, stored_here, stored_in, strict, there, tree_at, tree_here, tree_in_slots, tree_of, tree_of_at, tree_put_at, uses, uses_at, whole}
+use Rattle.fr_store.specs.MoveLaws.{top_node}
+use Rattle.fr_model.specs.Failing.{failures}
+use Rattle.fr_model.specs.FinishLaws.{Closes, ClosingKeepsFinish}
 use Rattle.fr_model.specs.Laws.{CompletesOrFails, CompletingFits}
-use Rattle.fr_model.specs.Paths.{steps_in}
-use Rattle.fr_model.specs.Places.{Place, deferred_column}
-use Rattle.fr_model.specs.Relation.{HasPlace}
-use Rattle.fr_model.specs.Tree.{strict, Tree, whole, shape_in, tree_at}
-use Rattle.fr_model.specs.Well.{AtCursor, Suits}
-use Rattle.fr_plan.specs.TypePlan.{Plan}
-use Rattle.fr_frame.specs.declared.places.FrameOwner.{FrameOwner}
-use Rattle.fr_frame.specs.declared.places.Slot.{Slot}
-use Rattle.fr_frame.specs.Bodies.{IsClosed}
-use Rattle.fr_frame.specs.Heap.{Node, heap_of, marked, stored_in}
-use Rattle.fr_frame.specs.Kids.{Kid, gone, there, at, Plot, begun_plot, Kids, no_kids, kid, tree_of, body_in}
-use Rattle.fr_store.specs.Beneath.{IsCompleteBeneath, IsHeldUpHere, completed_beneath, kid_on_top, shape_here}
+use Rattle.fr_store.specs.Beneath.{IsCompleteBeneath, completed_beneath, shape_here}
 use Rattle.fr_store.specs.ClosingLaws.{closes_with, shape_append, suits_at, suits_change, tree_append}
-use Rattle.fr_store.specs.LeaveLaws.{kid_at_append, put_append}
-use Rattle.fr_store.specs.MoveLaws.{open_reach, open_top, so_top, top_node}
-use Rattle.fr_store.specs.Moves.{cursor_in, tree_here, tree_in_slots}
-use Rattle.fr_store.specs.Numbers.{IsLast}
-use Rattle.fr_store.specs.OffLaws.{off_stored, reach_place, stored_beside, stored_still}
-use Rattle.fr_store.specs.Places.{IsHere, IsPlaced, slot_at, slot_here, stored_here}
-use Rattle.fr_store.specs.Stands.{IsOpen, kid_here}
-use Rattle.fr_store.specs.Staying.{StayPutButBeneath}
-use Rattle.fr_store.specs.Stored.{IsKept}
-use Rattle.fr_store.specs.TopLaws.{Top, closed_by_marks}
-use Rattle.fr_store.specs.Turning.{HasTurned, IsLackingAt, KeepsTheRest, MayTurn}
-use Rattle.fr_store.specs.Turns.{CompletesAsBefore, root_shape}
-use Rattle.fr_store.specs.Walks.{AreStoredAt, IsStoredAt, IsWalk}
-use Rattle.fr_store.specs.Ways.{kid_at, kid_nth, put_at, put_nth, uses, AllMarked, Leads, NoneStored, Reaches}
-use Rattle.fr_store.specs.WayLaws.{kid_put_at, leads_at, put_at_twice, tree_of_at, tree_put_at, uses_at}
+use Rattle.fr_store.specs.OffLaws.{stored_beside, stored_still}
+use Rattle.fr_store.specs.TopLaws.{closed_by_marks}
+use Rattle.fr_store.specs.Turns.{CompletesAsBefore}
+use Rattle.fr_store.specs.WayLaws.{kid_put_at, put_at_twice}
 use Rattle.fr_store.proofs.BeneathMeant.{nothing_left, same_within}
 use Rattle.fr_store.proofs.FailLaws.{cause_is, fails_beneath, none_made}
 use Rattle.fr_store.proofs.HeadLaws.{Head, head_closed, head_of, one_place, walk_on}
@@ -56,9 +28,9 @@ put_nth_same (suc i) (kid k ks) = ap (λ (xs : Kids). kid k xs) (put_nth_same i 
 
 put_same : (place : Place) (k : Kid) → Reaches place k → put_at place (kid_at place k) k ≡ k
 put_same [] k reach = refl
-put_same (i ∷ place) (at slot stored (begun_plot form kids)) reach =
-    ap (λ (x : Kid). at slot stored (begun_plot form (put_nth i x kids))) (put_same place (kid_nth i kids) reach.1)
-    ∙ ap (λ (ks : Kids). at slot stored (begun_plot form ks)) (put_nth_same i kids)
+put_same (i ∷ place) (at slot stored (begun_plot tracker kids)) reach =
+    ap (λ (x : Kid). at slot stored (begun_plot tracker (put_nth i x kids))) (put_same place (kid_nth i kids) reach.1)
+    ∙ ap (λ (ks : Kids). at slot stored (begun_plot tracker ks)) (put_nth_same i kids)
 put_same (i ∷ place) _ reach = absurd reach
 
 -- The place on top of an open builder, and what lies beneath it.
@@ -72,15 +44,11 @@ module _ (plan : Plan) (slots : List Slot) (stack : List ℕ) (open_now : IsOpen
   once_on_top n = omega (arith, uses_at (cursor_in slots stack) (kid_here slots stack) n, open_now.stands.once n)
 
   top_here : (x : Kid) → Leads [] x → IsHere x
-  top_here gone leads = absurd leads
-  top_here (there v) leads = absurd leads
   top_here (at slot stored plot) leads = tt
+  top_here _ leads = absurd leads
 
   pub placed_on_top : IsPlaced (kid_here slots stack) (cursor_in slots stack)
-  placed_on_top = record {
-    reaches = open_reach plan slots stack open_now;
-    here = top_here (kid_on_top slots stack) leads_on_top;
-  }
+  placed_on_top = record { reaches = open_reach plan slots stack open_now; here = top_here (kid_on_top slots stack) leads_on_top }
 
   -- a stored place beneath it
   pub stored_beneath : (n : ℕ) (rel : Place) → IsStoredAt (kid_on_top slots stack) n rel
@@ -153,13 +121,7 @@ module _ (means : Meanings) (table : Table) (plan : Plan) (before : List Slot) (
 
     -- it may have its turn
     pub beneath_due : MayTurn now stack n
-    beneath_due = record {
-      place = here;
-      plot = head.stored.plot;
-      reaches = reach;
-      is = is_there;
-      closed = closed;
-    }
+    beneath_due = record { place = here; plot = head.stored.plot; reaches = reach; is = is_there; closed = closed }
 
     -- there is no other place in its slot
     only_here : (place : Place) → IsStoredAt (kid_here now stack) n place → place ≡ here
@@ -170,8 +132,7 @@ module _ (means : Meanings) (table : Table) (plan : Plan) (before : List Slot) (
     -- it is stored
     pub beneath_marked : marked (heap_of now) n ≡ true
     beneath_marked =
-        let placed : IsPlaced (kid_here now stack) here
-        = record { reaches = reach; here = subst IsHere (sym is_there) tt } in
+        let placed : IsPlaced (kid_here now stack) here = record { reaches = reach; here = subst IsHere (sym is_there) tt } in
         let slot : slot_at (kid_here now stack) here ≡ n = ap slot_here is_there in
         ap (marked (heap_of now)) (sym slot)
         ∙ mark_at plan (heap_of now) plan.root FrameOwner.Root 0 here (kid_here now stack) walked.still.stands.holds placed
@@ -193,8 +154,7 @@ module _ (means : Meanings) (table : Table) (plan : Plan) (before : List Slot) (
 
       top_next : kid_on_top next stack ≡ new
       top_next =
-          ap (λ (p : Place). kid_at p (kid_here next stack)) turned.stands.cursor
-          ∙ ap (kid_at (cursor_in now stack)) kid_next
+          ap (λ (p : Place). kid_at p (kid_here next stack)) turned.stands.cursor ∙ ap (kid_at (cursor_in now stack)) kid_next
           ∙ kid_put_at (cursor_in now stack) new (kid_here now stack) (open_reach plan now stack walked.still)
 
       left_next : IsWalk (kid_on_top next stack) rest
@@ -223,14 +183,11 @@ module _ (means : Meanings) (table : Table) (plan : Plan) (before : List Slot) (
           (suits_at table (root_shape plan) turned.place (tree_in_slots now stack) has walked.suits) turned.meant)
 
       -- the same is to come of what lies at the top
-      meant_next : ClosingKeepsFinish
-          → completed_beneath means table (shape_here table plan next stack) (tree_here next stack)
+      meant_next : ClosingKeepsFinish → completed_beneath means table (shape_here table plan next stack) (tree_here next stack)
           ≡ completed_beneath means table (shape_here table plan now stack) (tree_here now stack)
       meant_next closing =
-          ap₂
-          (λ (p : Place) (t : Tree). completed_beneath means table (shape_in table (root_shape plan) p t) (tree_at p t))
-          turned.stands.cursor
-          (turned.stands.built ∙ ap (λ (p : Place). closed_at p turned.value (tree_in_slots now stack)) same)
+          ap₂ (λ (p : Place) (t : Tree). completed_beneath means table (shape_in table (root_shape plan) p t) (tree_at p t))
+          turned.stands.cursor (turned.stands.built ∙ ap (λ (p : Place). closed_at p turned.value (tree_in_slots now stack)) same)
           ∙ same_within means table closing (root_shape plan) (cursor_in now stack) head.place turned.value
           (tree_in_slots now stack) (λ e. off_stored [] head.place x n head.stored.plot leads head.stored.is [] (sym e ∙ sym (append-nil head.place)))
           (subst (λ (p : Place). Closes means table (root_shape plan) p turned.value (tree_in_slots now stack)) same
@@ -250,10 +207,7 @@ module _ (means : Meanings) (table : Table) (plan : Plan) (before : List Slot) (
             = subst
             (λ (p : Place). CompletesAsBefore means table (root_shape plan) (tree_in_slots now stack) (tree_in_slots next stack) p)
             walked.cursor keeps.cursor in
-            record {
-              value = one.value ∙ walked.here.value;
-              failing = λ path. one.failing path ∙ walked.here.failing path;
-            };
+            record { value = one.value ∙ walked.here.value; failing = λ path. one.failing path ∙ walked.here.failing path };
         meant = meant_next closing ∙ walked.meant;
       }
 
@@ -273,38 +227,29 @@ module _ (means : Meanings) (table : Table) (plan : Plan) (before : List Slot) (
           used None is = absurd (cc)
 
           plot_of : (y : Kid) → IsHere y → stored_here y ≡ true → (plot : Plot) × (y ≡ at (slot_here y) true plot)
-          plot_of gone lies is = absurd lies
-          plot_of (there v) lies is = absurd lies
           plot_of (at slot mark plot) lies is = (plot, ap (λ (b : Bool). at slot b plot) is)
+          plot_of _ lies is = absurd lies
 
           still_marked : m ≢ n → marked (heap_of now) m ≡ true → marked (heap_of next) m ≡ true
           still_marked ne is =
               let lies = place_of (kid_here now stack) m (walked.still.all m (used (heap_of now m) is)) in
               let mark : stored_here (kid_at lies.0 (kid_here now stack)) ≡ true
               = sym (mark_at plan (heap_of now) plan.root FrameOwner.Root 0 lies.0 (kid_here now stack)
-              walked.still.stands.holds lies.1)
-              ∙ ap (marked (heap_of now)) lies.2 ∙ is in
+              walked.still.stands.holds lies.1) ∙ ap (marked (heap_of now)) lies.2 ∙ is in
               let plot = plot_of (kid_at lies.0 (kid_here now stack)) lies.1.here mark in
               let stored_m : IsStoredAt (kid_here now stack) m lies.0
-              = record {
-                plot = plot.0;
-                reaches = lies.1.reaches;
-                is = plot.1 ∙ ap (λ (s : ℕ). at s true plot.0) lies.2;
-              } in
-              let apart : lies.0 ≢ here
-              = λ e. ne (sym lies.2 ∙ ap (slot_at (kid_here now stack)) e ∙ ap slot_here is_there) in
+              = record { plot = plot.0; reaches = lies.1.reaches; is = plot.1 ∙ ap (λ (s : ℕ). at s true plot.0) lies.2 } in
+              let apart : lies.0 ≢ here = λ e. ne (sym lies.2 ∙ ap (slot_at (kid_here now stack)) e ∙ ap slot_here is_there) in
               let after : IsStoredAt (put_at here (there turned.value) (kid_here now stack)) m lies.0
               = stored_still here lies.0 (kid_here now stack) turned.value m reach
               (stored_beside here lies.0 (kid_here now stack) n m head.stored.plot is_there closed stored_m apart) stored_m in
-              let stored_next : IsStoredAt (kid_here next stack) m lies.0
-              = subst (λ (y : Kid). IsStoredAt y m lies.0)
+              let stored_next : IsStoredAt (kid_here next stack) m lies.0 = subst (λ (y : Kid). IsStoredAt y m lies.0)
               (sym (turned.here ∙ ap (λ (p : Place). put_at p (there turned.value) (kid_here now stack)) same)) after in
               let placed : IsPlaced (kid_here next stack) lies.0
               = record { reaches = stored_next.reaches; here = subst IsHere (sym stored_next.is) tt } in
               ap (marked (heap_of next)) (sym (ap slot_here stored_next.is))
               ∙ mark_at plan (heap_of next) plan.root FrameOwner.Root 0 lies.0 (kid_here next stack)
-              turned.stands.open_still.stands.holds placed
-              ∙ ap stored_here stored_next.is
+              turned.stands.open_still.stands.holds placed ∙ ap stored_here stored_next.is
 
     -- it makes no value: it is the first place that fails
     pub beneath_held_up : EachFailureHasItsPlace → LackingFails → FirstByWalkIs → CompletesOrFails → (kind : ReflectErrorKind)
@@ -313,8 +258,7 @@ module _ (means : Meanings) (table : Table) (plan : Plan) (before : List Slot) (
       incomplete =
           none_made fails means table (shape_here table plan before stack) []
           (tree_at (cursor_in before stack) (tree_in_slots before stack)) (failure_of []) (first_before []);
-      cause = λ path.
-          cause_is means table (shape_here table plan before stack) path
+      cause = λ path. cause_is means table (shape_here table plan before stack) path
           (tree_at (cursor_in before stack) (tree_in_slots before stack)) (failure_of path) (first_before path);
     }
       where
@@ -325,32 +269,23 @@ module _ (means : Meanings) (table : Table) (plan : Plan) (before : List Slot) (
         tree_on_top = tree_of_at (cursor_in now stack) (kid_here now stack)
 
         lacks_here : own_lack means table (shape_in table (root_shape plan) here (tree_in_slots now stack))
-            (tree_at here (tree_in_slots now stack))
-            ≡ Some kind
+            (tree_at here (tree_in_slots now stack)) ≡ Some kind
         lacks_here =
-            subst
-            (λ (p : Place). own_lack means table (shape_in table (root_shape plan) p (tree_in_slots now stack))
-            (tree_at p (tree_in_slots now stack)) ≡ Some kind)
-            (only_here lacks.place lacks.stored) lacks.lacks
+            subst (λ (p : Place). own_lack means table (shape_in table (root_shape plan) p (tree_in_slots now stack))
+            (tree_at p (tree_in_slots now stack)) ≡ Some kind) (only_here lacks.place lacks.stored) lacks.lacks
 
         lacks_beneath : own_lack means table
             (shape_in table (shape_here table plan now stack) head.place (tree_of (kid_on_top now stack)))
-            (tree_at head.place (tree_of (kid_on_top now stack)))
-            ≡ Some kind
+            (tree_at head.place (tree_of (kid_on_top now stack))) ≡ Some kind
         lacks_beneath =
-            ap
-            (λ (t : Tree). own_lack means table (shape_in table (shape_here table plan now stack) head.place t)
-            (tree_at head.place t))
-            tree_on_top
-            ∙ ap
+            ap (λ (t : Tree). own_lack means table (shape_in table (shape_here table plan now stack) head.place t)
+            (tree_at head.place t)) tree_on_top ∙ ap
             (λ (s : ℕ). own_lack means table s (tree_at head.place (tree_at (cursor_in now stack) (tree_in_slots now stack))))
             (sym (shape_append table (root_shape plan) (cursor_in now stack) head.place (tree_in_slots now stack)))
             ∙ ap (own_lack means table (shape_in table (root_shape plan) here (tree_in_slots now stack)))
-            (sym (tree_append (cursor_in now stack) head.place (tree_in_slots now stack)))
-            ∙ lacks_here
+            (sym (tree_append (cursor_in now stack) head.place (tree_in_slots now stack))) ∙ lacks_here
 
-        first_now : (path : List PathStep)
-            → first_by_walk
+        first_now : (path : List PathStep) → first_by_walk
             (failures means table (shape_here table plan now stack) path (tree_at (cursor_in now stack) (tree_in_slots now stack)))
             ≡ Some (failure_of path)
         first_now path =
@@ -361,19 +296,12 @@ module _ (means : Meanings) (table : Table) (plan : Plan) (before : List Slot) (
             (fails_beneath means table (shape_here table plan now stack) path (tree_of (kid_on_top now stack)) (failure_of path) off)
             ∙ off
 
-        first_before : (path : List PathStep)
-            → first_by_walk
-            (failures means table (shape_here table plan before stack) path
-            (tree_at (cursor_in before stack) (tree_in_slots before stack)))
-            ≡ Some (failure_of path)
+        first_before : (path : List PathStep) → first_by_walk (failures means table (shape_here table plan before stack) path
+            (tree_at (cursor_in before stack) (tree_in_slots before stack))) ≡ Some (failure_of path)
         first_before path =
-            ap first_by_walk (sym (walked.here.failing path))
-            ∙ ap
-            (λ (p : Place). first_by_walk
+            ap first_by_walk (sym (walked.here.failing path)) ∙ ap (λ (p : Place). first_by_walk
             (failures means table (shape_in table (root_shape plan) p (tree_in_slots now stack)) path
-            (tree_at p (tree_in_slots now stack))))
-            (sym walked.cursor)
-            ∙ first_now path
+            (tree_at p (tree_in_slots now stack)))) (sym walked.cursor) ∙ first_now path
 
   -- What isn't beneath stays in its slot.
   pub beneath_stays : (now : List Slot) (rest : List ℕ) → WalkedBeneath means table plan before stack now rest
@@ -432,8 +360,7 @@ module _ (means : Meanings) (table : Table) (plan : Plan) (before : List Slot) (
         open_still = walked.still;
         cursor = walked.cursor;
         built =
-            ap tree_of walked.beside
-            ∙ tree_put_at (cursor_in before stack) (kid_on_top now stack) (kid_here before stack);
+            ap tree_of walked.beside ∙ tree_put_at (cursor_in before stack) (kid_on_top now stack) (kid_here before stack);
       };
       as_before = walked.here;
       closed = λ m last. so_top plan now stack walked.still m last (λ (it : Node). IsClosed it.body) (closed_top_node m last);

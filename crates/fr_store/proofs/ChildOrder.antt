@@ -1,18 +1,7 @@
 -- The children of one place, from the last in the order of their steps to the first.
-use Rattle.std.proofs.Common.{◌≡◌, ◌⊎◌, ℕ, zero, suc, ◌-◌, ◌*◌, ◌<◌, ◌≤◌, Bool, true, false, ltb, inl, inr, refl, ◌∙◌, ap, arith}
-use Rattle.std.specs.Prelude.{if◌then◌else◌}
-use Rattle.std.specs.declared.cmp.Ordering.{Ordering}
-use Rattle.std.specs.declared.cmp.Ordering.TheVariants.{Less}
-use Rattle.std.specs.Ordering.{ordering_then}
+use Rattle.std.proofs.Common.{◌≡◌, ◌⊎◌, ℕ, zero, suc, ◌-◌, ◌*◌, ◌<◌, ◌≤◌, Bool, true, false, ltb, inl, inr, refl, ◌∙◌, ap, arith, Some, None, if◌then◌else◌}
+use Rattle.fr_store.specs.Common.{ContentKind, EntriesKind, ItemsKind, Less, MayHave, Ordering, PathStep, Tracker, as_content, as_elements, as_entries, as_fields, as_items, entry_of, from_last, is_key, is_map_tracker, ordering_then, step_as, step_order}
 use Rattle.std.proofs.lemmas.Bool.{lt-ltb, le-ltb, ltb-true, ltb-false}
-use Rattle.fr_path.specs.declared.path_steps.PathStep.{PathStep}
-use Rattle.fr_path.specs.Order.{step_order}
-use Rattle.fr_model.specs.Collections.{is_map_form}
-use Rattle.fr_model.specs.Paths.{step_as}
-use Rattle.fr_model.specs.Places.{is_key, entry_of}
-use Rattle.fr_model.specs.Tree.{Form, as_struct, as_array, as_variant, as_some, as_ok, as_err, as_pointer, as_list, as_slice, as_closed_slice, as_set, as_map, as_dyn_array, as_dyn_object}
-use Rattle.fr_frame.specs.Kids.{MayHave}
-use Rattle.fr_store.specs.Beneath.{from_last}
 use Rattle.fr_store.proofs.PathOrder.{number_less}
 use Rattle.fr_store.proofs.StepLaws.{field_less, index_less, key_less, value_less}
 
@@ -32,9 +21,8 @@ value_at (suc (suc m)) (suc j) e = let rest = value_at m j (omega arith) in (res
 
 -- an entry has two
 pub halves : (n : ℕ) → (2 * entry_of n ≤ n) × (n ≤ suc (2 * entry_of n))
-halves zero = (omega arith, omega arith)
-halves (suc zero) = (omega arith, omega arith)
 halves (suc (suc n)) = let rest = halves n in (omega (arith, rest.0), omega (arith, rest.1))
+halves _ = (omega arith, omega arith)
 
 key_or_value : (c : ℕ) → ((j : ℕ) × (c ≡ 2 * j)) ⊎ ((j : ℕ) × (c ≡ suc (2 * j)))
 key_or_value zero = inl (0, omega arith)
@@ -98,50 +86,40 @@ from_last_onto true count c h = go (key_or_value c)
 
 -- child i of a place that is begun so has a step of its own: it is no item of a set and no entry of a dynamic object, and isn't
 -- the key or the value of an entry that the map had when it was begun
-abbrev pub HasOwnStep : Form → ℕ → Type 0
-HasOwnStep as_struct i = Unit {0}
-HasOwnStep as_array i = Unit {0}
-HasOwnStep (as_variant k) i = Unit {0}
-HasOwnStep as_some i = Unit {0}
-HasOwnStep as_ok i = Unit {0}
-HasOwnStep as_err i = Unit {0}
-HasOwnStep as_pointer i = Unit {0}
-HasOwnStep as_list i = Unit {0}
-HasOwnStep as_slice i = Unit {0}
-HasOwnStep as_closed_slice i = Unit {0}
-HasOwnStep as_set i = ⊥
-HasOwnStep (as_map base) i = base ≤ entry_of i
-HasOwnStep as_dyn_array i = Unit {0}
-HasOwnStep (as_dyn_object keys) i = ⊥
+abbrev pub HasOwnStep : Tracker → ℕ → Type 0
+HasOwnStep (as_items ItemsKind.Set) i = ⊥
+HasOwnStep (as_entries (EntriesKind.Map base)) i = base ≤ entry_of i
+HasOwnStep (as_entries (EntriesKind.Object keys)) i = ⊥
+HasOwnStep _ i = Unit {0}
 
 keys_first : (i j : ℕ) → step_order (PathStep.MapKey i) (PathStep.MapValue j) ≡ Less
 keys_first i j = ap (λ (o : Ordering). ordering_then o (step_order (PathStep.Field i) (PathStep.Field j))) (number_less 6 7 (omega arith))
 
-step_of_key : (base m j : ℕ) → m ≡ 2 * j → step_as (as_map base) m ≡ PathStep.MapKey (j - base)
+step_of_key : (base m j : ℕ) → m ≡ 2 * j → step_as (as_entries (EntriesKind.Map base)) m ≡ PathStep.MapKey (j - base)
 step_of_key base m j e =
     let is = key_at m j e in
     ap (λ (b : Bool). if b then PathStep.MapKey (entry_of m - base) else PathStep.MapValue (entry_of m - base)) is.0
     ∙ ap (λ (n : ℕ). PathStep.MapKey (n - base)) is.1
 
-step_of_value : (base m j : ℕ) → m ≡ suc (2 * j) → step_as (as_map base) m ≡ PathStep.MapValue (j - base)
+step_of_value : (base m j : ℕ) → m ≡ suc (2 * j) → step_as (as_entries (EntriesKind.Map base)) m ≡ PathStep.MapValue (j - base)
 step_of_value base m j e =
     let is = value_at m j e in
     ap (λ (b : Bool). if b then PathStep.MapKey (entry_of m - base) else PathStep.MapValue (entry_of m - base)) is.0
     ∙ ap (λ (n : ℕ). PathStep.MapValue (n - base)) is.1
 
 map_first : (base count j i : ℕ) → j < i → i < count → base ≤ entry_of (from_last true count i)
-    → step_order (step_as (as_map base) (from_last true count i)) (step_as (as_map base) (from_last true count j)) ≡ Less
+    → step_order (step_as (as_entries (EntriesKind.Map base)) (from_last true count i)) (step_as (as_entries (EntriesKind.Map base)) (from_last true count j)) ≡ Less
 map_first base count j i later within own = go (ltb j (entry_of count)) (ltb i (entry_of count)) refl refl
   where
-    both : (x y : PathStep) → step_as (as_map base) (from_last true count i) ≡ x
-        → step_as (as_map base) (from_last true count j) ≡ y → step_order x y ≡ Less
-        → step_order (step_as (as_map base) (from_last true count i)) (step_as (as_map base) (from_last true count j)) ≡ Less
+    both : (x y : PathStep) → step_as (as_entries (EntriesKind.Map base)) (from_last true count i) ≡ x
+        → step_as (as_entries (EntriesKind.Map base)) (from_last true count j) ≡ y → step_order x y ≡ Less
+        → step_order (step_as (as_entries (EntriesKind.Map base)) (from_last true count i)) (step_as (as_entries (EntriesKind.Map base)) (from_last true count j)) ≡ Less
     both x y one other less =
-        ap (λ (s : PathStep). step_order s (step_as (as_map base) (from_last true count j))) one
+        ap (λ (s : PathStep). step_order s (step_as (as_entries (EntriesKind.Map base)) (from_last true count j))) one
         ∙ ap (step_order x) other ∙ less
 
     go : (a b : Bool) → ltb j (entry_of count) ≡ a → ltb i (entry_of count) ≡ b
-        → step_order (step_as (as_map base) (from_last true count i)) (step_as (as_map base) (from_last true count j)) ≡ Less
+        → step_order (step_as (as_entries (EntriesKind.Map base)) (from_last true count i)) (step_as (as_entries (EntriesKind.Map base)) (from_last true count j)) ≡ Less
     go true true e f =
         let first = ltb-true j (entry_of count) e in
         let second = ltb-true i (entry_of count) f in
@@ -158,8 +136,7 @@ map_first base count j i later within own = go (ltb j (entry_of count)) (ltb i (
         (step_of_key base (from_last true count i) (count - suc i) (key_last count i second))
         (step_of_value base (from_last true count j) (entry_of count - suc j) (value_first count j first))
         (keys_first (count - suc i - base) (entry_of count - suc j - base))
-    go false true e f =
-        absurd (omega (arith, ltb-false j (entry_of count) e, ltb-true i (entry_of count) f, later))
+    go false true e f = absurd (omega (arith, ltb-false j (entry_of count) e, ltb-true i (entry_of count) f, later))
     go false false e f =
         let first = ltb-false j (entry_of count) e in
         let second = ltb-false i (entry_of count) f in
@@ -170,16 +147,12 @@ map_first base count j i later within own = go (ltb j (entry_of count)) (ltb i (
         (key_less (count - suc i - base) (count - suc j - base) (omega (arith, later, own, past, within)))
 
 -- what comes as the i-th is before what came as the j-th
-pub listed_order : (form : Form) (count j i : ℕ) → j < i → i < count → MayHave form count
-    → HasOwnStep form (from_last (is_map_form form) count i)
-    → step_order (step_as form (from_last (is_map_form form) count i)) (step_as form (from_last (is_map_form form) count j)) ≡ Less
-listed_order as_struct count j i later within may own = field_less (count - suc i) (count - suc j) (omega arith)
-listed_order (as_variant k) count j i later within may own = field_less (count - suc i) (count - suc j) (omega arith)
-listed_order as_some count j i later within may own = absurd (omega arith)
-listed_order as_ok count j i later within may own = absurd (omega arith)
-listed_order as_err count j i later within may own = absurd (omega arith)
-listed_order as_pointer count j i later within may own = absurd (omega arith)
-listed_order as_set count j i later within may own = absurd own
-listed_order (as_map base) count j i later within may own = map_first base count j i later within own
-listed_order (as_dyn_object keys) count j i later within may own = absurd own
+pub listed_order : (tracker : Tracker) (count j i : ℕ) → j < i → i < count → MayHave tracker count
+    → HasOwnStep tracker (from_last (is_map_tracker tracker) count i)
+    → step_order (step_as tracker (from_last (is_map_tracker tracker) count i)) (step_as tracker (from_last (is_map_tracker tracker) count j)) ≡ Less
+listed_order (as_fields selected) count j i later within may own = field_less (count - suc i) (count - suc j) (omega arith)
+listed_order (as_content kind) count j i later within may own = absurd (omega arith)
+listed_order (as_items ItemsKind.Set) count j i later within may own = absurd own
+listed_order (as_entries (EntriesKind.Map base)) count j i later within may own = map_first base count j i later within own
+listed_order (as_entries (EntriesKind.Object keys)) count j i later within may own = absurd own
 listed_order _ count j i later within may own = index_less (count - suc i) (count - suc j) (omega arith)

@@ -1,27 +1,14 @@
 -- The order of ways by their length and, among ways of one length, from the last to the first; and the order of the walk.
 use Rattle.std.proofs.Common.{◌≡◌, ◌≢◌, ℕ, suc, List, [], ◌∷◌, ◌++◌, length, length-append, get_or, inl, inr, refl, ◌∙◌, ap, arith}
-use Rattle.std.specs.declared.cmp.Ordering.{Ordering}
-use Rattle.std.specs.Cmp.Lexicographic.{slice_cmp}
-use Rattle.std.specs.Ordering.{ordering_then}
-use Rattle.std.specs.List.{All}
+use Rattle.fr_store.specs.Common.{All, AreInWalkOrder, ComesBefore, ComesEarlier, FrameOwner, Heap, IsPlaced, Kid, Ordering, Pairs, Place, Plan, Stands, at, begun_plot, kid_at, kid_below, ordering_then, slice_cmp, step_order, steps_in, tree_of}
 use Rattle.std.proofs.lemmas.List.Elements.{All-head, All-tail}
-use Rattle.fr_path.specs.Order.{step_order}
-use Rattle.fr_model.specs.Paths.{steps_in}
-use Rattle.fr_model.specs.Places.{Place}
-use Rattle.fr_plan.specs.TypePlan.{Plan}
-use Rattle.fr_frame.specs.declared.places.FrameOwner.{FrameOwner}
-use Rattle.fr_frame.specs.Heap.{Heap}
-use Rattle.fr_frame.specs.Kids.{Kid, at, begun_plot, tree_of}
-use Rattle.fr_store.specs.Places.{Pairs, IsAbove, IsAfterBelow, IsPlaced, ComesEarlier}
-use Rattle.fr_store.specs.Stands.{Stands}
-use Rattle.fr_store.specs.Walks.{ComesBefore, AreInWalkOrder}
-use Rattle.fr_store.specs.Ways.{kid_at, kid_below}
+use Rattle.fr_store.specs.Places.{IsAbove, IsAfterBelow}
 use Rattle.fr_store.proofs.HeadLaws.{steps_count}
 use Rattle.fr_store.proofs.PathOrder.{number_less, number_equal}
 use Rattle.fr_store.proofs.StepLaws.{after_differs, steps_less}
 
 after_below_differs : (k : Kid) (i j : ℕ) → IsAfterBelow k i j → i ≢ j
-after_below_differs (at slot stored (begun_plot form kids)) i j after e = after_differs form i j after e
+after_below_differs (at slot stored (begun_plot tracker kids)) i j after e = after_differs tracker i j after e
 after_below_differs _ i j after e = omega (arith, after, e)
 
 above_differs : (k : Kid) (p q : Place) → IsAbove k p q → p ≢ q
@@ -80,7 +67,6 @@ module _ (plan : Plan) (heap : Heap) (stack : List ℕ) (cursor : Place) (k : Ki
   in_walk_order [] placed order = tt
   in_walk_order (p ∷ places) placed order =
       let later = All-tail (IsPlaced k) p places placed in (
-        λ i d h.
-            before_earlier (get_or places i d) p (later i d h) (All-head (IsPlaced k) p places placed) (order.0 i d h),
+        λ i d h. before_earlier (get_or places i d) p (later i d h) (All-head (IsPlaced k) p places placed) (order.0 i d h),
         in_walk_order places later order.1,
       )

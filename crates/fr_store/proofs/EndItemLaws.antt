@@ -1,33 +1,15 @@
 -- Laws of a set's item that ends, for proofs: it is left, and its value comes behind the items that the set has.
 use Rattle.std.proofs.Common.{◌≡◌, ◌≢◌, ◌⊎◌, ℕ, suc, ◌+◌, ◌≤◌, true, false, List, [], ◌∷◌, ◌++◌, append-nil, length, nat_eq, Option, Some, None, inl, inr, refl, sym, ◌∙◌, ap, subst, arith}
-use Rattle.std.specs.Prelude.{is_some, IsSome, IsSomeAnd}
-use Rattle.fr_shape.specs.Val.{Val}
+use Rattle.fr_store.specs.Common.{AgreeBeside, AllServe, AreLeftAll, AreLeftRightly, AreUnplaced, Body, Cell, FrameOwner, Heap, Holds, IfInUse, IsClosed, IsLast, IsOpen, IsOpenAt, IsPlaced, IsSome, IsSomeAnd, ItemsKind, Kid, Kids, Leads, MayHave, Node, Place, Plan, Reaches, Replaces, SameMarks, Shows, Slot, Stands, StayPutBut, Top, Tracker, Trees, Val, above_append, as_items, at, at_for_at, begun, begun_body, begun_plot, below_root, body_here, body_in, body_other, cell_of, cells_in, change_at, child_owner, closed_marked, closed_uses, count_kids, counts_if, counts_other, counts_same, cursor_in, gone, heap_of, holds_at, is_root, is_some, kid_at, kid_here, kid_is, kid_nth, kid_shown, leads_reach, left_at, marked, marked_body, node_along, owner_along, owner_append, owner_below, put_at, put_nth, same_front, same_last, same_or_other, slot_at, slot_other, slots_above, stands_change, stored_in, top_of, tree_at, tree_change_at, tree_in_slots, tree_of, tree_of_at, trees_in, up, up_append, used_mapped, uses, uses_among, uses_at, uses_in, uses_put_nth, value_of, with_body, with_slot}
 use Rattle.fr_model.specs.Collections.{and_item, is_set, number_in, with_ended_item, without_nth}
-use Rattle.fr_model.specs.Places.{Place, is_root, up}
-use Rattle.fr_model.specs.Tree.{Form, as_set, begun, Trees, tree_at, change_at}
-use Rattle.fr_plan.specs.TypePlan.{Plan}
-use Rattle.fr_frame.specs.declared.places.FrameOwner.{FrameOwner}
-use Rattle.fr_frame.specs.declared.places.Slot.{Slot}
-use Rattle.fr_frame.specs.Bodies.{Body, begun_body, value_of, and_item_cell, with_ended, AreUnplaced, IsClosed, IsSetBody}
-use Rattle.fr_frame.specs.Cells.{Cell}
-use Rattle.fr_frame.specs.Changes.{IfInUse, SameMarks, Shows}
-use Rattle.fr_frame.specs.Heap.{Node, Heap, ends, heap_of, marked, stored_in, with_body, with_slot, IsItemOf}
-use Rattle.fr_frame.specs.Kids.{Kid, gone, at, begun_plot, Kids, MayHave, tree_of, trees_in, cell_of, cells_in, body_in, child_owner, Holds, AreLeftRightly, AreLeftAll}
+use Rattle.fr_frame.specs.Bodies.{and_item_cell, with_ended, IsSetBody}
+use Rattle.fr_frame.specs.Heap.{ends, IsItemOf}
 use Rattle.fr_store.specs.HereLaws.{value_closed}
-use Rattle.fr_store.specs.HoldLaws.{AgreeBeside, Replaces, holds_at}
-use Rattle.fr_store.specs.LeaveLaws.{above_append, below_root, owner_append, up_append}
-use Rattle.fr_store.specs.LeftLaws.{at_for_at, left_at}
-use Rattle.fr_store.specs.MoveLaws.{open_at_held, same_front, same_last}
-use Rattle.fr_store.specs.Moves.{IsOpenAt, cursor_in, tree_in_slots}
-use Rattle.fr_store.specs.Numbers.{IsLast}
-use Rattle.fr_store.specs.Places.{IsPlaced, slot_at}
-use Rattle.fr_store.specs.StandLaws.{all_kept_but, kid_is, stands_change, AllServe}
-use Rattle.fr_store.specs.Stands.{Stands, IsOpen, kid_here, kid_shown}
-use Rattle.fr_store.specs.Staying.{StayPutBut, StaysPut}
-use Rattle.fr_store.specs.TopLaws.{Top, body_here, body_other, closed_marked, closed_uses, marked_body, slot_here as there_now, slot_other, top_of, unplaced_holds, unplaced_uses, used_mapped}
-use Rattle.fr_store.specs.Ways.{count_kids, kid_at, kid_nth, put_at, put_nth, slots_above, counts_if, uses, uses_in, uses_among, Leads, Reaches, node_along, owner_along, owner_below}
-use Rattle.fr_store.specs.WayLaws.{counts_same, counts_other, same_or_other, leads_reach, tree_change_at, tree_of_at, uses_at, uses_put_nth}
-use Rattle.fr_store.proofs.SetKidLaws.{beside_unplaced, cells_item, cells_without, kids_and_item, kids_without, others_unplaced, set_form, set_left, trees_item, trees_without, unplaced_item, unplaced_without}
+use Rattle.fr_store.specs.MoveLaws.{open_at_held}
+use Rattle.fr_store.specs.StandLaws.{all_kept_but}
+use Rattle.fr_store.specs.Staying.{StaysPut}
+use Rattle.fr_store.specs.TopLaws.{slot_here as there_now, unplaced_holds, unplaced_uses}
+use Rattle.fr_store.proofs.SetKidLaws.{beside_unplaced, cells_item, cells_without, kids_and_item, kids_without, others_unplaced, set_tracker, set_left, trees_item, trees_without, unplaced_item, unplaced_without}
 use Rattle.fr_store.proofs.StayLaws.{closed_below, stay_at}
 use Rattle.fr_store.proofs.StoreLaws.{Parent, parent_of}
 
@@ -45,8 +27,7 @@ module _ (plan : Plan) (slots : List Slot) (stack : List ℕ) (open_now : IsOpen
   stands_now : Stands plan (heap_of slots) stack (above ++ i ∷ []) kid_now
   unfolding kid_now
   stands_now =
-      subst (λ (p : Place). Stands plan (heap_of slots) stack p (kid_shown (heap_of slots) stack)) is_below
-      open_now.stands
+      subst (λ (p : Place). Stands plan (heap_of slots) stack p (kid_shown (heap_of slots) stack)) is_below open_now.stands
 
   top : Top plan (heap_of slots) stack (above ++ i ∷ []) kid_now
   top = top_of plan (heap_of slots) stack (above ++ i ∷ []) kid_now stands_now
@@ -57,13 +38,13 @@ module _ (plan : Plan) (slots : List Slot) (stack : List ℕ) (open_now : IsOpen
   reach : Reaches above kid_now
   reach = leads_reach above (i ∷ []) kid_now stands_now.leads
 
-  of_form : found.form ≡ as_set
+  of_tracker : found.tracker ≡ as_items ItemsKind.Set
   unfolding kid_now
-  of_form = set_form found.form (ap is_set (sym (ap tree_of found.is) ∙ tree_of_at above (kid_shown (heap_of slots) stack)) ∙ of_set)
+  of_tracker = set_tracker found.tracker (ap is_set (sym (ap tree_of found.is) ∙ tree_of_at above (kid_shown (heap_of slots) stack)) ∙ of_set)
 
-  items_left : AreLeftAll as_set 0 found.kids
+  items_left : AreLeftAll (as_items ItemsKind.Set) 0 found.kids
   items_left =
-      subst (λ (f : Form). AreLeftAll f 0 found.kids) of_form
+      subst (λ (f : Tracker). AreLeftAll f 0 found.kids) of_tracker
       (subst (λ (x : Kid). AreLeftRightly x) found.is (left_at above kid_now stands_now.left))
 
   rest : AreUnplaced (cells_in (put_nth i gone found.kids))
@@ -73,10 +54,9 @@ module _ (plan : Plan) (slots : List Slot) (stack : List ℕ) (open_now : IsOpen
   child = sym found.child ∙ top.is
 
   above_holds : Holds plan (heap_of slots) (node_along plan plan.root above kid_now) (owner_along FrameOwner.Root above kid_now)
-      (0 + length above) (at found.slot false (begun_plot found.form found.kids))
+      (0 + length above) (at found.slot false (begun_plot found.tracker found.kids))
   above_holds =
-      subst
-      (λ (x : Kid). Holds plan (heap_of slots) (node_along plan plan.root above kid_now)
+      subst (λ (x : Kid). Holds plan (heap_of slots) (node_along plan plan.root above kid_now)
       (owner_along FrameOwner.Root above kid_now) (0 + length above) x)
       found.is (holds_at plan (heap_of slots) plan.root FrameOwner.Root 0 above kid_now stands_now.holds reach)
 
@@ -129,7 +109,7 @@ module _ (plan : Plan) (slots : List Slot) (stack : List ℕ) (open_now : IsOpen
     pub item_of_set : IfInUse slots n (λ (x : Node). IsItemOf x.owner (heap_of slots))
     item_of_set =
         so_top (λ (x : Node). IsItemOf x.owner (heap_of slots))
-        (subst (λ (o : Option Node). IsSomeAnd o (λ (x : Node). IsSetBody x.body)) (sym above_holds.0) of_form)
+        (subst (λ (o : Option Node). IsSomeAnd o (λ (x : Node). IsSetBody x.body)) (sym above_holds.0) of_tracker)
 
     -- It ended with this value.
     module _ (v : Val) (valued : value_of (body_in top.plot) ≡ Some v) where
@@ -144,7 +124,7 @@ module _ (plan : Plan) (slots : List Slot) (stack : List ℕ) (open_now : IsOpen
       new = kids_and_item fewer v
 
       abbrev new_kid : Kid
-      new_kid = at found.slot false (begun_plot found.form new)
+      new_kid = at found.slot false (begun_plot found.tracker new)
 
       fewer_unplaced : AreUnplaced (cells_in fewer)
       unfolding fewer
@@ -154,16 +134,15 @@ module _ (plan : Plan) (slots : List Slot) (stack : List ℕ) (open_now : IsOpen
       unfolding new fewer
       new_unplaced = unplaced_item fewer v fewer_unplaced
 
-      new_cells : with_ended i v (begun_body found.form (cells_in found.kids)) ≡ begun_body found.form (cells_in new)
+      new_cells : with_ended i v (begun_body found.tracker (cells_in found.kids)) ≡ begun_body found.tracker (cells_in new)
       unfolding new fewer
       new_cells =
-          ap (λ (cs : List Cell). begun_body found.form (and_item_cell cs v)) (sym (cells_without i found.kids))
-          ∙ ap (begun_body found.form) (sym (cells_item fewer v))
+          ap (λ (cs : List Cell). begun_body found.tracker (and_item_cell cs v)) (sym (cells_without i found.kids))
+          ∙ ap (begun_body found.tracker) (sym (cells_item fewer v))
 
       new_trees : trees_in new ≡ and_item (without_nth i (trees_in found.kids)) v
       unfolding new fewer
-      new_trees =
-          trees_item fewer v fewer_unplaced ∙ ap (λ (ts : Trees). and_item ts v) (trees_without i found.kids)
+      new_trees = trees_item fewer v fewer_unplaced ∙ ap (λ (ts : Trees). and_item ts v) (trees_without i found.kids)
 
       -- slots
       part : (m : ℕ) → uses (kid_at above kid_now) m ≡ counts_if (nat_eq found.slot m) + uses_among found.kids m
@@ -223,7 +202,7 @@ module _ (plan : Plan) (slots : List Slot) (stack : List ℕ) (open_now : IsOpen
                     owner = by;
                     stored = false;
                     depth = depth;
-                    body = begun_body found.form (cells_in found.kids);
+                    body = begun_body found.tracker (cells_in found.kids);
                   }) (slot_other (heap_of slots) n None found.slot apart ∙ was.0)
                   ∙ ap (λ (b : Body). Some (record {
                     node = node;
@@ -233,8 +212,8 @@ module _ (plan : Plan) (slots : List Slot) (stack : List ℕ) (open_now : IsOpen
                     body = b;
                   })) new_cells,
               was.1,
-              unplaced_holds plan other node found.slot found.form 0 (suc depth) new (count_kids new) (omega arith)
-                  (subst (λ (f : Form). MayHave f (count_kids new)) (sym of_form) tt) new_unplaced,
+              unplaced_holds plan other node found.slot found.tracker 0 (suc depth) new (count_kids new) (omega arith)
+                  (subst (λ (f : Tracker). MayHave f (count_kids new)) (sym of_tracker) tt) new_unplaced,
             )
 
         once : (m : ℕ) → uses kid_now m + uses new_kid m ≤ 1 + uses (kid_at above kid_now) m
@@ -244,21 +223,19 @@ module _ (plan : Plan) (slots : List Slot) (stack : List ℕ) (open_now : IsOpen
         stands_ended =
             subst (λ (p : Place). Stands plan other next p (put_at above new_kid kid_now)) (append-nil above)
             (stands_change plan (heap_of slots) other stack next above (i ∷ []) [] new_kid kid_now stands_now
-            (ap cell_of (sym found.is)) agree replaces once
-            (refl, closed_marked true (begun_plot found.form new) new_unplaced)
-            (at_for_at (kid_at above kid_now) found.slot found.slot false (begun_plot found.form found.kids)
-            (begun_plot found.form new) found.is)
-            (λ all. subst (λ (f : Form). AreLeftAll f 0 new) (sym of_form) (set_left 0 new new_unplaced))
+            (ap cell_of (sym found.is)) agree replaces once (refl, closed_marked true (begun_plot found.tracker new) new_unplaced)
+            (at_for_at (kid_at above kid_now) found.slot found.slot false (begun_plot found.tracker found.kids)
+            (begun_plot found.tracker new) found.is)
+            (λ all. subst (λ (f : Tracker). AreLeftAll f 0 new) (sym of_tracker) (set_left 0 new new_unplaced))
             (sym (same_front (slots_above (above ++ i ∷ []) kid_now) next top.slot n (sym top.last ∙ last))
-            ∙ above_append above i kid_now stands_now.leads found.slot false (begun_plot found.form found.kids) found.is))
+            ∙ above_append above i kid_now stands_now.leads found.slot false (begun_plot found.tracker found.kids) found.is))
 
         -- each slot in use is that of a place
         all_ended : AllServe other (put_at above new_kid kid_now)
         unfolding kid_now
         all_ended = all_kept_but (heap_of slots) other above new_kid kid_now reach open_now.all from
           where
-            from : (m : ℕ) → IsSome (other m)
-                → IsSome (heap_of slots m) × (uses (kid_at above kid_now) m ≤ uses new_kid m)
+            from : (m : ℕ) → IsSome (other m) → IsSome (heap_of slots m) × (uses (kid_at above kid_now) m ≤ uses new_kid m)
             from m used = go (same_or_other m n)
               where
                 go : (m ≡ n) ⊎ (m ≢ n) → IsSome (heap_of slots m) × (uses (kid_at above kid_now) m ≤ uses new_kid m)
@@ -277,16 +254,15 @@ module _ (plan : Plan) (slots : List Slot) (stack : List ℕ) (open_now : IsOpen
 
         tree_ended : tree_of (put_at above new_kid kid_now) ≡ change_at above (with_ended_item i v) (tree_of kid_now)
         tree_ended =
-            tree_change_at above (with_ended_item i v) new_kid kid_now
-            (ap (λ (ts : Trees). begun found.form ts) new_trees
+            tree_change_at above (with_ended_item i v) new_kid kid_now (ap (λ (ts : Trees). begun found.tracker ts) new_trees
             ∙ ap (with_ended_item i v) (ap tree_of (sym found.is) ∙ tree_of_at above kid_now))
 
         -- no place but the item leaves its slot
         stay_ended : StayPutBut (above ++ i ∷ []) kid_now (put_at above new_kid kid_now)
         stay_ended place ne = stay_at above new_kid kid_now reach place beneath
           where
-            below : (r : Place) → IsPlaced (at found.slot false (begun_plot found.form found.kids)) r → r ≢ i ∷ []
-                → IsPlaced new_kid r × (slot_at new_kid r ≡ slot_at (at found.slot false (begun_plot found.form found.kids)) r)
+            below : (r : Place) → IsPlaced (at found.slot false (begun_plot found.tracker found.kids)) r → r ≢ i ∷ []
+                → IsPlaced new_kid r × (slot_at new_kid r ≡ slot_at (at found.slot false (begun_plot found.tracker found.kids)) r)
             below [] lies other_than = (record { reaches = tt; here = tt }, refl)
             below (j ∷ r) lies other_than = absurd (go (same_or_other i j) r refl)
               where
@@ -302,7 +278,7 @@ module _ (plan : Plan) (slots : List Slot) (stack : List ℕ) (open_now : IsOpen
 
             beneath : (r : Place) → place ≡ above ++ r → StaysPut (kid_at above kid_now) new_kid r
             beneath r e lies =
-                let same_kid : at found.slot false (begun_plot found.form found.kids) ≡ kid_at above kid_now = sym found.is in
+                let same_kid : at found.slot false (begun_plot found.tracker found.kids) ≡ kid_at above kid_now = sym found.is in
                 let told = below r (subst (λ (x : Kid). IsPlaced x r) found.is lies)
                 (λ f. ne (e ∙ ap (λ (l : Place). above ++ l) f)) in
                 (told.0, told.1 ∙ ap (λ (x : Kid). slot_at x r) same_kid)
@@ -369,8 +345,7 @@ module _ (plan : Plan) (slots : List Slot) (stack : List ℕ) (open_now : IsOpen
       go (Some v) e some = (v, e)
       go None e some = absurd (cc)
 
-  module _ (after : List Slot)
-      (ended : IfInUse slots n (λ (x : Node). (v : Val) → value_of x.body ≡ Some v
+  module _ (after : List Slot) (ended : IfInUse slots n (λ (x : Node). (v : Val) → value_of x.body ≡ Some v
       → Shows after (ends x.owner v (with_slot (heap_of slots) n None)))) where
     ended_so : (v : Val) → value_of (body_in (top plan slots stack open_now over number way set_over).plot) ≡ Some v
         → Shows after (with_body (with_slot (heap_of slots) n None) (found plan slots stack open_now over number way set_over).slot (with_ended number v))
@@ -383,25 +358,16 @@ module _ (plan : Plan) (slots : List Slot) (stack : List ℕ) (open_now : IsOpen
         (change_at (up (cursor_in slots stack)) (with_ended_item (number_in (cursor_in slots stack)) v) (tree_in_slots slots stack)))
     item_ended p ends_so =
         let same_slot : n ≡ p = same_last next ends_so.0 n p (sym last ∙ ends_so.1) in
-        let numbered : number ≡ number_in (cursor_in slots stack)
-        = sym (ap number_in way ∙ number_append over number) in
-        subst
-        (λ (m : ℕ). IfInUse slots m (λ (x : Node). (v : Val) → value_of x.body ≡ Some v
+        let numbered : number ≡ number_in (cursor_in slots stack) = sym (ap number_in way ∙ number_append over number) in
+        subst (λ (m : ℕ). IfInUse slots m (λ (x : Node). (v : Val) → value_of x.body ≡ Some v
         → IsOpenAt plan after next (up (cursor_in slots stack))
         (change_at (up (cursor_in slots stack)) (with_ended_item (number_in (cursor_in slots stack)) v) (tree_in_slots slots stack))))
-        same_slot
-        (so_top plan slots stack open_now over number way set_over next n last
-        (λ (x : Node). (v : Val) → value_of x.body ≡ Some v
-        → IsOpenAt plan after next (up (cursor_in slots stack))
+        same_slot (so_top plan slots stack open_now over number way set_over next n last
+        (λ (x : Node). (v : Val) → value_of x.body ≡ Some v → IsOpenAt plan after next (up (cursor_in slots stack))
         (change_at (up (cursor_in slots stack)) (with_ended_item (number_in (cursor_in slots stack)) v) (tree_in_slots slots stack)))
-        (λ v is.
-        subst
-        (λ (q : Place). IsOpenAt plan after next q
-        (change_at q (with_ended_item (number_in (cursor_in slots stack)) v) (tree_in_slots slots stack)))
-        (sym up_is)
-        (subst
-        (λ (m : ℕ). IsOpenAt plan after next over (change_at over (with_ended_item m v) (tree_in_slots slots stack)))
-        numbered
+        (λ v is. subst (λ (q : Place). IsOpenAt plan after next q
+        (change_at q (with_ended_item (number_in (cursor_in slots stack)) v) (tree_in_slots slots stack))) (sym up_is) (subst
+        (λ (m : ℕ). IsOpenAt plan after next over (change_at over (with_ended_item m v) (tree_in_slots slots stack))) numbered
         (open_ended plan slots stack open_now over number way set_over next n last v is after (ended_so v is)))))
 
     pub item_stays : IfInUse slots n (λ (x : Node). IsSome (value_of x.body))

@@ -1,33 +1,19 @@
 -- Laws of ending, for proofs: the top is left, and its value goes to the place above, whose other children stay as they are.
 use Rattle.std.proofs.Common.{◌≡◌, ◌≢◌, ◌⊎◌, ℕ, suc, ◌+◌, ◌<◌, ◌≤◌, true, false, List, [], ◌∷◌, ◌++◌, append-nil, length, nat_eq, Option, Some, None, inl, inr, refl, sym, ◌∙◌, ap, subst, arith}
-use Rattle.std.specs.Option.{option_and_then}
-use Rattle.std.specs.Prelude.{is_some, IsSome, IsSomeAnd}
-use Rattle.fr_shape.specs.Released.{Room}
-use Rattle.fr_shape.specs.Val.{Val}
-use Rattle.fr_model.specs.Places.{Place, is_root, up}
-use Rattle.fr_model.specs.Tree.{whole, change_at}
-use Rattle.fr_plan.specs.declared.nodes.NodeId.{NodeId}
-use Rattle.fr_plan.specs.TypePlan.{Plan}
-use Rattle.fr_frame.specs.declared.places.FrameOwner.{FrameOwner}
-use Rattle.fr_frame.specs.declared.places.Slot.{Slot}
-use Rattle.fr_frame.specs.Bodies.{Body, begun_body, body_occurs, cell_at, unlinked, value_of, with_cell, IsClosed}
-use Rattle.fr_frame.specs.Cells.{given, placed}
-use Rattle.fr_frame.specs.Changes.{IfInUse, SameMarks, Shows}
-use Rattle.fr_frame.specs.Heap.{Node, Heap, gives, held_by, heap_of, marked, stored_in, with_body, with_slot, without}
-use Rattle.fr_frame.specs.Kids.{Kid, gone, there, at, begun_plot, Kids, MayHave, tree_of, cell_of, cells_in, body_in, child_owner, Holds, AreLeftRightly}
+use Rattle.fr_store.specs.Common.{AgreeBeside, AllServe, AreLeftRightly, Body, FrameOwner, Heap, Holds, IfInUse, IsClosed, IsLast, IsOpen, IsOpenAt, IsSome, IsSomeAnd, Kid, Kids, Leads, MayHave, Node, NodeId, Place, Plan, Reaches, Replaces, Room, SameMarks, Shows, Slot, Stands, StayPutBut, Top, Val, above_append, at, at_for_at, begun_body, begun_plot, below_root, body_here, body_in, body_occurs, body_other, cell_at, cell_of, cells_in, change_at, child_owner, closed_uses, count_kids, counts_if, counts_other, counts_same, cursor_in, given, gone, heap_of, holds_at, holds_put_nth, is_root, is_some, kid_at, kid_here, kid_is, kid_nth, kid_shown, leads_reach, left_put_nth, marked, marked_body, node_along, open_top, option_and_then, owner_along, owner_append, owner_below, put_append, put_at, put_nth, same_front, same_last, same_or_other, slot_other, slots_above, stands_change, stored_in, there, tokens_here, top_of, tree_in_slots, tree_of, tree_put_at, unlinked, up, up_append, used_mapped, uses, uses_among, uses_at, uses_in, uses_put_nth, value_of, whole, with_body, with_slot, without}
+use Rattle.fr_store.specs.MoveLaws.{top_node}
+use Rattle.fr_frame.specs.Bodies.{with_cell}
+use Rattle.fr_frame.specs.Cells.{placed}
+use Rattle.fr_frame.specs.Heap.{gives, held_by}
 use Rattle.fr_store.specs.HereLaws.{value_closed}
-use Rattle.fr_store.specs.HoldLaws.{AgreeBeside, Replaces, holds_at, holds_put_nth, may_have_at}
-use Rattle.fr_store.specs.LeaveLaws.{above_append, below_root, cells_nth, may_have_put, owner_append, put_append, unlinked_child, up_append, with_child, within_put}
-use Rattle.fr_store.specs.LeftLaws.{at_for_at, left_put_nth, left_value}
-use Rattle.fr_store.specs.MoveLaws.{open_at_held, open_top, same_front, same_last, top_node, top_room, top_so as first_so}
-use Rattle.fr_store.specs.Moves.{IsOpenAt, cursor_in, tokens_here, tree_in_slots}
-use Rattle.fr_store.specs.Numbers.{IsLast}
-use Rattle.fr_store.specs.StandLaws.{all_kept_but, kid_is, stands_change, AllServe}
-use Rattle.fr_store.specs.Stands.{Stands, IsOpen, kid_here, kid_shown}
-use Rattle.fr_store.specs.Staying.{StayPutBut}
-use Rattle.fr_store.specs.TopLaws.{Top, body_here, body_other, closed_uses, marked_body, slot_here as there_now, slot_other, top_of, used_mapped}
-use Rattle.fr_store.specs.Ways.{count_kids, kid_at, kid_nth, put_at, put_below, put_nth, slots_above, counts_if, uses, uses_in, uses_among, Leads, Reaches, node_along, owner_along, owner_below}
-use Rattle.fr_store.specs.WayLaws.{counts_same, counts_other, put_nth_twice, same_or_other, leads_reach, tree_put_at, uses_at, uses_put_nth}
+use Rattle.fr_store.specs.HoldLaws.{may_have_at}
+use Rattle.fr_store.specs.LeaveLaws.{cells_nth, may_have_put, unlinked_child, with_child, within_put}
+use Rattle.fr_store.specs.LeftLaws.{left_value}
+use Rattle.fr_store.specs.MoveLaws.{open_at_held, top_room, top_so as first_so}
+use Rattle.fr_store.specs.StandLaws.{all_kept_but}
+use Rattle.fr_store.specs.TopLaws.{slot_here as there_now}
+use Rattle.fr_store.specs.Ways.{put_below}
+use Rattle.fr_store.specs.WayLaws.{put_nth_twice}
 use Rattle.fr_store.proofs.StayLaws.{stay_but}
 use Rattle.fr_store.proofs.StoreLaws.{Parent, all_stored, parent_of}
 
@@ -40,8 +26,7 @@ module _ (plan : Plan) (slots : List Slot) (stack : List ℕ) (open_now : IsOpen
   stands_now : Stands plan (heap_of slots) stack (above ++ i ∷ []) kid_now
   unfolding kid_now
   stands_now =
-      subst (λ (p : Place). Stands plan (heap_of slots) stack p (kid_shown (heap_of slots) stack)) is_below
-      open_now.stands
+      subst (λ (p : Place). Stands plan (heap_of slots) stack p (kid_shown (heap_of slots) stack)) is_below open_now.stands
 
   top : Top plan (heap_of slots) stack (above ++ i ∷ []) kid_now
   top = top_of plan (heap_of slots) stack (above ++ i ∷ []) kid_now stands_now
@@ -60,16 +45,15 @@ module _ (plan : Plan) (slots : List Slot) (stack : List ℕ) (open_now : IsOpen
   child : kid_nth i found.kids ≡ at top.slot false top.plot
   child = sym found.child ∙ top.is
 
-  may_have_now : MayHave found.form (count_kids found.kids)
+  may_have_now : MayHave found.tracker (count_kids found.kids)
   may_have_now =
-      may_have_at plan (heap_of slots) plan.root FrameOwner.Root 0 above kid_now found.slot false found.form found.kids
+      may_have_at plan (heap_of slots) plan.root FrameOwner.Root 0 above kid_now found.slot false found.tracker found.kids
       stands_now.holds reach found.is
 
   above_holds : Holds plan (heap_of slots) (node_along plan plan.root above kid_now) (owner_along FrameOwner.Root above kid_now)
-      (0 + length above) (at found.slot false (begun_plot found.form found.kids))
+      (0 + length above) (at found.slot false (begun_plot found.tracker found.kids))
   above_holds =
-      subst
-      (λ (x : Kid). Holds plan (heap_of slots) (node_along plan plan.root above kid_now)
+      subst (λ (x : Kid). Holds plan (heap_of slots) (node_along plan plan.root above kid_now)
       (owner_along FrameOwner.Root above kid_now) (0 + length above) x)
       found.is (holds_at plan (heap_of slots) plan.root FrameOwner.Root 0 above kid_now stands_now.holds reach)
 
@@ -152,17 +136,16 @@ module _ (plan : Plan) (slots : List Slot) (stack : List ℕ) (open_now : IsOpen
       new = put_nth i (there v) found.kids
 
       abbrev new_kid : Kid
-      new_kid = at found.slot false (begun_plot found.form new)
+      new_kid = at found.slot false (begun_plot found.tracker new)
 
-      new_cells : with_cell (unlinked n i (begun_body found.form (cells_in found.kids))) i (given v)
-          ≡ begun_body found.form (cells_in new)
+      new_cells : with_cell (unlinked n i (begun_body found.tracker (cells_in found.kids))) i (given v)
+          ≡ begun_body found.tracker (cells_in new)
       new_cells =
-          ap (λ (b : Body). with_cell b i (given v))
-          (unlinked_child found.form i n found.kids may_have_now found.within
+          ap (λ (b : Body). with_cell b i (given v)) (unlinked_child found.tracker i n found.kids may_have_now found.within
           (ap cell_of child ∙ ap (λ (x : ℕ). placed x) slot_now))
-          ∙ with_child found.form i (there v) (put_nth i gone found.kids)
-          (may_have_put found.form i gone found.kids may_have_now) (within_put i gone found.kids found.within)
-          ∙ ap (λ (ks : Kids). begun_body found.form (cells_in ks)) (put_nth_twice i gone (there v) found.kids)
+          ∙ with_child found.tracker i (there v) (put_nth i gone found.kids)
+          (may_have_put found.tracker i gone found.kids may_have_now) (within_put i gone found.kids found.within)
+          ∙ ap (λ (ks : Kids). begun_body found.tracker (cells_in ks)) (put_nth_twice i gone (there v) found.kids)
 
       -- slots
       part : (m : ℕ) → uses (kid_at above kid_now) m ≡ counts_if (nat_eq found.slot m) + uses_among found.kids m
@@ -203,8 +186,7 @@ module _ (plan : Plan) (slots : List Slot) (stack : List ℕ) (open_now : IsOpen
         elsewhere : (m : ℕ) → m ≢ found.slot → m ≢ n → other m ≡ heap_of slots m
         elsewhere m a b =
             shows m ∙ body_other without_top found.slot (λ old. with_cell old i (given v)) m a
-            ∙ body_other (with_slot (heap_of slots) n None) found.slot (unlinked n i) m a
-            ∙ slot_other (heap_of slots) n None m b
+            ∙ body_other (with_slot (heap_of slots) n None) found.slot (unlinked n i) m a ∙ slot_other (heap_of slots) n None m b
 
         free : other n ≡ None
         free =
@@ -226,13 +208,13 @@ module _ (plan : Plan) (slots : List Slot) (stack : List ℕ) (open_now : IsOpen
             go (inr ne) (inr ne2) = elsewhere m ne ne2
 
         parent_now : (node : NodeId) (by : FrameOwner) (depth : ℕ)
-            → Holds plan (heap_of slots) node by depth (at found.slot false (begun_plot found.form found.kids))
+            → Holds plan (heap_of slots) node by depth (at found.slot false (begun_plot found.tracker found.kids))
             → other found.slot ≡ Some (record {
               node = node;
               owner = by;
               stored = false;
               depth = depth;
-              body = begun_body found.form (cells_in new);
+              body = begun_body found.tracker (cells_in new);
             })
         parent_now node by depth was =
             shows found.slot
@@ -241,29 +223,23 @@ module _ (plan : Plan) (slots : List Slot) (stack : List ℕ) (open_now : IsOpen
               owner = by;
               stored = false;
               depth = depth;
-              body = unlinked n i (begun_body found.form (cells_in found.kids));
+              body = unlinked n i (begun_body found.tracker (cells_in found.kids));
             })
             (body_here (with_slot (heap_of slots) n None) found.slot (unlinked n i) (record {
               node = node;
               owner = by;
               stored = false;
               depth = depth;
-              body = begun_body found.form (cells_in found.kids);
+              body = begun_body found.tracker (cells_in found.kids);
             }) (slot_other (heap_of slots) n None found.slot apart ∙ was.0))
-            ∙ ap (λ (b : Body). Some (record {
-              node = node;
-              owner = by;
-              stored = false;
-              depth = depth;
-              body = b;
-            })) new_cells
+            ∙ ap (λ (b : Body). Some (record { node = node; owner = by; stored = false; depth = depth; body = b })) new_cells
 
         replaces : Replaces plan (heap_of slots) other (kid_at above kid_now) new_kid
         replaces node by depth holds =
             let was = subst (λ (x : Kid). Holds plan (heap_of slots) node by depth x) found.is holds in (
               parent_now node by depth was,
               was.1,
-              holds_put_nth plan (heap_of slots) other node found.slot found.form 0 (suc depth) found.kids i i (there v)
+              holds_put_nth plan (heap_of slots) other node found.slot found.tracker 0 (suc depth) found.kids i i (there v)
                   (omega arith) (λ m h. elsewhere m (not_parent m h) (not_top m h)) was.2 tt,
             )
 
@@ -276,20 +252,19 @@ module _ (plan : Plan) (slots : List Slot) (stack : List ℕ) (open_now : IsOpen
             (stands_change plan (heap_of slots) other stack next above (i ∷ []) [] new_kid kid_now stands_now
             (ap cell_of (sym found.is)) agree replaces once
             (refl, all_stored i (λ below. Leads [] below) (there v) found.kids found.others tt)
-            (at_for_at (kid_at above kid_now) found.slot found.slot false (begun_plot found.form found.kids)
-            (begun_plot found.form new) found.is)
-            (λ all. left_put_nth found.form 0 i i (there v) found.kids (omega arith) (λ was. left_value found.form i v) tt
+            (at_for_at (kid_at above kid_now) found.slot found.slot false (begun_plot found.tracker found.kids)
+            (begun_plot found.tracker new) found.is)
+            (λ all. left_put_nth found.tracker 0 i i (there v) found.kids (omega arith) (λ was. left_value found.tracker i v) tt
             (subst (λ (x : Kid). AreLeftRightly x) found.is all))
             (sym (same_front (slots_above (above ++ i ∷ []) kid_now) next top.slot n (sym top.last ∙ last))
-            ∙ above_append above i kid_now stands_now.leads found.slot false (begun_plot found.form found.kids) found.is))
+            ∙ above_append above i kid_now stands_now.leads found.slot false (begun_plot found.tracker found.kids) found.is))
 
         -- each slot in use is that of a place
         all_ended : AllServe other (put_at above new_kid kid_now)
         unfolding kid_now
         all_ended = all_kept_but (heap_of slots) other above new_kid kid_now reach open_now.all from
           where
-            from : (m : ℕ) → IsSome (other m)
-                → IsSome (heap_of slots m) × (uses (kid_at above kid_now) m ≤ uses new_kid m)
+            from : (m : ℕ) → IsSome (other m) → IsSome (heap_of slots m) × (uses (kid_at above kid_now) m ≤ uses new_kid m)
             from m used = go (same_or_other m n)
               where
                 go : (m ≡ n) ⊎ (m ≢ n) → IsSome (heap_of slots m) × (uses (kid_at above kid_now) m ≤ uses new_kid m)
@@ -300,8 +275,7 @@ module _ (plan : Plan) (slots : List Slot) (stack : List ℕ) (open_now : IsOpen
                 go (inr ne) =
                     let was : IsSome (with_slot (heap_of slots) n None m)
                     = used_mapped (with_slot (heap_of slots) n None) found.slot
-                    (λ (x : Node). record x { body = unlinked n i x.body }) m
-                    (used_mapped without_top found.slot
+                    (λ (x : Node). record x { body = unlinked n i x.body }) m (used_mapped without_top found.slot
                     (λ (x : Node). record x { body = with_cell x.body i (given v) }) m
                     (subst (λ (o : Option Node). IsSome o) (shows m) used)) in (
                       subst (λ (o : Option Node). IsSome o) (slot_other (heap_of slots) n None m ne) was,
@@ -330,8 +304,7 @@ module _ (plan : Plan) (slots : List Slot) (stack : List ℕ) (open_now : IsOpen
         stay_put : StayPutBut (above ++ i ∷ []) (kid_here slots stack) (kid_here after next)
         unfolding kid_now
         stay_put =
-            subst (λ (x : Kid). StayPutBut (above ++ i ∷ []) (kid_here slots stack) x)
-            (stands_there (heap_of after) shows
+            subst (λ (x : Kid). StayPutBut (above ++ i ∷ []) (kid_here slots stack) x) (stands_there (heap_of after) shows
             ∙ sym (kid_is plan (heap_of after) next above (put_at above new_kid kid_now) (stands_ended (heap_of after) shows)))
             (stay_but (above ++ i ∷ []) (there v) kid_now top.slot false top.plot reach_top top.is shut)
 
@@ -364,20 +337,17 @@ module _ (plan : Plan) (slots : List Slot) (stack : List ℕ) (open_now : IsOpen
       go (value_of (body_in (top plan slots stack open_now over number way).plot)) refl
       (top_so plan slots stack open_now over number way next n last (λ (x : Node). IsSome (value_of x.body)) complete)
     where
-      go : (value : Option Val)
-          → value_of (body_in (top plan slots stack open_now over number way).plot) ≡ value → IsSome value
+      go : (value : Option Val) → value_of (body_in (top plan slots stack open_now over number way).plot) ≡ value → IsSome value
           → (v : Val) × (value_of (body_in (top plan slots stack open_now over number way).plot) ≡ Some v)
       go (Some v) e some = (v, e)
       go None e some = absurd (cc)
 
-  module _ (after : List Slot)
-      (handed : IfInUse slots n (λ (x : Node). (v : Val) → value_of x.body ≡ Some v
+  module _ (after : List Slot) (handed : IfInUse slots n (λ (x : Node). (v : Val) → value_of x.body ≡ Some v
       → Shows after (gives x.owner v (without (heap_of slots) n x.owner)))) where
     handed_so : (v : Val) → value_of (body_in (top plan slots stack open_now over number way).plot) ≡ Some v
         → Shows after (with_value plan slots stack open_now over number way next n last v)
     handed_so =
-        top_so plan slots stack open_now over number way next n last
-        (λ (x : Node). (v : Val) → value_of x.body ≡ Some v
+        top_so plan slots stack open_now over number way next n last (λ (x : Node). (v : Val) → value_of x.body ≡ Some v
         → Shows after (gives x.owner v (without (heap_of slots) n x.owner))) handed
 
     pub ended_so : (p : ℕ) → IsLast stack p → IfInUse slots p (λ (x : Node). (v : Val) → value_of x.body ≡ Some v
@@ -385,22 +355,15 @@ module _ (plan : Plan) (slots : List Slot) (stack : List ℕ) (open_now : IsOpen
         (change_at (cursor_in slots stack) (λ old. whole v) (tree_in_slots slots stack)))
     ended_so p ends_so =
         let same_slot : n ≡ p = same_last next ends_so.0 n p (sym last ∙ ends_so.1) in
-        subst
-        (λ (m : ℕ). IfInUse slots m (λ (x : Node). (v : Val) → value_of x.body ≡ Some v
+        subst (λ (m : ℕ). IfInUse slots m (λ (x : Node). (v : Val) → value_of x.body ≡ Some v
         → IsOpenAt plan after next (up (cursor_in slots stack))
-        (change_at (cursor_in slots stack) (λ old. whole v) (tree_in_slots slots stack))))
-        same_slot
-        (so_top plan slots stack open_now over number way next n last
-        (λ (x : Node). (v : Val) → value_of x.body ≡ Some v
+        (change_at (cursor_in slots stack) (λ old. whole v) (tree_in_slots slots stack)))) same_slot
+        (so_top plan slots stack open_now over number way next n last (λ (x : Node). (v : Val) → value_of x.body ≡ Some v
         → IsOpenAt plan after next (up (cursor_in slots stack))
-        (change_at (cursor_in slots stack) (λ old. whole v) (tree_in_slots slots stack)))
-        (λ v is.
-        subst
+        (change_at (cursor_in slots stack) (λ old. whole v) (tree_in_slots slots stack))) (λ v is. subst
         (λ (q : Place). IsOpenAt plan after next q (change_at (cursor_in slots stack) (λ old. whole v) (tree_in_slots slots stack)))
-        (sym up_is)
-        (subst
-        (λ (q : Place). IsOpenAt plan after next over (change_at q (λ old. whole v) (tree_in_slots slots stack)))
-        (sym way)
+        (sym up_is) (subst
+        (λ (q : Place). IsOpenAt plan after next over (change_at q (λ old. whole v) (tree_in_slots slots stack))) (sym way)
         (open_ended plan slots stack open_now over number way next n last v is after (handed_so v is)))))
 
     pub stay_ended : IfInUse slots n (λ (x : Node). IsSome (value_of x.body))
@@ -435,6 +398,5 @@ module _ (plan : Plan) (slots : List Slot) (stack : List ℕ) (open_now : IsOpen
       → IfInUse slots n (λ (x : Node). Room (body_occurs x.body) ledger)
   unfolding top_node
   ended_room complete ledger room =
-      top_room plan slots stack open_now n (next, last)
-      (valued_closed (body_in (open_top plan slots stack open_now).plot)
+      top_room plan slots stack open_now n (next, last) (valued_closed (body_in (open_top plan slots stack open_now).plot)
       (first_so plan slots stack open_now n (next, last) (λ (x : Node). IsSome (value_of x.body)) complete)) ledger room

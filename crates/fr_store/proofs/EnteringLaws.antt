@@ -1,35 +1,16 @@
 -- Laws of entering, for proofs: a child of the top gets a slot, and is on top then.
-use Rattle.std.proofs.Common.{◌≡◌, ◌≢◌, ◌⊎◌, ℕ, suc, ◌+◌, ◌<◌, ◌≤◌, Bool, true, false, List, [], ◌∷◌, ◌++◌, append-nil, append_assoc, length, nat_eq, Option, Some, None, inl, inr, refl, sym, ◌∙◌, ap, subst, arith}
-use Rattle.std.specs.Prelude.{IsSome, if◌then◌else◌}
-use Rattle.fr_shape.specs.declared.shape.Def.{Def}
+use Rattle.std.proofs.Common.{◌≡◌, ◌≢◌, ◌⊎◌, ℕ, suc, ◌+◌, ◌<◌, ◌≤◌, Bool, true, false, List, [], ◌∷◌, ◌++◌, append-nil, append_assoc, length, nat_eq, Option, Some, None, inl, inr, refl, sym, ◌∙◌, ap, subst, arith, if◌then◌else◌}
+use Rattle.fr_store.specs.Common.{AllServe, AllStayPut, AreLeftAll, AreLeftIn, AreLeftRightly, Body, Def, FrameOwner, HasChild, Heap, Holds, IsClosed, IsKept, IsLast, IsOpen, IsOpenAt, IsSome, IsStoredChild, IsThere, IsUnplaced, Kid, Kids, Leads, MayHave, MayHaveIts, Node, NodeId, Place, Plan, Plot, Reaches, Replaces, SameTokens, Shows, Slot, Stands, Top, Tracker, Tree, Trees, at, at_for_at, begun, begun_body, begun_plot, body_here, body_in, body_other, cell_of, cells_in, change_at, change_child, child_node, child_owner, child_tree, closed_marked, closed_uses, count_kids, counts_if, counts_other, counts_same, cursor_in, depth_below, depth_limit, enter, entered_plot, fresh_plot, fresh_tree, gone, heap_of, holds_put_nth, hole, is_map, is_map_tracker, kid_at, kid_here, kid_nth, kid_occurs, kid_shown, kids_occur, leads_reach, left_as, left_put_nth, marked, node_along, node_here, nth_put, occurs_put_at, open_at_from, open_top, owner_along, plot_occurs, put_at, put_nth, same_or_other, slot_other, slots_above, slots_along, stands_change, stored_in, there, tokens_kept, top_held, top_slot, tree_at, tree_change_at, tree_here, tree_in, tree_in_slots, tree_of, tree_of_at, tree_of_nth, tree_put_nth, trees_in, uses, uses_among, uses_at, uses_in, uses_nth, uses_put_nth, whole_plot, with_entered}
 use Rattle.fr_shape.specs.Fills.{is_empty_struct}
 use Rattle.fr_shape.specs.Val.{product, no_vals}
-use Rattle.fr_model.specs.Collections.{is_map, is_map_form}
-use Rattle.fr_model.specs.Places.{Place}
-use Rattle.fr_model.specs.Step.{enter}
-use Rattle.fr_model.specs.Tree.{Form, Tree, Trees, child_tree, hole, begun, change_child, tree_at, change_at}
-use Rattle.fr_plan.specs.declared.nodes.NodeId.{NodeId}
-use Rattle.fr_plan.specs.TypePlan.{Plan}
-use Rattle.fr_frame.specs.declared.places.FrameOwner.{FrameOwner}
-use Rattle.fr_frame.specs.declared.places.Slot.{Slot}
-use Rattle.fr_frame.specs.Changes.{SameTokens, Shows}
-use Rattle.fr_frame.specs.Bodies.{Body, begun_body, taken_over, linked, linked_by, IsUnplaced, IsClosed}
-use Rattle.fr_frame.specs.Heap.{heap_of, marked, stored_in, Node, Heap, with_entered, entered_node, links, held_by, depth_below, depth_above, depth_limit}
-use Rattle.fr_frame.specs.Kids.{Kid, gone, there, at, Plot, entered_plot, whole_plot, begun_plot, Kids, MayHave, tree_of, tree_in, cell_of, cells_in, body_in, trees_in, kid_occurs, plot_occurs, kids_occur, child_node, child_owner, Holds, IsThere, AreLeftRightly, AreLeftIn, AreLeftAll}
-use Rattle.fr_store.specs.EnterLaws.{fresh_closed, fresh_plot, fresh_same, fresh_tokens, fresh_tree}
-use Rattle.fr_store.specs.HoldLaws.{Replaces, holds_put_nth, unused}
+use Rattle.fr_frame.specs.Bodies.{taken_over, linked, linked_by}
+use Rattle.fr_frame.specs.Heap.{entered_node, links, held_by, depth_above}
+use Rattle.fr_store.specs.EnterLaws.{fresh_closed, fresh_same, fresh_tokens}
+use Rattle.fr_store.specs.HoldLaws.{unused}
 use Rattle.fr_store.specs.LeaveLaws.{cell_of_child, with_child}
-use Rattle.fr_store.specs.LeftLaws.{at_for_at, left_as, left_put_nth}
-use Rattle.fr_store.specs.MoveLaws.{open_at_from, open_top, tokens_kept, top_slot}
-use Rattle.fr_store.specs.Moves.{HasChild, IsOpenAt, cursor_in, node_here, tree_here, tree_in_slots}
-use Rattle.fr_store.specs.Numbers.{IsLast}
-use Rattle.fr_store.specs.StandLaws.{all_changed, stands_change, AllServe}
-use Rattle.fr_store.specs.Stands.{Stands, IsOpen, kid_here, kid_shown}
-use Rattle.fr_store.specs.Staying.{AllStayPut}
-use Rattle.fr_store.specs.Stored.{IsKept, IsStoredChild}
-use Rattle.fr_store.specs.TopLaws.{MayHaveIts, slot_here, slot_other, body_here, body_other, closed_marked, closed_holds, closed_uses, marked_entered, not_beside, top_held, used_entered, Top}
-use Rattle.fr_store.specs.Ways.{count_kids, kid_nth, kid_at, put_nth, put_at, slots_along, slots_above, counts_if, uses, uses_in, uses_among, Leads, Reaches, node_along, owner_along}
-use Rattle.fr_store.specs.WayLaws.{counts_same, counts_other, same_or_other, nth_put, uses_at, uses_nth, uses_put_nth, occurs_put_nth, occurs_put_at, leads_reach, stored_but, tree_change_at, tree_put_nth, tree_of_nth, tree_of_at}
+use Rattle.fr_store.specs.StandLaws.{all_changed}
+use Rattle.fr_store.specs.TopLaws.{slot_here, closed_holds, marked_entered, not_beside, used_entered}
+use Rattle.fr_store.specs.WayLaws.{occurs_put_nth, stored_but}
 use Rattle.fr_store.proofs.ChildLaws.{child_cell, kids_held, kids_may_have, kids_stored, not_parent, parent_is, part_uses, plot_has, unplaced_child}
 use Rattle.fr_store.proofs.StayLaws.{stay_all, stay_shown, stay_unplaced}
 
@@ -53,8 +34,7 @@ child_tree_is def (at slot stored plot) u = absurd u
 
 child_closed : (def : Def) (k : Kid) → IsClosed (body_in (child_plot def k))
 child_closed def gone = fresh_closed def
-child_closed def (there v) = tt
-child_closed def (at slot stored plot) = tt
+child_closed def _ = tt
 
 child_tokens : (def : Def) (k : Kid) (t : ℕ) → IsUnplaced (cell_of k) → plot_occurs (child_plot def k) t ≡ kid_occurs k t
 child_tokens def gone t u = fresh_tokens def t
@@ -71,24 +51,21 @@ child_may_have def gone = go (is_empty_struct def)
 child_may_have def (there v) = tt
 child_may_have def (at slot stored plot) = tt
 
-linked_child : (form : Form) (i n : ℕ) (ks : Kids) (plot : Plot) → MayHave form (count_kids ks) → i < count_kids ks
+linked_child : (tracker : Tracker) (i n : ℕ) (ks : Kids) (plot : Plot) → MayHave tracker (count_kids ks) → i < count_kids ks
     → IsUnplaced (cell_of (kid_nth i ks))
-    → linked n i (begun_body form (cells_in ks)) ≡ begun_body form (cells_in (put_nth i (at n false plot) ks))
-linked_child form i n ks plot may h unplaced =
-    ap (linked_by n i (begun_body form (cells_in ks))) (cell_of_child form i ks may h)
-    ∙ go (kid_nth i ks) unplaced
+    → linked n i (begun_body tracker (cells_in ks)) ≡ begun_body tracker (cells_in (put_nth i (at n false plot) ks))
+linked_child tracker i n ks plot may h unplaced =
+    ap (linked_by n i (begun_body tracker (cells_in ks))) (cell_of_child tracker i ks may h) ∙ go (kid_nth i ks) unplaced
   where
-    go : (k : Kid) → IsUnplaced (cell_of k)
-        → linked_by n i (begun_body form (cells_in ks)) (Some (cell_of k))
-        ≡ begun_body form (cells_in (put_nth i (at n false plot) ks))
-    go gone u = with_child form i (at n false plot) ks may h
-    go (there v) u = with_child form i (at n false plot) ks may h
+    go : (k : Kid) → IsUnplaced (cell_of k) → linked_by n i (begun_body tracker (cells_in ks)) (Some (cell_of k))
+        ≡ begun_body tracker (cells_in (put_nth i (at n false plot) ks))
+    go gone u = with_child tracker i (at n false plot) ks may h
+    go (there v) u = with_child tracker i (at n false plot) ks may h
     go (at slot stored other) u = absurd u
 
 unplaced_kid : (k : Kid) (n : ℕ) → IsUnplaced (cell_of k) → uses k n ≡ 0
-unplaced_kid gone n u = refl
-unplaced_kid (there v) n u = refl
 unplaced_kid (at slot stored plot) n u = absurd u
+unplaced_kid _ n u = refl
 
 -- what is put at the child's place has no children yet
 child_left : (def : Def) (k : Kid) → AreLeftIn (child_plot def k)
@@ -101,24 +78,22 @@ child_left def (there v) = tt
 child_left def (at slot stored plot) = tt
 
 hole_not_there : (k : Kid) → tree_of k ≡ hole → IsThere k → ⊥
-hole_not_there gone e is = is
 hole_not_there (there v) e is = cc
-hole_not_there (at slot stored plot) e is = is
+hole_not_there _ e is = is
 
 -- Child i of the top, which is in no slot, is entered into slot n, which was free.
 module _ (plan : Plan) (heap other : Heap) (stack : List ℕ) (place : Place) (k : Kid)
-    (stands : Stands plan heap stack place k) (top : Top plan heap stack place k) (form : Form) (kids : Kids)
-    (begun_now : top.plot ≡ begun_plot form kids) (i : ℕ) (within : i < count_kids kids)
+    (stands : Stands plan heap stack place k) (top : Top plan heap stack place k) (tracker : Tracker) (kids : Kids)
+    (begun_now : top.plot ≡ begun_plot tracker kids) (i : ℕ) (within : i < count_kids kids)
     (unplaced : IsUnplaced (cell_of (kid_nth i kids)))
-    (vacant : is_map_form form ≡ true → IsThere (kid_nth i kids) → ⊥) (def : Def) (n : ℕ) (free : heap n ≡ None)
-    (shows : (m : ℕ) → other m ≡ with_entered def heap (child_node plan (node_along plan plan.root place k) form i)
-    (child_owner top.slot i) n m)
-    (limit : depth_below heap (child_owner top.slot i) < depth_limit) where
+    (vacant : is_map_tracker tracker ≡ true → IsThere (kid_nth i kids) → ⊥) (def : Def) (n : ℕ) (free : heap n ≡ None)
+    (shows : (m : ℕ) → other m ≡ with_entered def heap (child_node plan (node_along plan plan.root place k) tracker i)
+    (child_owner top.slot i) n m) (limit : depth_below heap (child_owner top.slot i) < depth_limit) where
   abbrev pub entered_kids : Kids
   entered_kids = put_nth i (at n false (child_plot def (kid_nth i kids))) kids
 
   abbrev pub entered_kid : Kid
-  entered_kid = at top.slot false (begun_plot form entered_kids)
+  entered_kid = at top.slot false (begun_plot tracker entered_kids)
 
   apart : top.slot ≢ n
   apart e = let is = sym top.here ∙ ap heap e ∙ free in cc
@@ -128,34 +103,33 @@ module _ (plan : Plan) (heap other : Heap) (stack : List ℕ) (place : Place) (k
     owner = owner_along FrameOwner.Root place k;
     stored = false;
     depth = length place;
-    body = begun_body form (cells_in entered_kids);
+    body = begun_body tracker (cells_in entered_kids);
   })
   parent_now =
-      shows top.slot
-      ∙ slot_other (links (child_owner top.slot i) n heap) n
-      (Some (entered_node def heap (child_node plan (node_along plan plan.root place k) form i) (child_owner top.slot i)))
+      shows top.slot ∙ slot_other (links (child_owner top.slot i) n heap) n
+      (Some (entered_node def heap (child_node plan (node_along plan plan.root place k) tracker i) (child_owner top.slot i)))
       top.slot apart
       ∙ body_here heap top.slot (linked n i) (record {
         node = node_along plan plan.root place k;
         owner = owner_along FrameOwner.Root place k;
         stored = false;
         depth = length place;
-        body = begun_body form (cells_in kids);
-      }) (parent_is plan heap stack place k stands top form kids begun_now i within)
+        body = begun_body tracker (cells_in kids);
+      }) (parent_is plan heap stack place k stands top tracker kids begun_now i within)
       ∙ ap (λ (b : Body). Some (record {
         node = node_along plan plan.root place k;
         owner = owner_along FrameOwner.Root place k;
         stored = false;
         depth = length place;
         body = b;
-      })) (linked_child form i n kids (child_plot def (kid_nth i kids))
-      (kids_may_have plan heap stack place k stands top form kids begun_now i within) within unplaced)
+      })) (linked_child tracker i n kids (child_plot def (kid_nth i kids))
+      (kids_may_have plan heap stack place k stands top tracker kids begun_now i within) within unplaced)
 
   depth_is : depth_below heap (child_owner top.slot i) ≡ suc (length place)
   depth_is = ap depth_above top.here
 
   child_now : other n ≡ Some (record {
-    node = child_node plan (node_along plan plan.root place k) form i;
+    node = child_node plan (node_along plan plan.root place k) tracker i;
     owner = child_owner top.slot i;
     stored = false;
     depth = suc (length place);
@@ -163,19 +137,18 @@ module _ (plan : Plan) (heap other : Heap) (stack : List ℕ) (place : Place) (k
   })
   child_now =
       let held : held_by heap (child_owner top.slot i) ≡ Some (cell_of (kid_nth i kids))
-      = child_cell plan heap stack place k stands top form kids begun_now i within in
-      shows n
-      ∙ slot_here (links (child_owner top.slot i) n heap) n
-      (Some (entered_node def heap (child_node plan (node_along plan plan.root place k) form i) (child_owner top.slot i)))
+      = child_cell plan heap stack place k stands top tracker kids begun_now i within in
+      shows n ∙ slot_here (links (child_owner top.slot i) n heap) n
+      (Some (entered_node def heap (child_node plan (node_along plan plan.root place k) tracker i) (child_owner top.slot i)))
       ∙ ap (λ (d : ℕ). Some (record {
-        node = child_node plan (node_along plan plan.root place k) form i;
+        node = child_node plan (node_along plan plan.root place k) tracker i;
         owner = child_owner top.slot i;
         stored = false;
         depth = d;
         body = taken_over def (held_by heap (child_owner top.slot i));
       })) depth_is
       ∙ ap (λ (b : Body). Some (record {
-        node = child_node plan (node_along plan plan.root place k) form i;
+        node = child_node plan (node_along plan plan.root place k) tracker i;
         owner = child_owner top.slot i;
         stored = false;
         depth = suc (length place);
@@ -183,18 +156,16 @@ module _ (plan : Plan) (heap other : Heap) (stack : List ℕ) (place : Place) (k
       })) (ap (taken_over def) held ∙ sym (child_body def (kid_nth i kids) unplaced))
 
   part : (m : ℕ) → uses (kid_at place k) m ≡ counts_if (nat_eq top.slot m) + uses_among kids m
-  part m = part_uses plan heap stack place k stands top form kids begun_now i within m
+  part m = part_uses plan heap stack place k stands top tracker kids begun_now i within m
 
   unused_now : uses k n ≡ 0
   unused_now = unused plan heap plan.root FrameOwner.Root 0 k n stands.holds free
 
   elsewhere : (m : ℕ) → m ≢ top.slot → 0 < uses k m → other m ≡ heap m
   elsewhere m ne h =
-      shows m
-      ∙ slot_other (links (child_owner top.slot i) n heap) n
-      (Some (entered_node def heap (child_node plan (node_along plan plan.root place k) form i) (child_owner top.slot i)))
-      m serves
-      ∙ body_other heap top.slot (linked n i) m ne
+      shows m ∙ slot_other (links (child_owner top.slot i) n heap) n
+      (Some (entered_node def heap (child_node plan (node_along plan plan.root place k) tracker i) (child_owner top.slot i)))
+      m serves ∙ body_other heap top.slot (linked n i) m ne
     where
       serves : m ≢ n
       serves e =
@@ -217,23 +188,22 @@ module _ (plan : Plan) (heap other : Heap) (stack : List ℕ) (place : Place) (k
   replaces : Replaces plan heap other (kid_at place k) entered_kid
   replaces node owner depth holds =
       let same = top_held plan heap stack place k stands top node owner depth holds in
-      let child : Holds plan other (child_node plan (node_along plan plan.root place k) form i)
+      let child : Holds plan other (child_node plan (node_along plan plan.root place k) tracker i)
       (child_owner top.slot i) (suc (length place)) (at n false (child_plot def (kid_nth i kids)))
       = (
         child_now,
         subst (λ (d : ℕ). d < depth_limit) depth_is limit,
-        closed_holds plan other (child_node plan (node_along plan plan.root place k) form i) n (suc (suc (length place)))
+        closed_holds plan other (child_node plan (node_along plan plan.root place k) tracker i) n (suc (suc (length place)))
             (child_plot def (kid_nth i kids)) (child_may_have def (kid_nth i kids)) (child_closed def (kid_nth i kids)),
       ) in
       subst (λ (x : Node). Holds plan other x.node x.owner x.depth entered_kid) (sym same) (
         parent_now,
         top.limit,
-        holds_put_nth plan heap other (node_along plan plan.root place k) top.slot form 0 (suc (length place)) kids i i
-            (at n false (child_plot def (kid_nth i kids))) (omega arith)
-            (λ m h. elsewhere m
-            (not_parent plan heap stack place k stands top form kids begun_now i within m (omega arith))
+        holds_put_nth plan heap other (node_along plan plan.root place k) top.slot tracker 0 (suc (length place)) kids i i
+            (at n false (child_plot def (kid_nth i kids))) (omega arith) (λ m h. elsewhere m
+            (not_parent plan heap stack place k stands top tracker kids begun_now i within m (omega arith))
             (omega (arith, part m, uses_at place k m)))
-            (kids_held plan heap stack place k stands top form kids begun_now i within) child,
+            (kids_held plan heap stack place k stands top tracker kids begun_now i within) child,
       )
 
   -- each slot in use is that of a place
@@ -252,14 +222,12 @@ module _ (plan : Plan) (heap other : Heap) (stack : List ℕ) (place : Place) (k
       go m (inl e) =
           let one : counts_if (nat_eq n m) ≡ 1 = ap (λ (y : ℕ). counts_if (nat_eq n y)) e ∙ counts_same n in
           inl (omega (arith, added m, uses_nth i kids m))
-      go m (inr used) =
-          inr (used, omega (arith, added m, part m, unplaced_kid (kid_nth i kids) m unplaced))
+      go m (inr used) = inr (used, omega (arith, added m, part m, unplaced_kid (kid_nth i kids) m unplaced))
 
       from : (m : ℕ) → IsSome (other m)
           → (0 < uses entered_kid m) ⊎ (IsSome (heap m) × (uses (kid_at place k) m ≤ uses entered_kid m))
       from m used =
-          go m
-          (used_entered def heap (child_node plan (node_along plan plan.root place k) form i) (record { 0 = top.slot })
+          go m (used_entered def heap (child_node plan (node_along plan plan.root place k) tracker i) (record { 0 = top.slot })
           i n m (subst (λ (o : Option Node). IsSome o) (shows m) used))
 
   -- no place leaves its slot
@@ -267,46 +235,40 @@ module _ (plan : Plan) (heap other : Heap) (stack : List ℕ) (place : Place) (k
   stay_entered =
       let reach : Reaches place k
       = leads_reach place [] k (subst (λ (p : Place). Leads p k) (sym (append-nil place)) stands.leads) in
-      stay_all place entered_kid k reach
-      (subst (λ (x : Kid). AllStayPut x entered_kid)
+      stay_all place entered_kid k reach (subst (λ (x : Kid). AllStayPut x entered_kid)
       (sym (top.is ∙ ap (λ (p : Plot). at top.slot false p) begun_now))
-      (stay_all (i ∷ []) (at n false (child_plot def (kid_nth i kids))) (at top.slot false (begun_plot form kids)) (within, tt)
+      (stay_all (i ∷ []) (at n false (child_plot def (kid_nth i kids))) (at top.slot false (begun_plot tracker kids)) (within, tt)
       (stay_unplaced (kid_nth i kids) (at n false (child_plot def (kid_nth i kids))) unplaced)))
 
   -- it isn't stored, and it was none of a base
   left : AreLeftRightly (kid_at place k) → AreLeftRightly entered_kid
   left all =
-      let among : AreLeftAll form 0 kids
+      let among : AreLeftAll tracker 0 kids
       = subst (λ (p : Plot). AreLeftIn p) begun_now (subst (λ (x : Kid). AreLeftRightly x) top.is all) in
-      left_put_nth form 0 i i (at n false (child_plot def (kid_nth i kids))) kids (omega arith)
-      (left_as form i (kid_nth i kids) (at n false (child_plot def (kid_nth i kids))) (λ h. refl)
-      (λ h there. absurd (vacant h there)))
-      (child_left def (kid_nth i kids)) among
+      left_put_nth tracker 0 i i (at n false (child_plot def (kid_nth i kids))) kids (omega arith)
+      (left_as tracker i (kid_nth i kids) (at n false (child_plot def (kid_nth i kids))) (λ h. refl)
+      (λ h there. absurd (vacant h there))) (child_left def (kid_nth i kids)) among
 
   pub stands_entered : Stands plan other (stack ++ n ∷ []) (place ++ i ∷ []) (put_at place entered_kid k)
   stands_entered =
       let longer : Stands plan heap stack (place ++ []) k
       = subst (λ (p : Place). Stands plan heap stack p k) (sym (append-nil place)) stands in
-      stands_change plan heap other stack (stack ++ n ∷ []) place [] (i ∷ []) entered_kid k longer
-      (ap cell_of (sym top.is))
+      stands_change plan heap other stack (stack ++ n ∷ []) place [] (i ∷ []) entered_kid k longer (ap cell_of (sym top.is))
       (λ m h. elsewhere m (not_beside plan heap stack place k stands top m h) (omega arith)) replaces once (
         refl,
         stored_but i (λ below. Leads [] below) (at n false (child_plot def (kid_nth i kids))) kids within
-            (kids_stored plan heap stack place k stands top form kids begun_now i within)
+            (kids_stored plan heap stack place k stands top tracker kids begun_now i within)
             (refl, closed_marked true (child_plot def (kid_nth i kids)) (child_closed def (kid_nth i kids))),
-      )
-      (at_for_at (kid_at place k) top.slot top.slot false top.plot (begun_plot form entered_kids) top.is) left
+      ) (at_for_at (kid_at place k) top.slot top.slot false top.plot (begun_plot tracker entered_kids) top.is) left
       (ap (λ (s : List ℕ). s ++ n ∷ []) top.last ∙ append_assoc (slots_above place k) (top.slot ∷ []) (n ∷ [])
       ∙ ap (λ (x : Kid). slots_above place k ++ top.slot ∷ slots_along [] x)
       (sym (nth_put i (at n false (child_plot def (kid_nth i kids))) kids within)))
 
-  pub tree_entered : tree_of (put_at place entered_kid k)
-      ≡ change_at place (change_child i (enter def)) (tree_of k)
+  pub tree_entered : tree_of (put_at place entered_kid k) ≡ change_at place (change_child i (enter def)) (tree_of k)
   tree_entered =
-      let before : tree_at place (tree_of k) ≡ begun form (trees_in kids)
+      let before : tree_at place (tree_of k) ≡ begun tracker (trees_in kids)
       = sym (tree_of_at place k) ∙ ap tree_of top.is ∙ ap tree_in begun_now in
-      tree_change_at place (change_child i (enter def)) entered_kid k
-      (ap (λ (ts : Trees). begun form ts)
+      tree_change_at place (change_child i (enter def)) entered_kid k (ap (λ (ts : Trees). begun tracker ts)
       (tree_put_nth i (at n false (child_plot def (kid_nth i kids))) (enter def) kids
       (child_tree_is def (kid_nth i kids) unplaced ∙ ap (enter def) (tree_of_nth i kids)))
       ∙ ap (change_child i (enter def)) (sym before))
@@ -318,96 +280,67 @@ module _ (plan : Plan) (heap other : Heap) (stack : List ℕ) (place : Place) (k
       let now = occurs_put_nth i (at n false (child_plot def (kid_nth i kids))) kids t within in
       let reach : Reaches place k
       = leads_reach place [] k (subst (λ (p : Place). Leads p k) (sym (append-nil place)) stands.leads) in
-      omega
-      (arith, was, now, occurs_put_at place entered_kid k t reach, child_tokens def (kid_nth i kids) t unplaced)
+      omega (arith, was, now, occurs_put_at place entered_kid k t reach, child_tokens def (kid_nth i kids) t unplaced)
 
 -- A child of an open builder's top that isn't stored is entered.
 module _ (plan : Plan) (before : List Slot) (stack : List ℕ) (open_now : IsOpen plan before stack) (p : ℕ)
     (last : IsLast stack p) where
-  pub open_entered : (after : List Slot) (next : List ℕ) (form : Form) (i : ℕ) (def : Def) (n : ℕ) (node : NodeId)
-      → HasChild form i (tree_here before stack)
+  pub open_entered : (after : List Slot) (next : List ℕ) (tracker : Tracker) (i : ℕ) (def : Def) (n : ℕ) (node : NodeId)
+      → HasChild tracker i (tree_here before stack)
       → (is_map (tree_here before stack) ≡ true → child_tree i (tree_here before stack) ≡ hole)
-      → node ≡ child_node plan (node_here plan before stack) form i
+      → node ≡ child_node plan (node_here plan before stack) tracker i
       → ((child : ℕ) → IsStoredChild (heap_of before) p i child → ⊥) → heap_of before n ≡ None
       → Shows after (with_entered def (heap_of before) node (child_owner p i) n)
-      → depth_below (heap_of before) (child_owner p i) < depth_limit → SameTokens before after
-      → next ≡ stack ++ n ∷ []
+      → depth_below (heap_of before) (child_owner p i) < depth_limit → SameTokens before after → next ≡ stack ++ n ∷ []
       → IsOpenAt plan after next (cursor_in before stack ++ i ∷ [])
       (change_at (cursor_in before stack) (change_child i (enter def)) (tree_in_slots before stack))
       × AllStayPut (kid_here before stack) (kid_here after next)
-  open_entered after next form i def n node has map_hole is none free shows limit tokens along =
+  open_entered after next tracker i def n node has map_hole is none free shows limit tokens along =
       let place : Place = cursor_in before stack in
       let k : Kid = kid_shown (heap_of before) stack in
       let top = open_top plan before stack open_now in
       let same : top.slot ≡ p = top_slot plan before stack open_now p last in
-      let here : HasChild form i (tree_in top.plot)
-      = subst (λ (t : Tree). HasChild form i t) (sym (tree_of_at place k) ∙ ap tree_of top.is) has in
-      let found = plot_has form i top.plot here in
+      let here : HasChild tracker i (tree_in top.plot)
+      = subst (λ (t : Tree). HasChild tracker i t) (sym (tree_of_at place k) ∙ ap tree_of top.is) has in
+      let found = plot_has tracker i top.plot here in
       let unplaced : IsUnplaced (cell_of (kid_nth i found.0))
-      = unplaced_child plan (heap_of before) stack place k open_now.stands top form found.0 found.1 i found.2
+      = unplaced_child plan (heap_of before) stack place k open_now.stands top tracker found.0 found.1 i found.2
       (subst (λ (x : ℕ). (child : ℕ) → IsStoredChild (heap_of before) x i child → ⊥) (sym same) none) in
-      let began : tree_here before stack ≡ begun form (trees_in found.0)
+      let began : tree_here before stack ≡ begun tracker (trees_in found.0)
       = sym (tree_of_at place k) ∙ ap tree_of top.is ∙ ap tree_in found.1 in
-      let vacant : is_map_form form ≡ true → IsThere (kid_nth i found.0) → ⊥
+      let vacant : is_map_tracker tracker ≡ true → IsThere (kid_nth i found.0) → ⊥
       = λ of_map there. hole_not_there (kid_nth i found.0)
       (tree_of_nth i found.0 ∙ ap (child_tree i) (sym began) ∙ map_hole (ap is_map began ∙ of_map)) there in
       let shown : (m : ℕ) → heap_of after m
-      ≡ with_entered def (heap_of before) (child_node plan (node_along plan plan.root place k) form i)
+      ≡ with_entered def (heap_of before) (child_node plan (node_along plan plan.root place k) tracker i)
       (child_owner top.slot i) n m
-      = λ m. shows m
-      ∙ ap (λ (x : NodeId). with_entered def (heap_of before) x (child_owner p i) n m) is
+      = λ m. shows m ∙ ap (λ (x : NodeId). with_entered def (heap_of before) x (child_owner p i) n m) is
       ∙ ap (λ (x : ℕ). with_entered def (heap_of before)
-      (child_node plan (node_along plan plan.root place k) form i) (child_owner x i) n m) (sym same) in
+      (child_node plan (node_along plan plan.root place k) tracker i) (child_owner x i) n m) (sym same) in
       let deep : depth_below (heap_of before) (child_owner top.slot i) < depth_limit
       = subst (λ (x : ℕ). depth_below (heap_of before) (child_owner x i) < depth_limit) (sym same) limit in
       let now : Kid = put_at place
-      (entered_kid plan (heap_of before) (heap_of after) stack place k open_now.stands top form found.0 found.1 i
+      (entered_kid plan (heap_of before) (heap_of after) stack place k open_now.stands top tracker found.0 found.1 i
       found.2 unplaced vacant def n free shown deep) k in
       let stands : Stands plan (heap_of after) (stack ++ n ∷ []) (place ++ i ∷ []) now
-      = stands_entered plan (heap_of before) (heap_of after) stack place k open_now.stands top form found.0 found.1 i
+      = stands_entered plan (heap_of before) (heap_of after) stack place k open_now.stands top tracker found.0 found.1 i
       found.2 unplaced vacant def n free shown deep in
       let same_tokens : (t : ℕ) → kid_occurs now t ≡ kid_occurs k t
-      = tokens_entered plan (heap_of before) (heap_of after) stack place k open_now.stands top form found.0 found.1 i
+      = tokens_entered plan (heap_of before) (heap_of after) stack place k open_now.stands top tracker found.0 found.1 i
       found.2 unplaced vacant def n free shown deep in
       let all : AllServe (heap_of after) now
-      = all_entered plan (heap_of before) (heap_of after) stack place k open_now.stands top form found.0 found.1 i
+      = all_entered plan (heap_of before) (heap_of after) stack place k open_now.stands top tracker found.0 found.1 i
       found.2 unplaced vacant def n free shown deep open_now.all in
       let tree : tree_of now ≡ change_at place (change_child i (enter def)) (tree_of k)
-      = tree_entered plan (heap_of before) (heap_of after) stack place k open_now.stands top form found.0 found.1 i
+      = tree_entered plan (heap_of before) (heap_of after) stack place k open_now.stands top tracker found.0 found.1 i
       found.2 unplaced vacant def n free shown deep in
       let stay : AllStayPut k now
-      = stay_entered plan (heap_of before) (heap_of after) stack place k open_now.stands top form found.0 found.1 i
+      = stay_entered plan (heap_of before) (heap_of after) stack place k open_now.stands top tracker found.0 found.1 i
       found.2 unplaced vacant def n free shown deep in
-      subst
-      (λ (s : List ℕ). IsOpenAt plan after s (place ++ i ∷ [])
+      subst (λ (s : List ℕ). IsOpenAt plan after s (place ++ i ∷ [])
       (change_at place (change_child i (enter def)) (tree_of k)) × AllStayPut k (kid_here after s)) (sym along) (
         open_at_from plan after (stack ++ n ∷ []) (place ++ i ∷ []) now
             (change_at place (change_child i (enter def)) (tree_of k)) stands
             (tokens_kept before after k now tokens open_now.tokens same_tokens) all tree,
         stay_shown plan after (stack ++ n ∷ []) (place ++ i ∷ []) now k stands stay,
       )
-
-  -- the same, of slots that are those
-  pub open_entered_from : (mid after : List Slot) (next : List ℕ) (form : Form) (i : ℕ) (def : Def) (n : ℕ) (node : NodeId)
-      → mid ≡ before → HasChild form i (tree_here before stack)
-      → (is_map (tree_here before stack) ≡ true → child_tree i (tree_here before stack) ≡ hole) → node ≡ child_node plan (node_here plan before stack) form i
-      → ((child : ℕ) → IsStoredChild (heap_of before) p i child → ⊥) → heap_of mid n ≡ None
-      → Shows after (with_entered def (heap_of mid) node (child_owner p i) n)
-      → depth_below (heap_of mid) (child_owner p i) < depth_limit → SameTokens mid after → next ≡ stack ++ n ∷ []
-      → IsOpenAt plan after next (cursor_in before stack ++ i ∷ [])
-      (change_at (cursor_in before stack) (change_child i (enter def)) (tree_in_slots before stack))
-      × AllStayPut (kid_here before stack) (kid_here after next)
-  open_entered_from mid after next form i def n node same has map_hole is none free shows limit tokens along =
-      open_entered after next form i def n node has map_hole is none (subst (λ (s : List Slot). heap_of s n ≡ None) same free)
-      (subst (λ (s : List Slot). Shows after (with_entered def (heap_of s) node (child_owner p i) n)) same shows)
-      (subst (λ (s : List Slot). depth_below (heap_of s) (child_owner p i) < depth_limit) same limit)
-      (subst (λ (s : List Slot). SameTokens s after) same tokens) along
-
--- no place is stored that wasn't
-pub kept_entered : (store : List ℕ) (before after : List Slot) (def : Def) (node : NodeId) (owner : FrameOwner) (n : ℕ)
-    → IsKept store before → heap_of before n ≡ None → Shows after (with_entered def (heap_of before) node owner n)
-    → IsKept store after
-kept_entered store before after def node owner n kept free shows m =
-    let same : marked (heap_of after) m ≡ marked (heap_of before) m
-    = ap stored_in (shows m) ∙ marked_entered def (heap_of before) node owner n m free in
-    (λ stored. (kept m).0 (sym same ∙ stored), λ listed. same ∙ (kept m).1 listed)

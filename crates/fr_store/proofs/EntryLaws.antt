@@ -1,58 +1,35 @@
 -- Laws of entries, for proofs: the entry of a key of the dynamic object on top gets a slot, and is on top then. It is one that is there,
 -- or a new one behind the others, so that the object has one more key.
-use Rattle.std.proofs.Common.{◌≡◌, ℕ, zero, suc, ◌<◌, true, false, Bool, List, [], ◌∷◌, ◌++◌, length, option_map, Option, Some, None, refl, sym, ◌∙◌, ap, subst, arith}
-use Rattle.std.specs.Prelude.{if◌then◌else◌}
+use Rattle.std.proofs.Common.{◌≡◌, ℕ, zero, suc, ◌<◌, true, false, Bool, List, [], ◌∷◌, ◌++◌, length, option_map, Option, Some, None, refl, sym, ◌∙◌, ap, subst, arith, if◌then◌else◌}
+use Rattle.fr_store.specs.Common.{AllMarkedAmong, AllMarkedIn, AllStayPut, AreLeftAll, AreLeftIn, AreLeftRightly, AreUnplaced, ContentKind, Def, EntriesKind, HasTracker, Heap, HoldsAll, IfInUse, IsLast, IsOpen, IsOpenAt, IsUnplaced, ItemsKind, Kid, Kids, Node, NodeId, Plan, Plot, SameMarks, SameTokens, Shows, Slot, Tracker, Tree, and_last, as_content, as_elements, as_entries, as_fields, as_items, at, begun, begun_body, begun_plot, cell_of, cells_count, cells_in, change_at, child_owner, count_here, count_kids, cursor_in, depth_below, depth_limit, enter, fresh_plot, fresh_tree, gone, heap_of, keeps_same, kid, kid_here, kid_nth, left_at, no_kids, node_here, open_top, there, tree_here, tree_in_slots, tree_of_nth, tree_put_nth, trees_in, with_body, with_entered}
 use Rattle.std.specs.Str.{bytes_eq}
-use Rattle.fr_shape.specs.declared.shape.Def.{Def}
-use Rattle.fr_model.specs.DynamicPlaces.{entry_found, is_begun_object, is_object_form, keys_here, number_or_last}
+use Rattle.fr_model.specs.DynamicPlaces.{entry_found, is_begun_object, is_object_tracker, keys_here, number_or_last}
 use Rattle.fr_model.specs.Dynamics.{keys_apart}
-use Rattle.fr_model.specs.Step.{enter}
-use Rattle.fr_model.specs.Tree.{Form, as_struct, as_array, as_variant, as_some, as_ok, as_err, as_pointer, as_list, as_slice, as_closed_slice, as_set, as_map, as_dyn_array, as_dyn_object, keys_of_form, Tree, begun, and_last, change_at}
-use Rattle.fr_plan.specs.declared.nodes.NodeId.{NodeId}
-use Rattle.fr_plan.specs.TypePlan.{Plan}
-use Rattle.fr_frame.specs.declared.places.Slot.{Slot}
-use Rattle.fr_frame.specs.Bodies.{begun_body, keys_in, with_entry_for, with_entry_unless as body_unless, AreUnplaced, IsObjectBody, IsUnplaced}
-use Rattle.fr_frame.specs.Changes.{IfInUse, SameMarks, SameTokens, Shows}
-use Rattle.fr_frame.specs.Heap.{Node, Heap, depth_below, depth_limit, entry_owner, heap_of, with_body, with_entered}
-use Rattle.fr_frame.specs.Kids.{Kid, gone, there, at, Plot, begun_plot, Kids, no_kids, kid, trees_in, cell_of, cells_in, child_owner, HoldsAll, AreLeftRightly, AreLeftAll, AreLeftIn}
-use Rattle.fr_store.specs.EnterLaws.{fresh_plot, fresh_tree}
-use Rattle.fr_store.specs.LeftLaws.{left_at}
-use Rattle.fr_store.specs.MoveLaws.{open_top}
-use Rattle.fr_store.specs.Moves.{HasForm, IsOpenAt, count_here, cursor_in, entry_here, node_here, tree_here, tree_in_slots, with_entry_of, with_entry_unless}
-use Rattle.fr_store.specs.Numbers.{IsLast}
-use Rattle.fr_store.specs.Stands.{IsOpen, kid_here}
-use Rattle.fr_store.specs.Staying.{AllStayPut}
-use Rattle.fr_store.specs.TopLaws.{cells_count, keeps_same}
-use Rattle.fr_store.specs.Ways.{count_kids, kid_nth, AllMarkedIn, AllMarkedAmong}
-use Rattle.fr_store.specs.WayLaws.{tree_put_nth, tree_of_nth}
+use Rattle.fr_model.specs.Trackers.{keys_of_tracker}
+use Rattle.fr_frame.specs.Bodies.{keys_in, with_entry_for, with_entry_unless as body_unless, IsObjectBody}
+use Rattle.fr_frame.specs.Heap.{entry_owner}
+use Rattle.fr_store.specs.Moves.{with_entry_of, with_entry_unless}
 use Rattle.fr_store.proofs.EnteringLaws.{child_plot, child_tree_is}
 use Rattle.fr_store.proofs.ItemLaws.{Grows, counted, formed, formed_here, gone_unplaced, grown_stay, holds_and_last, kids_and_last, left_and_last, marked_and_last, marks_item, nth_last, occurs_and_last, open_item, put_last, tree_vacant, trees_and_last, uses_and_last, cells_and_last, count_and_last}
 use Rattle.fr_store.proofs.StayLaws.{stay_same}
 
+-- the number of the entry of a key, of the object at which the builder works
+abbrev entry_here : (key : List ℕ) → List Slot → List ℕ → ℕ
+entry_here key slots stack = number_or_last (entry_found key (keys_here (tree_here slots stack))) (count_here slots stack)
+
 -- Objects.
 
-object_formed : (t : Tree) → is_begun_object t ≡ true → (keys : List (List ℕ)) × HasForm (as_dyn_object keys) t
-object_formed (begun form ts) of_object = go form of_object
+pub object_tracker : (t : Tree) → is_begun_object t ≡ true → (keys : List (List ℕ)) × HasTracker (as_entries (EntriesKind.Object keys)) t
+object_tracker (begun tracker ts) of_object = go tracker of_object
   where
-    go : (form : Form) → is_object_form form ≡ true → (keys : List (List ℕ)) × (form ≡ as_dyn_object keys)
-    go (as_dyn_object keys) of_object = (keys, refl)
-    go as_struct of_object = absurd (cc)
-    go as_array of_object = absurd (cc)
-    go (as_variant k) of_object = absurd (cc)
-    go as_some of_object = absurd (cc)
-    go as_ok of_object = absurd (cc)
-    go as_err of_object = absurd (cc)
-    go as_pointer of_object = absurd (cc)
-    go as_list of_object = absurd (cc)
-    go as_slice of_object = absurd (cc)
-    go as_closed_slice of_object = absurd (cc)
-    go as_set of_object = absurd (cc)
-    go (as_map base) of_object = absurd (cc)
-    go as_dyn_array of_object = absurd (cc)
-object_formed _ of_object = absurd (cc)
+    go : (tracker : Tracker) → is_object_tracker tracker ≡ true → (keys : List (List ℕ)) × (tracker ≡ as_entries (EntriesKind.Object keys))
+    go (as_entries (EntriesKind.Object keys)) of_object = (keys, refl)
+    go (as_entries (EntriesKind.Map base)) of_object = absurd (cc)
+    go _ of_object = absurd (cc)
+object_tracker _ of_object = absurd (cc)
 
-keys_formed : (keys : List (List ℕ)) (t : Tree) → HasForm (as_dyn_object keys) t → keys_here t ≡ keys
-keys_formed keys (begun form ts) has = ap keys_of_form has
+keys_formed : (keys : List (List ℕ)) (t : Tree) → HasTracker (as_entries (EntriesKind.Object keys)) t → keys_here t ≡ keys
+keys_formed keys (begun tracker ts) has = ap keys_of_tracker has
 keys_formed keys _ has = absurd has
 
 -- an entry that is found is there
@@ -68,7 +45,7 @@ found_within key (other ∷ keys) i e =
     go false None i is rest = absurd (cc)
 
 -- no entry is stored, so that off the way none is in a slot
-entries_unplaced : (keys : List (List ℕ)) (i : ℕ) (ks : Kids) → AllMarkedAmong true ks → AreLeftAll (as_dyn_object keys) i ks
+entries_unplaced : (keys : List (List ℕ)) (i : ℕ) (ks : Kids) → AllMarkedAmong true ks → AreLeftAll (as_entries (EntriesKind.Object keys)) i ks
     → AreUnplaced (cells_in ks)
 entries_unplaced keys i no_kids marks left = tt
 entries_unplaced keys i (kid gone ks) marks left = (tt, entries_unplaced keys (suc i) ks marks.1 left.2)
@@ -85,108 +62,102 @@ unplaced_nth (suc i) (kid k ks) closed = unplaced_nth i ks closed.1
 -- With another key the children are what they were: each is built by the node of the object itself, whatever the keys.
 
 holds_keys : (plan : Plan) (heap : Heap) (node : NodeId) (slot : ℕ) (keys more : List (List ℕ)) (i depth : ℕ) (ks : Kids)
-    → HoldsAll plan heap node slot (as_dyn_object keys) i depth ks → HoldsAll plan heap node slot (as_dyn_object more) i depth ks
+    → HoldsAll plan heap node slot (as_entries (EntriesKind.Object keys)) i depth ks → HoldsAll plan heap node slot (as_entries (EntriesKind.Object more)) i depth ks
 holds_keys plan heap node slot keys more i depth no_kids holds = tt
 holds_keys plan heap node slot keys more i depth (kid k ks) holds =
     (holds.0, holds_keys plan heap node slot keys more (suc i) depth ks holds.1)
 
-left_keys : (keys more : List (List ℕ)) (i : ℕ) (ks : Kids) → AreLeftAll (as_dyn_object keys) i ks
-    → AreLeftAll (as_dyn_object more) i ks
+left_keys : (keys more : List (List ℕ)) (i : ℕ) (ks : Kids) → AreLeftAll (as_entries (EntriesKind.Object keys)) i ks
+    → AreLeftAll (as_entries (EntriesKind.Object more)) i ks
 left_keys keys more i no_kids left = omega arith
 left_keys keys more i (kid k ks) left = (left.0, left.1, left_keys keys more (suc i) ks left.2)
 
 -- The entry of a key that it has.
 entry_grows : (key : List ℕ) (keys : List (List ℕ)) (kids : Kids) (i : ℕ) → entry_found key keys ≡ Some i → i < count_kids kids
     → AreUnplaced (cells_in kids)
-    → Grows (as_dyn_object keys) (as_dyn_object keys) kids kids i (with_entry_for key) (λ def. with_entry_of def key)
+    → Grows (as_entries (EntriesKind.Object keys)) (as_entries (EntriesKind.Object keys)) kids kids i (with_entry_for key) (λ def. with_entry_of def key)
 entry_grows key keys kids i is within closed = record {
-  body = sym (ap (body_unless key (as_dyn_object keys) (cells_in kids)) is);
-  keeps = keeps_same (begun_plot (as_dyn_object keys) kids);
-  stay = λ slot. stay_same (at slot false (begun_plot (as_dyn_object keys) kids));
+  body = sym (ap (body_unless key (as_entries (EntriesKind.Object keys)) (cells_in kids)) is);
+  keeps = keeps_same (begun_plot (as_entries (EntriesKind.Object keys)) kids);
+  stay = λ slot. stay_same (at slot false (begun_plot (as_entries (EntriesKind.Object keys)) kids));
   used = λ n. refl;
   occurs = λ t. refl;
   within = within;
   unplaced = unplaced_nth i kids closed;
   vacant = λ of_map. absurd (cc);
-  tree = λ n def.
-      ap (begun (as_dyn_object keys))
+  tree = λ n def. ap (begun (as_entries (EntriesKind.Object keys)))
       (tree_put_nth i (at n false (child_plot def (kid_nth i kids))) (enter def) kids
       (child_tree_is def (kid_nth i kids) (unplaced_nth i kids closed) ∙ ap (enter def) (tree_of_nth i kids)))
-      ∙ sym (ap (with_entry_unless def key (as_dyn_object keys) (trees_in kids)) is);
+      ∙ sym (ap (with_entry_unless def key (as_entries (EntriesKind.Object keys)) (trees_in kids)) is);
 }
 
 -- A new one.
 new_entry_grows : (key : List ℕ) (keys : List (List ℕ)) (kids : Kids) → entry_found key keys ≡ None
-    → Grows (as_dyn_object keys) (as_dyn_object (keys ++ key ∷ [])) kids (kids_and_last kids gone) (count_kids kids)
+    → Grows (as_entries (EntriesKind.Object keys)) (as_entries (EntriesKind.Object (keys ++ key ∷ []))) kids (kids_and_last kids gone) (count_kids kids)
     (with_entry_for key) (λ def. with_entry_of def key)
 new_entry_grows key keys kids is = record {
   body =
-      ap (begun_body (as_dyn_object (keys ++ key ∷ []))) (cells_and_last kids)
-      ∙ sym (ap (body_unless key (as_dyn_object keys) (cells_in kids)) is);
+      ap (begun_body (as_entries (EntriesKind.Object (keys ++ key ∷ [])))) (cells_and_last kids)
+      ∙ sym (ap (body_unless key (as_entries (EntriesKind.Object keys)) (cells_in kids)) is);
   keeps = record {
     marked = λ h. marked_and_last kids h;
     once = λ n. omega (arith, uses_and_last kids n);
     holds = λ plan heap node slot depth h.
-        holds_and_last plan heap node slot (as_dyn_object (keys ++ key ∷ [])) 0 depth kids (λ count. tt)
+        holds_and_last plan heap node slot (as_entries (EntriesKind.Object (keys ++ key ∷ []))) 0 depth kids (λ count. tt)
         (holds_keys plan heap node slot keys (keys ++ key ∷ []) 0 depth kids h);
-    left = λ h. left_and_last (as_dyn_object (keys ++ key ∷ [])) 0 kids (left_keys keys (keys ++ key ∷ []) 0 kids h);
+    left = λ h. left_and_last (as_entries (EntriesKind.Object (keys ++ key ∷ []))) 0 kids (left_keys keys (keys ++ key ∷ []) 0 kids h);
   };
-  stay = λ slot. grown_stay slot (as_dyn_object keys) (as_dyn_object (keys ++ key ∷ [])) kids;
+  stay = λ slot. grown_stay slot (as_entries (EntriesKind.Object keys)) (as_entries (EntriesKind.Object (keys ++ key ∷ []))) kids;
   used = uses_and_last kids;
   occurs = occurs_and_last kids;
   within = omega (arith, count_and_last kids gone);
   unplaced = gone_unplaced (kid_nth (count_kids kids) (kids_and_last kids gone)) (nth_last kids gone);
   vacant = λ of_map. absurd (cc);
   tree = λ n def.
-      tree_vacant (as_dyn_object (keys ++ key ∷ [])) (count_kids kids) (kids_and_last kids gone) n def (nth_last kids gone)
-      ∙ ap (λ (ks : Kids). begun (as_dyn_object (keys ++ key ∷ [])) (trees_in ks)) (put_last kids gone (at n false (fresh_plot def)))
-      ∙ ap (begun (as_dyn_object (keys ++ key ∷ []))) (trees_and_last kids (at n false (fresh_plot def)))
-      ∙ ap (λ (t : Tree). begun (as_dyn_object (keys ++ key ∷ [])) (and_last (trees_in kids) t)) (fresh_tree def)
-      ∙ sym (ap (with_entry_unless def key (as_dyn_object keys) (trees_in kids)) is);
+      tree_vacant (as_entries (EntriesKind.Object (keys ++ key ∷ []))) (count_kids kids) (kids_and_last kids gone) n def (nth_last kids gone)
+      ∙ ap (λ (ks : Kids). begun (as_entries (EntriesKind.Object (keys ++ key ∷ []))) (trees_in ks)) (put_last kids gone (at n false (fresh_plot def)))
+      ∙ ap (begun (as_entries (EntriesKind.Object (keys ++ key ∷ [])))) (trees_and_last kids (at n false (fresh_plot def)))
+      ∙ ap (λ (t : Tree). begun (as_entries (EntriesKind.Object (keys ++ key ∷ []))) (and_last (trees_in kids) t)) (fresh_tree def)
+      ∙ sym (ap (with_entry_unless def key (as_entries (EntriesKind.Object keys)) (trees_in kids)) is);
 }
 
 -- As the calls say it.
 module _ (plan : Plan) (before : List Slot) (stack : List ℕ) (open_now : IsOpen plan before stack) (p : ℕ) (last : IsLast stack p)
     (of_object : is_begun_object (tree_here before stack) ≡ true) where
   abbrev keys : List (List ℕ)
-  keys = (object_formed (tree_here before stack) of_object).0
+  keys = (object_tracker (tree_here before stack) of_object).0
 
-  has_object : HasForm (as_dyn_object keys) (tree_here before stack)
-  has_object = (object_formed (tree_here before stack) of_object).1
+  has_object : HasTracker (as_entries (EntriesKind.Object keys)) (tree_here before stack)
+  has_object = (object_tracker (tree_here before stack) of_object).1
 
   keys_are : keys_here (tree_here before stack) ≡ keys
   keys_are = keys_formed keys (tree_here before stack) has_object
 
   abbrev its : Kids
-  its = (formed plan before stack open_now p last (as_dyn_object keys) has_object).0
+  its = (formed plan before stack open_now p last (as_entries (EntriesKind.Object keys)) has_object).0
 
-  its_plot : (open_top plan before stack open_now).plot ≡ begun_plot (as_dyn_object keys) its
-  its_plot = (formed plan before stack open_now p last (as_dyn_object keys) has_object).1
+  its_plot : (open_top plan before stack open_now).plot ≡ begun_plot (as_entries (EntriesKind.Object keys)) its
+  its_plot = (formed plan before stack open_now p last (as_entries (EntriesKind.Object keys)) has_object).1
 
   count_is : count_here before stack ≡ count_kids its
-  count_is = counted plan before stack open_now p last (as_dyn_object keys) has_object
+  count_is = counted plan before stack open_now p last (as_entries (EntriesKind.Object keys)) has_object
 
-  pub object_parent : IfInUse before p (λ (found : Node). IsObjectBody found.body)
-  object_parent = formed_here plan before stack open_now p last (as_dyn_object keys) has_object IsObjectBody refl
-
-  pub object_apart : keys_apart (keys_here (tree_here before stack)) ≡ true
-      → IfInUse before p (λ (found : Node). keys_apart (keys_in found.body) ≡ true)
-  object_apart apart =
-      formed_here plan before stack open_now p last (as_dyn_object keys) has_object (λ body. keys_apart (keys_in body) ≡ true)
-      (ap keys_apart (sym keys_are) ∙ apart)
+  pub object_here : keys_apart (keys_here (tree_here before stack)) ≡ true
+      → IfInUse before p (λ (found : Node). IsObjectBody found.body × (keys_apart (keys_in found.body) ≡ true))
+  object_here apart =
+      formed_here plan before stack open_now p last (as_entries (EntriesKind.Object keys)) has_object
+      (λ body. IsObjectBody body × (keys_apart (keys_in body) ≡ true)) (refl, ap keys_apart (sym keys_are) ∙ apart)
 
   its_unplaced : AreUnplaced (cells_in its)
   its_unplaced =
       let top = open_top plan before stack open_now in
-      entries_unplaced keys 0 its
-      (subst (λ (plot : Plot). AllMarkedIn true plot) its_plot top.stored)
+      entries_unplaced keys 0 its (subst (λ (plot : Plot). AllMarkedIn true plot) its_plot top.stored)
       (subst (λ (plot : Plot). AreLeftIn plot) its_plot
       (subst (λ (x : Kid). AreLeftRightly x) top.is (left_at (cursor_in before stack) (kid_here before stack) open_now.stands.left)))
 
   module _ (many : length (keys_here (tree_here before stack)) ≡ count_here before stack) (key : List ℕ) (after : List Slot)
       (next : List ℕ) (def : Def) (n : ℕ) (node : NodeId) (is : node ≡ node_here plan before stack)
-      (vacant : heap_of before n ≡ None)
-      (shows : IfInUse before p (λ (found : Node). Shows after
+      (vacant : heap_of before n ≡ None) (shows : IfInUse before p (λ (found : Node). Shows after
       (with_entered def (with_body (heap_of before) p (with_entry_for key)) node (entry_owner p key found.body) n)))
       (limit : IfInUse before p (λ (found : Node). depth_below (heap_of before) (entry_owner p key found.body) < depth_limit))
       (tokens : SameTokens before after) (along : next ≡ stack ++ n ∷ []) where
@@ -195,31 +166,29 @@ module _ (plan : Plan) (before : List Slot) (stack : List ℕ) (open_now : IsOpe
     EntersAt i =
         (IsOpenAt plan after next (cursor_in before stack ++ i ∷ [])
         (change_at (cursor_in before stack) (with_entry_of def key) (tree_in_slots before stack))
-        × AllStayPut (kid_here before stack) (kid_here after next))
-        × SameMarks before after
+        × AllStayPut (kid_here before stack) (kid_here after next)) × SameMarks before after
 
     enters : (found : Option ℕ) → entry_found key keys ≡ found → EntersAt (number_or_last found (count_kids its))
     enters (Some i) e =
-        let within : i < count_kids its
-        = omega (arith, found_within key keys i e, ap length keys_are, many, count_is) in
+        let within : i < count_kids its = omega (arith, found_within key keys i e, ap length keys_are, many, count_is) in
         let grows = entry_grows key keys its i e within its_unplaced in
-        let owner_is : entry_owner p key (begun_body (as_dyn_object keys) (cells_in its)) ≡ child_owner p i
+        let owner_is : entry_owner p key (begun_body (as_entries (EntriesKind.Object keys)) (cells_in its)) ≡ child_owner p i
         = ap (λ (o : Option ℕ). child_owner p (number_or_last o (length (cells_in its)))) e in (
-          open_item plan before stack open_now p last (as_dyn_object keys) (as_dyn_object keys) its its i its_plot
+          open_item plan before stack open_now p last (as_entries (EntriesKind.Object keys)) (as_entries (EntriesKind.Object keys)) its its i its_plot
               (with_entry_for key) (λ d. with_entry_of d key) grows (entry_owner p key) owner_is after next def n node is vacant shows
               limit tokens along,
-          marks_item plan before stack open_now p last (as_dyn_object keys) (as_dyn_object keys) its its i its_plot
+          marks_item plan before stack open_now p last (as_entries (EntriesKind.Object keys)) (as_entries (EntriesKind.Object keys)) its its i its_plot
               (with_entry_for key) (λ d. with_entry_of d key) grows (entry_owner p key) owner_is after next def n node is vacant shows
               limit tokens along,
         )
     enters None e =
         let grows = new_entry_grows key keys its e in
-        let owner_is : entry_owner p key (begun_body (as_dyn_object keys) (cells_in its)) ≡ child_owner p (count_kids its)
+        let owner_is : entry_owner p key (begun_body (as_entries (EntriesKind.Object keys)) (cells_in its)) ≡ child_owner p (count_kids its)
         = ap (λ (o : Option ℕ). child_owner p (number_or_last o (length (cells_in its)))) e ∙ ap (child_owner p) (cells_count its) in (
-          open_item plan before stack open_now p last (as_dyn_object keys) (as_dyn_object (keys ++ key ∷ [])) its
+          open_item plan before stack open_now p last (as_entries (EntriesKind.Object keys)) (as_entries (EntriesKind.Object (keys ++ key ∷ []))) its
               (kids_and_last its gone) (count_kids its) its_plot (with_entry_for key) (λ d. with_entry_of d key) grows
               (entry_owner p key) owner_is after next def n node is vacant shows limit tokens along,
-          marks_item plan before stack open_now p last (as_dyn_object keys) (as_dyn_object (keys ++ key ∷ [])) its
+          marks_item plan before stack open_now p last (as_entries (EntriesKind.Object keys)) (as_entries (EntriesKind.Object (keys ++ key ∷ []))) its
               (kids_and_last its gone) (count_kids its) its_plot (with_entry_for key) (λ d. with_entry_of d key) grows
               (entry_owner p key) owner_is after next def n node is vacant shows limit tokens along,
         )

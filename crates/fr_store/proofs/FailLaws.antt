@@ -1,22 +1,14 @@
 -- Laws of places that fail at the end of deferred mode, for proofs: what fails beneath a place, and what it lacks by itself.
 use Rattle.std.proofs.Common.{◌≡◌, ◌≢◌, ℕ, zero, suc, ◌+◌, ◌<◌, true, List, [], ◌∷◌, ◌++◌, append-nil, append_assoc, Option, Some, None, refl, sym, ◌∙◌, ap, arith}
-use Rattle.std.specs.Option.{option_map}
+use Rattle.fr_store.specs.Common.{Failure, HasPlace, Meanings, PathStep, Place, ReflectErrorKind, Table, Tracker, Tree, Trees, Val, begun, branch, deferred_column, failures_off, first_by_walk, hole, kind_of, no_trees, option_map, own_lack, shape_in, step_as, steps_in, tree_at, tree_nth, whole}
 use Rattle.std.specs.Prelude.{is_none, not}
-use Rattle.fr_shape.specs.declared.error.ReflectErrorKind.{ReflectErrorKind}
-use Rattle.fr_shape.specs.Hooks.{Meanings}
 use Rattle.fr_shape.specs.Lists.{is_nil}
-use Rattle.fr_shape.specs.Look.{Table}
-use Rattle.fr_shape.specs.Val.{Val}
-use Rattle.fr_path.specs.declared.path_steps.PathStep.{PathStep}
 use Rattle.fr_model.specs.Complete.{complete}
-use Rattle.fr_model.specs.Failing.{Failure, failure_at, failures, failures_among, lack_of_begun, first_by_walk, or_itself, own_lack}
-use Rattle.fr_model.specs.Finish.{closed, failures_but, failures_off, kind_of}
+use Rattle.fr_model.specs.Failing.{failure_at, failures, failures_among, lack_of_begun, or_itself}
+use Rattle.fr_model.specs.Finish.{closed, failures_but}
 use Rattle.fr_model.specs.Laws.{CompletesOrFails}
-use Rattle.fr_model.specs.Paths.{steps_in, step_as}
-use Rattle.fr_model.specs.Places.{Place, deferred_column}
-use Rattle.fr_model.specs.Relation.{HasPlace}
 use Rattle.fr_model.specs.Step.{cause_by, or_missing}
-use Rattle.fr_model.specs.Tree.{Form, Tree, hole, entered, whole, begun, Trees, no_trees, branch, tree_nth, tree_at, child_as, count_trees, shape_in}
+use Rattle.fr_model.specs.Tree.{entered, child_as, count_trees}
 
 -- Where nothing fails beneath.
 
@@ -24,20 +16,20 @@ none_left : {X : Type 0} (xs ys : List X) → xs ++ ys ≡ [] → (xs ≡ []) ×
 none_left [] ys e = (refl, e)
 none_left (x ∷ xs) ys e = absurd (cc)
 
-but_none : (hooks : Meanings) (table : Table) (s : ℕ) (form : Form) (on_way : ℕ)
+but_none : (hooks : Meanings) (table : Table) (s : ℕ) (tracker : Tracker) (on_way : ℕ)
     (below : ℕ → List PathStep → Tree → List Failure) (i m : ℕ) (path : List PathStep) (ts : Trees) → m ≡ i + on_way
-    → on_way < count_trees ts → failures_but hooks table s form on_way below i path ts ≡ []
-    → below (child_as table s form m) (path ++ step_as form m ∷ []) (tree_nth on_way ts) ≡ []
-but_none hooks table s form on_way below i m path no_trees e h none = absurd (omega arith)
-but_none hooks table s form zero below i m path (branch t ts) e h none =
+    → on_way < count_trees ts → failures_but hooks table s tracker on_way below i path ts ≡ []
+    → below (child_as table s tracker m) (path ++ step_as tracker m ∷ []) (tree_nth on_way ts) ≡ []
+but_none hooks table s tracker on_way below i m path no_trees e h none = absurd (omega arith)
+but_none hooks table s tracker zero below i m path (branch t ts) e h none =
     let same : m ≡ i = omega arith in
-    ap (λ (n : ℕ). below (child_as table s form n) (path ++ step_as form n ∷ []) t) same
-    ∙ (none_left (below (child_as table s form i) (path ++ step_as form i ∷ []) t)
-    (failures_among hooks table s form (suc i) path ts) none).0
-but_none hooks table s form (suc on_way) below i m path (branch t ts) e h none =
-    but_none hooks table s form on_way below (suc i) m path ts (omega arith) (omega arith)
-    (none_left (failures hooks table (child_as table s form i) (path ++ step_as form i ∷ []) t)
-    (failures_but hooks table s form on_way below (suc i) path ts) none).1
+    ap (λ (n : ℕ). below (child_as table s tracker n) (path ++ step_as tracker n ∷ []) t) same
+    ∙ (none_left (below (child_as table s tracker i) (path ++ step_as tracker i ∷ []) t)
+    (failures_among hooks table s tracker (suc i) path ts) none).0
+but_none hooks table s tracker (suc on_way) below i m path (branch t ts) e h none =
+    but_none hooks table s tracker on_way below (suc i) m path ts (omega arith) (omega arith)
+    (none_left (failures hooks table (child_as table s tracker i) (path ++ step_as tracker i ∷ []) t)
+    (failures_but hooks table s tracker on_way below (suc i) path ts) none).1
 
 -- nothing off the way fails, so nothing beneath the place at its end does
 pub none_here : (hooks : Meanings) (table : Table) (s : ℕ) (path to : List PathStep) (cursor : Place) (tree : Tree)
@@ -45,10 +37,9 @@ pub none_here : (hooks : Meanings) (table : Table) (s : ℕ) (path to : List Pat
     → failures_off hooks table (shape_in table s cursor tree) to [] (tree_at cursor tree) ≡ []
 none_here hooks table s path to [] tree has e none =
     ap (λ (p : List PathStep). failures_off hooks table s p [] tree) (e ∙ append-nil path) ∙ none
-none_here hooks table s path to (i ∷ cursor) (begun form ts) has e none =
-    none_here hooks table (child_as table s form i) (path ++ step_as form i ∷ []) to cursor (tree_nth i ts) has.1
-    (e ∙ sym (append_assoc path (step_as form i ∷ []) (steps_in cursor (tree_nth i ts))))
-    (but_none hooks table s form i
+none_here hooks table s path to (i ∷ cursor) (begun tracker ts) has e none =
+    none_here hooks table (child_as table s tracker i) (path ++ step_as tracker i ∷ []) to cursor (tree_nth i ts) has.1
+    (e ∙ sym (append_assoc path (step_as tracker i ∷ []) (steps_in cursor (tree_nth i ts)))) (but_none hooks table s tracker i
     (λ (shape : ℕ) (way : List PathStep) (t : Tree). failures_off hooks table shape way cursor t) 0 i path ts
     (omega arith) has.0 none)
 none_here hooks table s path to (i ∷ cursor) _ has e none = absurd has
@@ -58,10 +49,9 @@ pub fails_itself : (hooks : Meanings) (table : Table) (s : ℕ) (path : List Pat
     → failures_off hooks table s path [] tree ≡ []
     → failures hooks table s path tree ≡ failure_at path (own_lack hooks table s tree)
 fails_itself hooks table s path hole there none = absurd (there refl)
-fails_itself hooks table s path entered there none = refl
-fails_itself hooks table s path (whole v) there none = refl
-fails_itself hooks table s path (begun form ts) there none =
-    ap (λ (beneath : List Failure). or_itself beneath (failure_at path (lack_of_begun hooks table s form ts))) none
+fails_itself hooks table s path (begun tracker ts) there none =
+    ap (λ (beneath : List Failure). or_itself beneath (failure_at path (lack_of_begun hooks table s tracker ts))) none
+fails_itself hooks table s path _ there none = refl
 
 pub same_lack : (path : List PathStep) (first second : Option ReflectErrorKind) → failure_at path first ≡ failure_at path second
     → first ≡ second
@@ -76,11 +66,10 @@ same_lack path (Some kind) (Some other) e =
 pub fails_beneath : (hooks : Meanings) (table : Table) (s : ℕ) (path : List PathStep) (tree : Tree) (failure : Failure)
     → first_by_walk (failures_off hooks table s path [] tree) ≡ Some failure
     → failures hooks table s path tree ≡ failures_off hooks table s path [] tree
-fails_beneath hooks table s path (begun form ts) failure first =
-    go (failures_among hooks table s form 0 path ts) first
+fails_beneath hooks table s path (begun tracker ts) failure first = go (failures_among hooks table s tracker 0 path ts) first
   where
     go : (beneath : List Failure) → first_by_walk beneath ≡ Some failure
-        → or_itself beneath (failure_at path (lack_of_begun hooks table s form ts)) ≡ beneath
+        → or_itself beneath (failure_at path (lack_of_begun hooks table s tracker ts)) ≡ beneath
     go [] first = absurd (cc)
     go (f ∷ fs) first = refl
 fails_beneath hooks table s path entered failure first = absurd (cc)
@@ -106,11 +95,10 @@ none_made fails hooks table s path tree failure first =
     go hole e = absurd (cc)
     go entered e = not_whole (complete deferred_column hooks table s entered) e
     go (whole v) e = not_whole (complete deferred_column hooks table s (whole v)) e
-    go (begun form ts) e = not_whole (complete deferred_column hooks table s (begun form ts)) e
+    go (begun tracker ts) e = not_whole (complete deferred_column hooks table s (begun tracker ts)) e
 
 -- and what fails first is why
 pub cause_is : (hooks : Meanings) (table : Table) (s : ℕ) (path : List PathStep) (tree : Tree) (failure : Failure)
     → first_by_walk (failures hooks table s path tree) ≡ Some failure
     → failure.kind ≡ cause_by deferred_column hooks table s path tree
-cause_is hooks table s path tree failure first =
-    sym (ap (λ (found : Option Failure). or_missing s (kind_of found)) first)
+cause_is hooks table s path tree failure first = sym (ap (λ (found : Option Failure). or_missing s (kind_of found)) first)

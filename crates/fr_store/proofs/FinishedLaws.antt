@@ -1,35 +1,12 @@
 -- Laws of the end of deferred mode, for proofs: all stored places had their turn, nothing is stored, and the place at which the
 -- builder works is finished.
 use Rattle.std.proofs.Common.{◌≡◌, ◌≢◌, ◌⊎◌, ℕ, zero, suc, ◌<◌, false, List, [], ◌∷◌, ◌++◌, append-nil, nat_eq, option_map, Option, Some, None, inl, inr, refl, sym, ◌∙◌, ap, subst, arith}
-use Rattle.std.specs.Prelude.{is_some}
-use Rattle.std.specs.List.{Contains}
-use Rattle.fr_shape.specs.declared.error.ReflectErrorKind.{ReflectErrorKind}
-use Rattle.fr_shape.specs.Hooks.{Meanings}
-use Rattle.fr_shape.specs.Look.{Table}
-use Rattle.fr_path.specs.declared.path_steps.PathStep.{PathStep}
-use Rattle.fr_model.specs.Failing.{own_lack}
-use Rattle.fr_model.specs.FailingLaws.{FinishesOrRefuses, FinishOfDone, NothingFailsOfDone}
-use Rattle.fr_model.specs.Finish.{failures_off, finished_here}
-use Rattle.fr_model.specs.Paths.{steps_in}
-use Rattle.fr_model.specs.Places.{Place}
-use Rattle.fr_model.specs.Relation.{HasPlace}
-use Rattle.fr_model.specs.Tree.{Form, Tree, hole, strict, change_at, shape_in, tree_at}
+use Rattle.fr_store.specs.Common.{AllMarkedAmong, AllMarkedIn, AreInWalkOrder, AreStoredAt, Contains, FinishesOrRefuses, FrameOwner, HasPlace, Heap, Holds, HoldsAll, HoldsIn, IsHeldUp, IsOpen, IsOpenAt, Kid, Kids, LacksHere, Leads, Meanings, Node, NodeId, NoneStored, NothingStored, PathStep, Place, Plan, Plot, ReflectErrorKind, Slot, StoppedByTurns, Table, Tracker, Tree, Walked, at, begun_plot, change_at, child_node, child_owner, counts_if, counts_other, cursor_in, entered_plot, failures_off, gone, heap_of, hole, is_some, kid, kid_at, leads_at, leads_reach, marked, no_kids, own_lack, reach_place, root_shape, same_or_other, shape_in, steps_in, stored_in, strict, there, tree_at, tree_in_slots, tree_of, tree_of_at, uses, uses_among, uses_in, whole_plot}
+use Rattle.fr_model.specs.FailingLaws.{FinishOfDone, NothingFailsOfDone}
+use Rattle.fr_model.specs.Finish.{finished_here}
 use Rattle.fr_model.specs.Well.{Leads as LeadsIn}
-use Rattle.fr_plan.specs.declared.nodes.NodeId.{NodeId}
-use Rattle.fr_plan.specs.TypePlan.{Plan}
-use Rattle.fr_frame.specs.declared.places.FrameOwner.{FrameOwner}
-use Rattle.fr_frame.specs.declared.places.Slot.{Slot}
-use Rattle.fr_frame.specs.Heap.{Node, Heap, heap_of, marked, stored_in}
-use Rattle.fr_frame.specs.Kids.{Kid, gone, there, at, Plot, entered_plot, whole_plot, begun_plot, Kids, no_kids, kid, tree_of, child_node, child_owner, Holds, HoldsIn, HoldsAll}
-use Rattle.fr_store.specs.Moves.{IsOpenAt, cursor_in, tree_in_slots}
-use Rattle.fr_store.specs.OffLaws.{reach_place}
-use Rattle.fr_store.specs.Stands.{IsOpen}
-use Rattle.fr_store.specs.Stored.{NothingStored}
-use Rattle.fr_store.specs.Turning.{CameByTurns, FinishedHere, LacksHere, StoppedByTurns, Walked, kid_here, next_place}
-use Rattle.fr_store.specs.Turns.{IsFinished, IsHeldUp, KeepThoseLeft, root_shape}
-use Rattle.fr_store.specs.Walks.{AreInWalkOrder, AreStoredAt}
-use Rattle.fr_store.specs.Ways.{kid_at, counts_if, uses, uses_in, uses_among, AllMarkedIn, AllMarkedAmong, Leads, NoneStored}
-use Rattle.fr_store.specs.WayLaws.{counts_other, leads_at, leads_reach, same_or_other, tree_of_at}
+use Rattle.fr_store.specs.Turning.{CameByTurns, FinishedHere, kid_here, next_place}
+use Rattle.fr_store.specs.Turns.{IsFinished, KeepThoseLeft}
 use Rattle.fr_store.proofs.FailLaws.{fails_itself, none_here, same_lack}
 use Rattle.fr_store.proofs.HeldLaws.{held_by_last, leads_deferred, leads_strict, no_marks}
 use Rattle.fr_store.proofs.WalkedLaws.{stored_among}
@@ -58,19 +35,17 @@ mutual
 
   unmarked_in : (plan : Plan) (heap : Heap) (node : NodeId) (slot depth : ℕ) (plot : Plot) (n : ℕ)
       → HoldsIn plan heap node slot depth plot → AllMarkedIn false plot → 0 < uses_in plot n → marked heap n ≡ false
-  unmarked_in plan heap node slot depth entered_plot n holds none h = absurd (omega arith)
-  unmarked_in plan heap node slot depth (whole_plot v) n holds none h = absurd (omega arith)
-  unmarked_in plan heap node slot depth (begun_plot form kids) n holds none h =
-      unmarked_among plan heap node slot form 0 depth kids n holds none h
+  unmarked_in plan heap node slot depth (begun_plot tracker kids) n holds none h =
+      unmarked_among plan heap node slot tracker 0 depth kids n holds none h
+  unmarked_in plan heap node slot depth _ n holds none h = absurd (omega arith)
 
-  unmarked_among : (plan : Plan) (heap : Heap) (node : NodeId) (slot : ℕ) (form : Form) (i depth : ℕ) (ks : Kids) (n : ℕ)
-      → HoldsAll plan heap node slot form i depth ks → AllMarkedAmong false ks → 0 < uses_among ks n
-      → marked heap n ≡ false
-  unmarked_among plan heap node slot form i depth no_kids n holds none h = absurd (omega arith)
-  unmarked_among plan heap node slot form i depth (kid k ks) n holds none h =
+  unmarked_among : (plan : Plan) (heap : Heap) (node : NodeId) (slot : ℕ) (tracker : Tracker) (i depth : ℕ) (ks : Kids) (n : ℕ)
+      → HoldsAll plan heap node slot tracker i depth ks → AllMarkedAmong false ks → 0 < uses_among ks n → marked heap n ≡ false
+  unmarked_among plan heap node slot tracker i depth no_kids n holds none h = absurd (omega arith)
+  unmarked_among plan heap node slot tracker i depth (kid k ks) n holds none h =
       go (uses k n) refl
-      (λ here. unmarked plan heap (child_node plan node form i) (child_owner slot i) depth k n holds.0 none.0 here)
-      (λ later. unmarked_among plan heap node slot form (suc i) depth ks n holds.1 none.1 later)
+      (λ here. unmarked plan heap (child_node plan node tracker i) (child_owner slot i) depth k n holds.0 none.0 here)
+      (λ later. unmarked_among plan heap node slot tracker (suc i) depth ks n holds.1 none.1 later)
     where
       go : (count : ℕ) → uses k n ≡ count → (0 < uses k n → marked heap n ≡ false)
           → (0 < uses_among ks n → marked heap n ≡ false) → marked heap n ≡ false
@@ -88,7 +63,7 @@ leads_there place k leads e =
     go (there v) l is = absurd l
     go (at slot stored entered_plot) l is = cc
     go (at slot stored (whole_plot v)) l is = cc
-    go (at slot stored (begun_plot form kids)) l is = cc
+    go (at slot stored (begun_plot tracker kids)) l is = cc
 
 -- All had their turn.
 module _ (means : Meanings) (table : Table) (plan : Plan) (before : List Slot) (stack : List ℕ) (now : List Slot) (walk : List ℕ)
@@ -98,8 +73,7 @@ module _ (means : Meanings) (table : Table) (plan : Plan) (before : List Slot) (
 
   none_stored : NoneStored (kid_here now stack)
   none_stored =
-      no_marks (kid_here now stack)
-      (λ slot place stored.
+      no_marks (kid_here now stack) (λ slot place stored.
       let found : Contains [] place
       = subst (λ (ps : List Place). Contains ps place) none_left (walked.left.all slot place stored) in
       absurd (omega (arith, found.1)))
@@ -127,10 +101,8 @@ module _ (means : Meanings) (table : Table) (plan : Plan) (before : List Slot) (
     said_now so = subst (λ (p : Place). So p (tree_in_slots now stack)) walked.cursor so
 
   module _ (after : List Slot) (ends : FinishedHere means table plan now stack after) where
-    meant_now : finished_here means table
-        (shape_in table (root_shape plan) (cursor_in before stack) (tree_in_slots now stack))
-        (tree_at (cursor_in before stack) (tree_in_slots now stack))
-        ≡ Some ends.tree
+    meant_now : finished_here means table (shape_in table (root_shape plan) (cursor_in before stack) (tree_in_slots now stack))
+        (tree_at (cursor_in before stack) (tree_in_slots now stack)) ≡ Some ends.tree
     meant_now =
         said_now
         (λ p t. finished_here means table (shape_in table (root_shape plan) p t) (tree_at p t) ≡ Some ends.tree) ends.meant
@@ -144,35 +116,28 @@ module _ (means : Meanings) (table : Table) (plan : Plan) (before : List Slot) (
     is_finished done = record {
       tree = change_at (cursor_in before stack) (λ old. ends.tree) (tree_in_slots now stack);
       meant =
-          sym walked.finish
-          ∙ done means table (root_shape plan) (cursor_in before stack) (tree_in_slots now stack) strict_now
-          ∙ ap
-          (option_map (λ (here : Tree). change_at (cursor_in before stack) (λ old. here) (tree_in_slots now stack)))
+          sym walked.finish ∙ done means table (root_shape plan) (cursor_in before stack) (tree_in_slots now stack) strict_now
+          ∙ ap (option_map (λ (here : Tree). change_at (cursor_in before stack) (λ old. here) (tree_in_slots now stack)))
           meant_now;
       stands = stands_now;
     }
 
     all_done : walked.first.places ≡ walked.done
-    all_done =
-        walked.split ∙ ap (λ (ps : List Place). walked.done ++ ps) none_left ∙ append-nil walked.done
+    all_done = walked.split ∙ ap (λ (ps : List Place). walked.done ++ ps) none_left ∙ append-nil walked.done
 
     -- turn by turn
     pub came_by_turns : CameByTurns means table plan before stack after stack
     came_by_turns = record {
       done = walked.done;
       order = subst (AreInWalkOrder (tree_in_slots before stack)) all_done walked.first.order;
-      all = λ slot place stored.
-          subst (λ (ps : List Place). Contains ps place) all_done (walked.first.all slot place stored);
-      each = λ place found.
-          stored_among (kid_here before stack) walk walked.first.places place walked.first.stored
+      all = λ slot place stored. subst (λ (ps : List Place). Contains ps place) all_done (walked.first.all slot place stored);
+      each = λ place found. stored_among (kid_here before stack) walk walked.first.places place walked.first.stored
           (subst (λ (ps : List Place). Contains ps place) (sym all_done) found);
       tree = tree_in_slots now stack;
       turned = walked.turned;
       kept =
-          subst
-          (λ (l : List Place). KeepThoseLeft means table (root_shape plan) (tree_in_slots before stack)
-          (tree_in_slots before stack) walked.done l)
-          none_left walked.kept;
+          subst (λ (l : List Place). KeepThoseLeft means table (root_shape plan) (tree_in_slots before stack)
+          (tree_in_slots before stack) walked.done l) none_left walked.kept;
       here = ends.tree;
       finishes = meant_now;
       last = stands_now.built;
@@ -193,42 +158,34 @@ module _ (means : Meanings) (table : Table) (plan : Plan) (before : List Slot) (
     none_before path = sym (walked.failing path) ∙ none_now path
 
     lacks_now : own_lack means table (shape_in table (root_shape plan) (cursor_in before stack) (tree_in_slots now stack))
-        (tree_at (cursor_in before stack) (tree_in_slots now stack))
-        ≡ Some kind
-    lacks_now =
-        said_now (λ p t. own_lack means table (shape_in table (root_shape plan) p t) (tree_at p t) ≡ Some kind) lacks
+        (tree_at (cursor_in before stack) (tree_in_slots now stack)) ≡ Some kind
+    lacks_now = said_now (λ p t. own_lack means table (shape_in table (root_shape plan) p t) (tree_at p t) ≡ Some kind) lacks
 
     has : (k : Kid) → Leads (cursor_in before stack) k → HasPlace (cursor_in before stack) (tree_of k)
     has k leads =
-        reach_place (cursor_in before stack) k
-        (leads_reach (cursor_in before stack) [] k
+        reach_place (cursor_in before stack) k (leads_reach (cursor_in before stack) [] k
         (subst (λ (p : Place). Leads p k) (sym (append-nil (cursor_in before stack))) leads))
 
     -- so it did at the start
-    lacks_before : own_lack means table
-        (shape_in table (root_shape plan) (cursor_in before stack) (tree_in_slots before stack))
-        (tree_at (cursor_in before stack) (tree_in_slots before stack))
-        ≡ Some kind
+    lacks_before : own_lack means table (shape_in table (root_shape plan) (cursor_in before stack) (tree_in_slots before stack))
+        (tree_at (cursor_in before stack) (tree_in_slots before stack)) ≡ Some kind
     unfolding to
     lacks_before =
         same_lack to
         (own_lack means table (shape_in table (root_shape plan) (cursor_in before stack) (tree_in_slots before stack))
         (tree_at (cursor_in before stack) (tree_in_slots before stack)))
         (own_lack means table (shape_in table (root_shape plan) (cursor_in before stack) (tree_in_slots now stack))
-        (tree_at (cursor_in before stack) (tree_in_slots now stack)))
-        (sym (fails_itself means table
+        (tree_at (cursor_in before stack) (tree_in_slots now stack))) (sym (fails_itself means table
         (shape_in table (root_shape plan) (cursor_in before stack) (tree_in_slots before stack)) to
         (tree_at (cursor_in before stack) (tree_in_slots before stack))
         (leads_there (cursor_in before stack) (kid_here before stack) open_first.stands.leads)
         (none_here means table (root_shape plan) [] to (cursor_in before stack) (tree_in_slots before stack)
-        (has (kid_here before stack) open_first.stands.leads) refl (none_before [])))
-        ∙ sym (walked.here.failing to)
+        (has (kid_here before stack) open_first.stands.leads) refl (none_before []))) ∙ sym (walked.here.failing to)
         ∙ fails_itself means table (shape_in table (root_shape plan) (cursor_in before stack) (tree_in_slots now stack)) to
         (tree_at (cursor_in before stack) (tree_in_slots now stack))
         (leads_there (cursor_in before stack) (kid_here now stack) leads_now)
         (none_here means table (root_shape plan) [] to (cursor_in before stack) (tree_in_slots now stack)
-        (has (kid_here now stack) leads_now) (sym walked.path) (none_now [])))
-        ∙ lacks_now
+        (has (kid_here now stack) leads_now) (sym walked.path) (none_now []))) ∙ lacks_now
 
     pub held_here : IsHeldUp means table plan before stack kind
     held_here =
@@ -243,17 +200,14 @@ module _ (means : Meanings) (table : Table) (plan : Plan) (before : List Slot) (
       done = walked.done;
       left = walked.left.places;
       order = subst (AreInWalkOrder (tree_in_slots before stack)) walked.split walked.first.order;
-      all = λ slot place stored.
-          subst (λ (l : List Place). Contains l place) walked.split (walked.first.all slot place stored);
-      each = λ place found.
-          stored_among (kid_here before stack) walk walked.first.places place walked.first.stored
+      all = λ slot place stored. subst (λ (l : List Place). Contains l place) walked.split (walked.first.all slot place stored);
+      each = λ place found. stored_among (kid_here before stack) walk walked.first.places place walked.first.stored
           (subst (λ (l : List Place). Contains l place) (sym walked.split) found);
       tree = tree_in_slots now stack;
       turned = walked.turned;
       kept = walked.kept;
       lacks =
-          subst
-          (λ (p : Place). own_lack means table (shape_in table (root_shape plan) p (tree_in_slots now stack))
+          subst (λ (p : Place). own_lack means table (shape_in table (root_shape plan) p (tree_in_slots now stack))
           (tree_at p (tree_in_slots now stack)) ≡ Some kind)
           (sym (ap (λ (l : List Place). next_place l (cursor_in before stack)) none_left)) lacks_now;
     }

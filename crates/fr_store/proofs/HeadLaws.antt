@@ -3,25 +3,11 @@ use Rattle.std.proofs.Common.{◌≡◌, ◌≢◌, ◌⊎◌, ℕ, zero, suc, �
 use Rattle.std.proofs.lemmas.Grind.{common_steps}
 use Rattle.std.proofs.lemmas.List.Elements.{All-contains}
 use Rattle.std.specs.Prelude.{slice_index_or}
-use Rattle.std.specs.List.{All, Contains}
-use Rattle.std.specs.declared.cmp.Ordering.{Ordering}
-use Rattle.std.specs.Ordering.{nat_cmp, ordering_then}
-use Rattle.fr_path.specs.declared.path_steps.PathStep.{PathStep}
-use Rattle.fr_path.specs.Order.{walk_order}
+use Rattle.fr_store.specs.Common.{All, AllMarked, AllMarkedAmong, AllMarkedIn, AreInWalkOrder, AreStoredAt, AreUnplaced, ComesBefore, Contains, HasPlace, IsClosed, IsStoredAt, IsWalk, Kid, Kids, Leads, Ordering, PathStep, Place, Plot, Reaches, Tracker, Tree, Val, at, begun_plot, body_in, cells_in, child_tree, count_kids, counts_if, counts_same, entered_plot, gone, kid, kid_at, kid_at_append, kid_nth, no_kids, off_stored, ordering_then, put_at, reach_place, same_or_other, steps_in, there, tree_of, tree_put_at, uses, uses_among, uses_at, uses_in, uses_nth, walk_order, whole_plot}
+use Rattle.std.specs.Ordering.{nat_cmp}
 use Rattle.fr_path.specs.OrderLaws.{walk_itself}
-use Rattle.fr_shape.specs.Val.{Val}
-use Rattle.fr_model.specs.Paths.{steps_in}
-use Rattle.fr_model.specs.Places.{Place}
-use Rattle.fr_model.specs.Relation.{HasPlace}
-use Rattle.fr_model.specs.Tree.{Form, Tree, child_tree}
-use Rattle.fr_frame.specs.Bodies.{IsClosed, AreUnplaced}
-use Rattle.fr_frame.specs.Kids.{Kid, gone, there, at, Plot, entered_plot, whole_plot, begun_plot, Kids, no_kids, kid, tree_of, cells_in, body_in}
 use Rattle.fr_store.specs.ClosingLaws.{steps_kept}
-use Rattle.fr_store.specs.LeaveLaws.{kid_at_append}
-use Rattle.fr_store.specs.OffLaws.{marked_off, off_stored, reach_place, stored_before, stored_beside, stored_no_more, stored_still}
-use Rattle.fr_store.specs.Walks.{IsStoredAt, AreStoredAt, ComesBefore, AreInWalkOrder, IsWalk}
-use Rattle.fr_store.specs.Ways.{count_kids, kid_nth, kid_at, counts_if, uses, uses_in, uses_among, put_at, AllMarked, AllMarkedIn, AllMarkedAmong, Leads, Reaches}
-use Rattle.fr_store.specs.WayLaws.{counts_same, same_or_other, tree_put_at, uses_at, uses_nth}
+use Rattle.fr_store.specs.OffLaws.{marked_off, stored_before, stored_beside, stored_no_more, stored_still}
 
 -- Lists.
 
@@ -80,8 +66,7 @@ two_nth zero zero (kid k ks) n ne = absurd (ne refl)
 two_nth zero (suc j) (kid k ks) n ne = omega (arith, uses_nth j ks n)
 two_nth (suc i) zero (kid k ks) n ne = omega (arith, uses_nth i ks n)
 two_nth (suc i) (suc j) (kid k ks) n ne =
-    let rest : uses (kid_nth i ks) n + uses (kid_nth j ks) n ≤ uses_among ks n
-    = two_nth i j ks n (λ e. ne (ap suc e)) in
+    let rest : uses (kid_nth i ks) n + uses (kid_nth j ks) n ≤ uses_among ks n = two_nth i j ks n (λ e. ne (ap suc e)) in
     omega arith
 
 used : (place : Place) (k : Kid) (n : ℕ) (mark : Bool) (plot : Plot) → kid_at place k ≡ at n mark plot → 1 ≤ uses k n
@@ -90,24 +75,22 @@ used place k n mark plot is =
     omega (arith, here, counts_same n, uses_at place k n)
 
 pub one_place : (first second : Place) (k : Kid) (n : ℕ) (mark other : Bool) (plot below : Plot) → uses k n ≤ 1
-    → Reaches first k → Reaches second k → kid_at first k ≡ at n mark plot → kid_at second k ≡ at n other below
-    → first ≡ second
+    → Reaches first k → Reaches second k → kid_at first k ≡ at n mark plot → kid_at second k ≡ at n other below → first ≡ second
 one_place [] [] k n mark other plot below once a b e f = refl
 one_place [] (j ∷ second) gone n mark other plot below once a b e f = absurd b
 one_place [] (j ∷ second) (there v) n mark other plot below once a b e f = absurd b
 one_place [] (j ∷ second) (at slot s entered_plot) n mark other plot below once a b e f = absurd b
 one_place [] (j ∷ second) (at slot s (whole_plot v)) n mark other plot below once a b e f = absurd b
-one_place [] (j ∷ second) (at slot s (begun_plot form kids)) n mark other plot below once a b e f =
+one_place [] (j ∷ second) (at slot s (begun_plot tracker kids)) n mark other plot below once a b e f =
     let same : slot ≡ n = cc in
     let one : counts_if (nat_eq slot n) ≡ 1 = ap (λ (m : ℕ). counts_if (nat_eq m n)) same ∙ counts_same n in
     absurd (omega (arith, one, once, used second (kid_nth j kids) n other below f, uses_nth j kids n))
-one_place (i ∷ first) [] (at slot s (begun_plot form kids)) n mark other plot below once a b e f =
+one_place (i ∷ first) [] (at slot s (begun_plot tracker kids)) n mark other plot below once a b e f =
     let same : slot ≡ n = cc in
     let one : counts_if (nat_eq slot n) ≡ 1 = ap (λ (m : ℕ). counts_if (nat_eq m n)) same ∙ counts_same n in
     absurd (omega (arith, one, once, used first (kid_nth i kids) n mark plot e, uses_nth i kids n))
-one_place (i ∷ first) (j ∷ second) (at slot s (begun_plot form kids)) n mark other plot below once a b e f =
-    go (same_or_other i j)
-    (λ same.
+one_place (i ∷ first) (j ∷ second) (at slot s (begun_plot tracker kids)) n mark other plot below once a b e f =
+    go (same_or_other i j) (λ same.
     one_place first second (kid_nth i kids) n mark other plot below (omega (arith, once, uses_nth i kids n)) a.1
     (subst (λ (m : ℕ). Reaches second (kid_nth m kids)) (sym same) b.1) e
     (ap (λ (m : ℕ). kid_at second (kid_nth m kids)) same ∙ f))
@@ -115,8 +98,7 @@ one_place (i ∷ first) (j ∷ second) (at slot s (begun_plot form kids)) n mark
     go : (i ≡ j) ⊎ (i ≢ j) → (i ≡ j → first ≡ second) → i ∷ first ≡ j ∷ second
     go (inl same) rest = ap (λ (m : ℕ). m ∷ first) same ∙ ap (λ (p : Place). j ∷ p) (rest same)
     go (inr ne) rest =
-        absurd
-        (omega
+        absurd (omega
         (arith, once, two_nth i j kids n ne, used first (kid_nth i kids) n mark plot e, used second (kid_nth j kids) n other below f))
 one_place (i ∷ first) second _ n mark other plot below once a b e f = absurd a
 
@@ -157,12 +139,12 @@ closed_children (kid (there v) ks) marked none =
 closed_children (kid (at slot mark plot) ks) marked none =
     absurd (none 0 slot plot (omega arith) (ap (λ (b : Bool). at slot b plot) marked.0.0))
 
-pub reaches_child : (place : Place) (k : Kid) (n : ℕ) (mark : Bool) (form : Form) (kids : Kids) (j : ℕ) → Reaches place k
-    → kid_at place k ≡ at n mark (begun_plot form kids) → j < count_kids kids → Reaches (place ++ j ∷ []) k
-reaches_child [] k n mark form kids j reach is h = subst (λ (x : Kid). Reaches (j ∷ []) x) (sym is) (h, tt)
-reaches_child (i ∷ place) (at slot s (begun_plot made ks)) n mark form kids j reach is h =
-    (reach.0, reaches_child place (kid_nth i ks) n mark form kids j reach.1 is h)
-reaches_child (i ∷ place) _ n mark form kids j reach is h = absurd reach
+pub reaches_child : (place : Place) (k : Kid) (n : ℕ) (mark : Bool) (tracker : Tracker) (kids : Kids) (j : ℕ) → Reaches place k
+    → kid_at place k ≡ at n mark (begun_plot tracker kids) → j < count_kids kids → Reaches (place ++ j ∷ []) k
+reaches_child [] k n mark tracker kids j reach is h = subst (λ (x : Kid). Reaches (j ∷ []) x) (sym is) (h, tt)
+reaches_child (i ∷ place) (at slot s (begun_plot made ks)) n mark tracker kids j reach is h =
+    (reach.0, reaches_child place (kid_nth i ks) n mark tracker kids j reach.1 is h)
+reaches_child (i ∷ place) _ n mark tracker kids j reach is h = absurd reach
 
 module _ (k : Kid) (n : ℕ) (rest : List ℕ) (walk : IsWalk k (n ∷ rest)) (head : Head k n rest walk.places) where
   pub later : (slot : ℕ) (place : Place) → IsStoredAt k slot place → (head.place ≡ place) ⊎ Contains head.places place
@@ -173,24 +155,22 @@ module _ (k : Kid) (n : ℕ) (rest : List ℕ) (walk : IsWalk k (n ∷ rest)) (h
   -- no child of it is in a slot: it would come before
   pub head_closed : (cursor : Place) → Leads cursor k → IsClosed (body_in head.stored.plot)
   head_closed cursor leads =
-      let marked : AllMarked true (at n true head.stored.plot)
-      = subst (AllMarked true) head.stored.is
+      let marked : AllMarked true (at n true head.stored.plot) = subst (AllMarked true) head.stored.is
       (marked_off cursor head.place k leads (off_stored cursor head.place k n head.stored.plot leads head.stored.is)
       head.stored.reaches) in
       go head.stored.plot refl marked.1
     where
-      below : (form : Form) (kids : Kids) → head.stored.plot ≡ begun_plot form kids → (j m : ℕ) (plot : Plot)
+      below : (tracker : Tracker) (kids : Kids) → head.stored.plot ≡ begun_plot tracker kids → (j m : ℕ) (plot : Plot)
           → j < count_kids kids → kid_nth j kids ≡ at m true plot → ⊥
-      below form kids e j m plot h is =
-          let top : kid_at head.place k ≡ at n true (begun_plot form kids)
+      below tracker kids e j m plot h is =
+          let top : kid_at head.place k ≡ at n true (begun_plot tracker kids)
           = head.stored.is ∙ ap (λ (p : Plot). at n true p) e in
           let child : IsStoredAt k m (head.place ++ j ∷ []) = record {
             plot = plot;
-            reaches = reaches_child head.place k n true form kids j head.stored.reaches top h;
+            reaches = reaches_child head.place k n true tracker kids j head.stored.reaches top h;
             is = kid_at_append head.place (j ∷ []) k ∙ ap (λ (x : Kid). kid_at (j ∷ []) x) top ∙ is;
           } in
-          let deeper : length head.place < length (head.place ++ j ∷ [])
-          = omega (arith, length-append head.place (j ∷ [])) in
+          let deeper : length head.place < length (head.place ++ j ∷ []) = omega (arith, length-append head.place (j ∷ [])) in
           not (later m (head.place ++ j ∷ []) child) deeper
         where
           not : (head.place ≡ head.place ++ j ∷ []) ⊎ Contains head.places (head.place ++ j ∷ [])
@@ -204,9 +184,8 @@ module _ (k : Kid) (n : ℕ) (rest : List ℕ) (walk : IsWalk k (n ∷ rest)) (h
               (head.place ++ j ∷ []) head.before found)
 
       go : (plot : Plot) → head.stored.plot ≡ plot → AllMarkedIn true plot → IsClosed (body_in plot)
-      go entered_plot e marked = tt
-      go (whole_plot v) e marked = tt
-      go (begun_plot form kids) e marked = closed_children kids marked (below form kids e)
+      go (begun_plot tracker kids) e marked = closed_children kids marked (below tracker kids e)
+      go _ e marked = tt
 
   -- once a value is in its stead, the others are a walk
   pub walk_on : (cursor : Place) → Leads cursor k → ((m : ℕ) → uses k m ≤ 1) → (v : Val)
@@ -222,8 +201,7 @@ module _ (k : Kid) (n : ℕ) (rest : List ℕ) (walk : IsWalk k (n ∷ rest)) (h
       still m place before stored =
           stored_still head.place place k v m head.stored.reaches
           (stored_beside head.place place k n m head.stored.plot head.stored.is (head_closed cursor leads) stored
-          (not_itself place before))
-          stored
+          (not_itself place before)) stored
 
       each : (slots : List ℕ) (places : List Place) → All (λ (other : Place). ComesBefore (tree_of k) head.place other) places
           → AreStoredAt k slots places → AreStoredAt (put_at head.place (there v) k) slots places
@@ -231,10 +209,8 @@ module _ (k : Kid) (n : ℕ) (rest : List ℕ) (walk : IsWalk k (n ∷ rest)) (h
       each [] (place ∷ places) before stored = absurd stored
       each (slot ∷ slots) [] before stored = absurd stored
       each (slot ∷ slots) (place ∷ places) before stored = (
-        still slot place (all_first (λ (other : Place). ComesBefore (tree_of k) head.place other) place places before)
-            stored.0,
-        each slots places (all_rest (λ (other : Place). ComesBefore (tree_of k) head.place other) place places before)
-            stored.1,
+        still slot place (all_first (λ (other : Place). ComesBefore (tree_of k) head.place other) place places before) stored.0,
+        each slots places (all_rest (λ (other : Place). ComesBefore (tree_of k) head.place other) place places before) stored.1,
       )
 
       stored_on : AreStoredAt (put_at head.place (there v) k) rest head.places
@@ -280,12 +256,10 @@ module _ (k : Kid) (n : ℕ) (rest : List ℕ) (walk : IsWalk k (n ∷ rest)) (h
       order_on = ordered rest head.places stored_on head.order
 
       all_on : (slot : ℕ) (place : Place) → IsStoredAt (put_at head.place (there v) k) slot place → Contains head.places place
-      all_on slot place stored =
-          go (later slot place (stored_before head.place place k v slot head.stored.reaches stored))
+      all_on slot place stored = go (later slot place (stored_before head.place place k v slot head.stored.reaches stored))
         where
           go : (head.place ≡ place) ⊎ Contains head.places place → Contains head.places place
           go (inl e) =
-              absurd
-              (stored_no_more head.place k v slot head.stored.reaches
+              absurd (stored_no_more head.place k v slot head.stored.reaches
               (subst (λ (p : Place). IsStoredAt (put_at head.place (there v) k) slot p) (sym e) stored))
           go (inr found) = found

@@ -1,30 +1,16 @@
 -- Laws of a walk that is refused, for proofs: the first place of it that makes no value is the first place that fails.
 use Rattle.std.proofs.Common.{◌≡◌, ◌⊎◌, ℕ, zero, suc, ◌<◌, Bool, true, false, List, [], ◌∷◌, ◌++◌, Option, Some, None, inl, inr, refl, sym, ◌∙◌, ap, subst, arith}
 use Rattle.std.proofs.lemmas.List.Elements.{All-contains}
-use Rattle.std.specs.List.{Contains}
+use Rattle.fr_store.specs.Common.{AllMarked, AllMarkedAmong, AllMarkedIn, AreUnplaced, AtCursor, ComesBefore, Contains, EachFailureHasItsPlace, Failure, FinishesOrRefuses, FirstByWalkIs, HasPlace, IsClosed, IsStoredAt, IsWalk, Kid, Kids, LackingFails, Leads, Meanings, NoneStored, PathStep, Place, Plot, Reaches, ReflectErrorKind, StoredBut, Table, Tree, Trees, at, begun_plot, body_in, branch, cells_in, count_in, count_kids, entered_plot, failures_off, finished, first_by_walk, gone, is_some, kid, kid_at, kid_nth, kind_of, no_kids, no_trees, off_stored, own_lack, reach_place, shape_in, steps_in, strict, there, tree_at, tree_in, tree_of, tree_of_at, tree_of_nth, trees_in, walk_order, whole_plot}
 use Rattle.std.specs.Option.{option_or}
-use Rattle.std.specs.Prelude.{is_none, is_some}
-use Rattle.fr_path.specs.declared.path_steps.PathStep.{PathStep}
-use Rattle.fr_path.specs.Order.{walk_order}
-use Rattle.fr_shape.specs.declared.error.ReflectErrorKind.{ReflectErrorKind}
-use Rattle.fr_shape.specs.Hooks.{Meanings}
-use Rattle.fr_shape.specs.Look.{Table}
+use Rattle.std.specs.Prelude.{is_none}
 use Rattle.fr_model.specs.Complete.{missing_value}
-use Rattle.fr_model.specs.Failing.{Failure, first_by_walk, own_lack}
-use Rattle.fr_model.specs.FailingLaws.{EachFailureHasItsPlace, FailsOff, FinishesOrRefuses, FirstByWalkIs, IsHalfDone, IsOrAfter, LackingFails}
-use Rattle.fr_model.specs.Finish.{failures_off, finish_cause, finished, kind_of, refusal_or}
+use Rattle.fr_model.specs.FailingLaws.{FailsOff, IsHalfDone, IsOrAfter}
+use Rattle.fr_model.specs.Finish.{finish_cause, refusal_or}
 use Rattle.fr_model.specs.Finishing.{IsOffTheWay}
-use Rattle.fr_model.specs.Paths.{steps_in}
-use Rattle.fr_model.specs.Places.{Place}
-use Rattle.fr_model.specs.Relation.{HasPlace}
-use Rattle.fr_model.specs.Tree.{strict, deferred, Tree, Trees, no_trees, branch, tree_at, shape_in}
-use Rattle.fr_model.specs.Well.{AllOff, AtCursor, OffBut, Leads as LeadsIn}
-use Rattle.fr_frame.specs.Bodies.{IsClosed, AreUnplaced}
-use Rattle.fr_frame.specs.Kids.{Kid, gone, there, at, Plot, entered_plot, whole_plot, begun_plot, Kids, no_kids, kid, tree_of, tree_in, trees_in, cells_in, body_in}
-use Rattle.fr_store.specs.OffLaws.{marked_off, off_stored, reach_place}
-use Rattle.fr_store.specs.Walks.{IsStoredAt, ComesBefore, IsWalk}
-use Rattle.fr_store.specs.Ways.{count_kids, kid_nth, kid_at, AllMarked, AllMarkedIn, AllMarkedAmong, StoredBut, NoneStored, Leads, Reaches}
-use Rattle.fr_store.specs.WayLaws.{tree_of_at, tree_of_nth, count_in}
+use Rattle.fr_model.specs.Tree.{deferred}
+use Rattle.fr_model.specs.Well.{AllOff, OffBut, Leads as LeadsIn}
+use Rattle.fr_store.specs.OffLaws.{marked_off}
 use Rattle.fr_store.proofs.HeadLaws.{Head, later, head_closed}
 use Rattle.fr_store.proofs.PathOrder.{first_front}
 
@@ -33,7 +19,7 @@ use Rattle.fr_store.proofs.PathOrder.{first_front}
 -- a place of the tree is reached
 pub place_reach : (place : Place) (k : Kid) → HasPlace place (tree_of k) → Reaches place k
 place_reach [] k has = tt
-place_reach (i ∷ place) (at slot stored (begun_plot form kids)) has = (
+place_reach (i ∷ place) (at slot stored (begun_plot tracker kids)) has = (
   omega (arith, count_in kids, has.0),
   place_reach place (kid_nth i kids) (subst (λ (t : Tree). HasPlace place t) (sym (tree_of_nth i kids)) has.1),
 )
@@ -53,19 +39,14 @@ half_stored cursor place k leads off has half =
     go (at slot mark plot) e marked half =
         let stored : AllMarked true (at slot mark plot) = subst (AllMarked true) e marked in (
           slot,
-          record {
-            plot = plot;
-            reaches = place_reach place k has;
-            is = e ∙ ap (λ (b : Bool). at slot b plot) stored.0;
-          },
+          record { plot = plot; reaches = place_reach place k has; is = e ∙ ap (λ (b : Bool). at slot b plot) stored.0 },
         )
 
 -- a place that lacks something by itself, and is in a slot, is half done
 lacks_half : (hooks : Meanings) (table : Table) (s : ℕ) (plot : Plot) (kind : ReflectErrorKind)
     → own_lack hooks table s (tree_in plot) ≡ Some kind → IsHalfDone (tree_in plot)
-lacks_half hooks table s entered_plot kind lacks = tt
 lacks_half hooks table s (whole_plot v) kind lacks = absurd (cc)
-lacks_half hooks table s (begun_plot form kids) kind lacks = tt
+lacks_half hooks table s _ kind lacks = tt
 
 -- Ways of the tree.
 
@@ -76,9 +57,8 @@ unplaced_off (kid (there v) ks) closed = (tt, unplaced_off ks closed.1)
 unplaced_off (kid (at slot stored plot) ks) closed = absurd closed.0
 
 pub closed_cursor : (plot : Plot) → IsClosed (body_in plot) → AtCursor strict (tree_in plot)
-closed_cursor entered_plot closed = tt
-closed_cursor (whole_plot v) closed = tt
-closed_cursor (begun_plot form kids) closed = unplaced_off kids closed
+closed_cursor (begun_plot tracker kids) closed = unplaced_off kids closed
+closed_cursor _ closed = tt
 
 any_off : (start : ℕ) (ts : Trees) → AllOff (deferred start) ts
 any_off start no_trees = tt
@@ -92,18 +72,16 @@ but_off start (suc i) Below After (kid k ks) but so = (tt, but_off start i Below
 
 -- in deferred mode the way leads through the tree
 pub leads_deferred : (start : ℕ) (place : Place) (k : Kid) → Leads place k → LeadsIn (deferred start) place (tree_of k)
-leads_deferred start [] gone leads = absurd leads
-leads_deferred start [] (there v) leads = absurd leads
 leads_deferred start [] (at slot stored entered_plot) leads = tt
 leads_deferred start [] (at slot stored (whole_plot v)) leads = tt
-leads_deferred start [] (at slot stored (begun_plot form kids)) leads = any_off start (trees_in kids)
-leads_deferred start (i ∷ place) gone leads = absurd leads
-leads_deferred start (i ∷ place) (there v) leads = absurd leads
+leads_deferred start [] (at slot stored (begun_plot tracker kids)) leads = any_off start (trees_in kids)
+leads_deferred start [] _ leads = absurd leads
 leads_deferred start (i ∷ place) (at slot stored entered_plot) leads = absurd leads.1
 leads_deferred start (i ∷ place) (at slot stored (whole_plot v)) leads = absurd leads.1
-leads_deferred start (i ∷ place) (at slot stored (begun_plot form kids)) leads =
+leads_deferred start (i ∷ place) (at slot stored (begun_plot tracker kids)) leads =
     but_off start i (λ below. Leads place below) (λ child. LeadsIn (deferred start) place child) kids leads.1
     (λ child. leads_deferred start place (kid_nth i kids) child)
+leads_deferred start (i ∷ place) _ leads = absurd leads
 
 -- Nothing is both stored and not stored.
 
@@ -115,55 +93,45 @@ kids_off (kid (at slot stored plot) ks) marked unmarked =
     let apart : true ≡ false = sym marked.0.0 ∙ unmarked.0.0 in
     cc
 
-but_strict : (i : ℕ) (Below : Kid → Type 0) (After : Tree → Type 0) (ks : Kids) → StoredBut i Below ks
-    → AllMarkedAmong false ks
+but_strict : (i : ℕ) (Below : Kid → Type 0) (After : Tree → Type 0) (ks : Kids) → StoredBut i Below ks → AllMarkedAmong false ks
     → (Below (kid_nth i ks) → AllMarked false (kid_nth i ks) → After (tree_of (kid_nth i ks)))
     → OffBut strict i After (trees_in ks)
 but_strict i Below After no_kids but unmarked so = absurd but
 but_strict zero Below After (kid k ks) but unmarked so = (so but.0 unmarked.0, kids_off ks but.1 unmarked.1)
-but_strict (suc i) Below After (kid gone ks) but unmarked so =
-    (tt, but_strict i Below After ks but.1 unmarked.1 so)
-but_strict (suc i) Below After (kid (there v) ks) but unmarked so =
-    (tt, but_strict i Below After ks but.1 unmarked.1 so)
+but_strict (suc i) Below After (kid gone ks) but unmarked so = (tt, but_strict i Below After ks but.1 unmarked.1 so)
+but_strict (suc i) Below After (kid (there v) ks) but unmarked so = (tt, but_strict i Below After ks but.1 unmarked.1 so)
 but_strict (suc i) Below After (kid (at slot stored plot) ks) but unmarked so =
     let apart : true ≡ false = sym but.0.0 ∙ unmarked.0.0 in
     cc
 
 -- where nothing is stored it leads as in strict mode
 pub leads_strict : (place : Place) (k : Kid) → Leads place k → NoneStored k → LeadsIn strict place (tree_of k)
-leads_strict [] gone leads none = absurd leads
-leads_strict [] (there v) leads none = absurd leads
 leads_strict [] (at slot stored entered_plot) leads none = tt
 leads_strict [] (at slot stored (whole_plot v)) leads none = tt
-leads_strict [] (at slot stored (begun_plot form kids)) leads none = kids_off kids leads.1 none.1
-leads_strict (i ∷ place) gone leads none = absurd leads
-leads_strict (i ∷ place) (there v) leads none = absurd leads
+leads_strict [] (at slot stored (begun_plot tracker kids)) leads none = kids_off kids leads.1 none.1
+leads_strict [] _ leads none = absurd leads
 leads_strict (i ∷ place) (at slot stored entered_plot) leads none = absurd leads.1
 leads_strict (i ∷ place) (at slot stored (whole_plot v)) leads none = absurd leads.1
-leads_strict (i ∷ place) (at slot stored (begun_plot form kids)) leads none =
+leads_strict (i ∷ place) (at slot stored (begun_plot tracker kids)) leads none =
     but_strict i (λ below. Leads place below) (λ child. LeadsIn strict place child) kids leads.1 none.1
     (λ child unmarked. leads_strict place (kid_nth i kids) child unmarked)
+leads_strict (i ∷ place) _ leads none = absurd leads
 
 -- where no place is stored none is marked
 mutual
   pub no_marks : (k : Kid) → ((slot : ℕ) (place : Place) → IsStoredAt k slot place → ⊥) → NoneStored k
-  no_marks gone none = tt
-  no_marks (there v) none = tt
-  no_marks (at slot true plot) none =
-      absurd (none slot [] (record { plot = plot; reaches = tt; is = refl }))
+  no_marks (at slot true plot) none = absurd (none slot [] (record { plot = plot; reaches = tt; is = refl }))
   no_marks (at slot false plot) none = (refl, no_marks_in slot plot none)
+  no_marks _ none = tt
 
   no_marks_in : (own : ℕ) (plot : Plot) → ((slot : ℕ) (place : Place) → IsStoredAt (at own false plot) slot place → ⊥)
       → AllMarkedIn false plot
-  no_marks_in own entered_plot none = tt
-  no_marks_in own (whole_plot v) none = tt
-  no_marks_in own (begun_plot form kids) none =
-      no_marks_among kids
-      (λ i slot place h stored. none slot (i ∷ place)
+  no_marks_in own (begun_plot tracker kids) none =
+      no_marks_among kids (λ i slot place h stored. none slot (i ∷ place)
       (record { plot = stored.plot; reaches = (h, stored.reaches); is = stored.is }))
+  no_marks_in own _ none = tt
 
-  no_marks_among : (ks : Kids)
-      → ((i slot : ℕ) (place : Place) → i < count_kids ks → IsStoredAt (kid_nth i ks) slot place → ⊥)
+  no_marks_among : (ks : Kids) → ((i slot : ℕ) (place : Place) → i < count_kids ks → IsStoredAt (kid_nth i ks) slot place → ⊥)
       → AllMarkedAmong false ks
   no_marks_among no_kids none = tt
   no_marks_among (kid k ks) none = (
@@ -185,20 +153,16 @@ module _ (hooks : Meanings) (table : Table) (s : ℕ) (path : List PathStep) (k 
   fails : LackingFails → Contains (failures_off hooks table s path cursor (tree_of k)) first_failure
   fails lacking =
       lacking hooks table s path (deferred 0) cursor head.place (tree_of k) kind (leads_deferred 0 cursor k leads)
-      (reach_place head.place k head.stored.reaches)
-      (off_stored cursor head.place k n head.stored.plot leads head.stored.is)
-      (subst IsHalfDone (sym tree_there)
-      (lacks_half hooks table (shape_in table s head.place (tree_of k)) head.stored.plot kind
+      (reach_place head.place k head.stored.reaches) (off_stored cursor head.place k n head.stored.plot leads head.stored.is)
+      (subst IsHalfDone (sym tree_there) (lacks_half hooks table (shape_in table s head.place (tree_of k)) head.stored.plot kind
       (ap (own_lack hooks table (shape_in table s head.place (tree_of k))) (sym tree_there) ∙ lacks)))
-      (subst (AtCursor strict) (sym tree_there)
-      (closed_cursor head.stored.plot (head_closed k n rest walk head cursor leads)))
+      (subst (AtCursor strict) (sym tree_there) (closed_cursor head.stored.plot (head_closed k n rest walk head cursor leads)))
       lacks
 
   -- every other failure comes after it
   others : EachFailureHasItsPlace → (other : Failure) → Contains (failures_off hooks table s path cursor (tree_of k)) other
       → IsOrAfter first_failure other
-  others each other found =
-      go (later k n rest walk head stored.0 told.fails.here stored.1)
+  others each other found = go (later k n rest walk head stored.0 told.fails.here stored.1)
     where
       told : FailsOff hooks table s path cursor (tree_of k) other
       told = each hooks table s path cursor (tree_of k) other found
@@ -210,18 +174,15 @@ module _ (hooks : Meanings) (table : Table) (s : ℕ) (path : List PathStep) (k 
       go (inl e) =
           let own : own_lack hooks table (shape_in table s head.place (tree_of k)) (tree_at head.place (tree_of k))
           ≡ Some other.kind
-          = subst
-          (λ (p : Place). own_lack hooks table (shape_in table s p (tree_of k)) (tree_at p (tree_of k)) ≡ Some other.kind)
+          = subst (λ (p : Place). own_lack hooks table (shape_in table s p (tree_of k)) (tree_at p (tree_of k)) ≡ Some other.kind)
           (sym e) told.fails.lacks in
           let both : Some other.kind ≡ Some kind = sym own ∙ lacks in
           let same : other.kind ≡ kind = cc in
-          inl
-          (ap (λ (to : List PathStep). record { path = to; kind = other.kind })
+          inl (ap (λ (to : List PathStep). record { path = to; kind = other.kind })
           (told.fails.at ∙ ap (λ (p : Place). path ++ steps_in p (tree_of k)) (sym e))
           ∙ ap (λ (x : ReflectErrorKind). record { path = path ++ steps_in head.place (tree_of k); kind = x }) same)
       go (inr found) =
-          inr
-          (ap (walk_order (path ++ steps_in head.place (tree_of k))) told.fails.at
+          inr (ap (walk_order (path ++ steps_in head.place (tree_of k))) told.fails.at
           ∙ first_front path (steps_in head.place (tree_of k)) (steps_in told.fails.here (tree_of k))
           ∙ All-contains (λ (p : Place). ComesBefore (tree_of k) head.place p) head.places told.fails.here head.before found)
 
@@ -241,13 +202,10 @@ pub held_by_first : FinishesOrRefuses → (hooks : Meanings) (table : Table) (s 
     → kind_of (first_by_walk (failures_off hooks table s [] cursor tree)) ≡ Some kind
     → (finished hooks table s cursor tree ≡ None) × (kind ≡ finish_cause hooks table s cursor tree)
 held_by_first refuses hooks table s cursor tree kind leads first = (
-  none_of (finished hooks table s cursor tree)
-      (refuses hooks table s [] (deferred 0) cursor tree leads
-      ∙ ap
+  none_of (finished hooks table s cursor tree) (refuses hooks table s [] (deferred 0) cursor tree leads ∙ ap
       (λ (x : Option ReflectErrorKind). is_some
       (option_or x (own_lack hooks table (shape_in table s cursor tree) (tree_at cursor tree)))) first),
-  sym (ap
-      (λ (x : Option ReflectErrorKind). refusal_or
+  sym (ap (λ (x : Option ReflectErrorKind). refusal_or
       (option_or x (own_lack hooks table (shape_in table s cursor tree) (tree_at cursor tree)))
       (missing_value (shape_in table s cursor tree))) first),
 )
@@ -262,10 +220,8 @@ held_by_last refuses hooks table s cursor tree kind leads none lacks =
     = ap (λ (fs : List Failure). kind_of (first_by_walk fs)) none in
     let cause : option_or (kind_of (first_by_walk (failures_off hooks table s [] cursor tree)))
     (own_lack hooks table (shape_in table s cursor tree) (tree_at cursor tree)) ≡ Some kind
-    = ap
-    (λ (x : Option ReflectErrorKind). option_or x
+    = ap (λ (x : Option ReflectErrorKind). option_or x
     (own_lack hooks table (shape_in table s cursor tree) (tree_at cursor tree))) nothing ∙ lacks in (
-      none_of (finished hooks table s cursor tree)
-          (refuses hooks table s [] (deferred 0) cursor tree leads ∙ ap is_some cause),
+      none_of (finished hooks table s cursor tree) (refuses hooks table s [] (deferred 0) cursor tree leads ∙ ap is_some cause),
       sym (ap (λ (x : Option ReflectErrorKind). refusal_or x (missing_value (shape_in table s cursor tree))) cause),
     )

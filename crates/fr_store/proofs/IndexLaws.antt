@@ -1,10 +1,8 @@
 -- Lists of numbers and, under each number, where it stands in the list.
 use Rattle.std.proofs.Common.{◌≡◌, ◌≢◌, ◌⊎◌, ◌↔◌, ℕ, zero, suc, ◌+◌, ◌<◌, ◌≤◌, List, [], ◌∷◌, ◌++◌, length, set, get_or, slice_get, Some, Contains, length-set, inl, inr, refl, sym, ◌∙◌, ap, subst, arith}
 use Rattle.std.proofs.lemmas.List.{length-map, get_or_default, get_or_append_left, get_or_push, get_or-set_same, get_or-set_other, length_push, map_push, map-set}
-use Rattle.fr_store.specs.declared.turning.StoredPlace.{StoredPlace}
-use Rattle.fr_store.specs.Numbers.{slot_of, slots_of, IsIndexed}
-use Rattle.fr_store.specs.Places.{AreOnce}
-use Rattle.fr_store.specs.WayLaws.{same_or_other}
+use Rattle.fr_store.specs.Common.{AreOnce, StoredPlace, same_or_other, slot_of, slots_of}
+use Rattle.fr_store.specs.Numbers.{IsIndexed}
 use Rattle.fr_store.proofs.PairLaws.{room_below}
 
 -- Reading.
@@ -51,18 +49,15 @@ module _ (all positions : List ℕ) (n : ℕ) (indexed : IsIndexed all positions
       long : length (all ++ n ∷ []) ≡ length all + 1
       long = length_push all n
 
-      go : (i ≡ length all) ⊎ (i ≢ length all)
-          → slice_get (set positions n (length all)) (get_or (all ++ n ∷ []) i 0) ≡ Some i
+      go : (i ≡ length all) ⊎ (i ≢ length all) → slice_get (set positions n (length all)) (get_or (all ++ n ∷ []) i 0) ≡ Some i
       go (inl e) =
           ap (slice_get (set positions n (length all))) (get_or_push all n 0 i (sym e))
           ∙ get_set_same positions n (length all) room ∙ ap (λ (k : ℕ). Some k) (sym e)
       go (inr ne) =
           let inside : i < length all = omega (arith, long) in
           let here : get_or (all ++ n ∷ []) i 0 ≡ get_or all i 0 = get_or_append_left all (n ∷ []) 0 i inside in
-          ap (slice_get (set positions n (length all))) here
-          ∙ get_set_other positions n (length all) (get_or all i 0)
-          (λ e. apart (i, inside, get_or_default all i n 0 inside ∙ e))
-          ∙ indexed i inside
+          ap (slice_get (set positions n (length all))) here ∙ get_set_other positions n (length all) (get_or all i 0)
+          (λ e. apart (i, inside, get_or_default all i n 0 inside ∙ e)) ∙ indexed i inside
 
 -- One number less: the last one comes into its stead, or is the one.
 module _ (front positions : List ℕ) (last : ℕ) (indexed : IsIndexed (front ++ last ∷ []) positions) where
@@ -74,8 +69,7 @@ module _ (front positions : List ℕ) (last : ℕ) (indexed : IsIndexed (front +
 
   last_at : slice_get positions last ≡ Some (length front)
   last_at =
-      ap (slice_get positions) (sym (get_or_push front last 0 (length front) refl))
-      ∙ indexed (length front) (omega (arith, long))
+      ap (slice_get positions) (sym (get_or_push front last 0 (length front) refl)) ∙ indexed (length front) (omega (arith, long))
 
   first_at : (i : ℕ) → i < length front → slice_get positions (get_or front i 0) ≡ Some i
   first_at i h = ap (slice_get positions) (sym (first i 0 h)) ∙ indexed i (omega (arith, long))
@@ -119,8 +113,7 @@ module _ (front positions : List ℕ) (last : ℕ) (indexed : IsIndexed (front +
           = sym (get_or-set_same front p last n inside) ∙ ap (λ (j : ℕ). get_or (set front p last) j n) (sym e) ∙ reads in (
             (length front, omega (arith, long), get_or_push front last n (length front) refl ∙ is),
             λ same.
-                let two : Some p ≡ Some (length front)
-                = sym at ∙ ap (slice_get positions) (sym same ∙ sym is) ∙ last_at in
+                let two : Some p ≡ Some (length front) = sym at ∙ ap (slice_get positions) (sym same ∙ sym is) ∙ last_at in
                 let no : p ≡ length front = cc in
                 omega arith,
           )
@@ -129,8 +122,7 @@ module _ (front positions : List ℕ) (last : ℕ) (indexed : IsIndexed (front +
             (k, omega (arith, long), first k n within ∙ is),
             λ same.
                 let two : Some p ≡ Some k
-                = sym at ∙ ap (slice_get positions) (sym same ∙ sym is ∙ get_or_default front k n 0 within)
-                ∙ first_at k within in
+                = sym at ∙ ap (slice_get positions) (sym same ∙ sym is ∙ get_or_default front k n 0 within) ∙ first_at k within in
                 let no : p ≡ k = cc in
                 ne (sym no),
           )
@@ -142,8 +134,7 @@ module _ (front positions : List ℕ) (last : ℕ) (indexed : IsIndexed (front +
           (p, omega (arith, length-set front p last), get_or-set_same front p last n inside ∙ is)
       was_there n k bound reads apart (inr ne) (inl e) =
           let is : get_or front k n ≡ n = sym (first k n (omega arith)) ∙ reads in
-          absurd (apart
-          (sym is ∙ get_or_default front k n 0 (omega arith) ∙ ap (λ (j : ℕ). get_or front j 0) e ∙ held))
+          absurd (apart (sym is ∙ get_or_default front k n 0 (omega arith) ∙ ap (λ (j : ℕ). get_or front j 0) e ∙ held))
       was_there n k bound reads apart (inr ne) (inr other) = (
         k,
         omega (arith, length-set front p last),
@@ -153,8 +144,7 @@ module _ (front positions : List ℕ) (last : ℕ) (indexed : IsIndexed (front +
       pub rest_less : (n : ℕ) → Contains (set front p last) n ↔ (Contains (front ++ last ∷ []) n × (n ≢ place))
       rest_less n = (
         λ found. stays n found.0 (omega (arith, length-set front p last, found.1)) found.2 (same_or_other found.0 p),
-        λ both.
-            was_there n both.0.0 (omega (arith, long, both.0.1)) both.0.2 both.1 (same_or_other both.0.0 (length front))
+        λ both. was_there n both.0.0 (omega (arith, long, both.0.1)) both.0.2 both.1 (same_or_other both.0.0 (length front))
             (same_or_other both.0.0 p),
       )
 
@@ -191,8 +181,7 @@ module _ (slots front : List StoredPlace) (positions : List ℕ) (last : StoredP
 
   found_at : p ≡ found_so.0
   found_at =
-      read positions place found_so.0 p
-      (stands_at (slots_of front ++ slot_of last ∷ []) positions place indexed_so found_so) is
+      read positions place found_so.0 p (stands_at (slots_of front ++ slot_of last ∷ []) positions place indexed_so found_so) is
 
   long_so : length (slots_of front ++ slot_of last ∷ []) ≡ length (slots_of front) + 1
   long_so = length_push (slots_of front) (slot_of last)
@@ -208,9 +197,7 @@ module _ (slots front : List StoredPlace) (positions : List ℕ) (last : StoredP
       let held : slot_of last ≡ place
       = sym (get_or_push (slots_of front) (slot_of last) place found_so.0 (omega (arith, count, long_so, found_at, found_so.1)))
       ∙ found_so.2 in
-      subst
-      (λ (m : ℕ). Contains (slots_of front) n ↔ (Contains (slots_of slots) n × (n ≢ m)))
-      held
+      subst (λ (m : ℕ). Contains (slots_of front) n ↔ (Contains (slots_of slots) n × (n ≢ m))) held
       (subst (λ (l : List ℕ). Contains (slots_of front) n ↔ (Contains l n × (n ≢ slot_of last))) (sym all)
       (rest_front (slots_of front) positions (slot_of last) indexed_so n))
 
@@ -223,15 +210,12 @@ module _ (slots front : List StoredPlace) (positions : List ℕ) (last : StoredP
       → (n : ℕ) → Contains (slots_of (set front p last)) n ↔ (Contains (slots_of slots) n × (n ≢ place))
   slots_rest_less inside n =
       let within : p < length (slots_of front) = omega (arith, count) in
-      let held : get_or (slots_of front) p 0 ≡ place
-      = ap (λ (k : ℕ). get_or (slots_of front) k 0) found_at
+      let held : get_or (slots_of front) p 0 ≡ place = ap (λ (k : ℕ). get_or (slots_of front) k 0) found_at
       ∙ get_or_default (slots_of front) found_so.0 0 place (omega (arith, count, found_at))
       ∙ sym (get_or_append_left (slots_of front) (slot_of last ∷ []) place found_so.0 (omega (arith, count, found_at)))
       ∙ found_so.2 in
       subst (λ (l : List ℕ). Contains l n ↔ (Contains (slots_of slots) n × (n ≢ place))) (sym (map-set slot_of front p last))
-      (subst
-      (λ (l : List ℕ). Contains (set (slots_of front) p (slot_of last)) n ↔ (Contains l n × (n ≢ place)))
-      (sym all)
+      (subst (λ (l : List ℕ). Contains (set (slots_of front) p (slot_of last)) n ↔ (Contains l n × (n ≢ place))) (sym all)
       (rest_less (slots_of front) positions (slot_of last) indexed_so p within place held n))
 
 -- The same of slots of which there is one more.

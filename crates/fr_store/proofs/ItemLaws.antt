@@ -1,30 +1,15 @@
 -- Laws of items, for proofs: the top has one more child behind the others, which gets a slot and is on top then.
 use Rattle.std.proofs.Common.{◌≡◌, ◌≢◌, ℕ, zero, suc, ◌+◌, ◌<◌, true, false, List, [], ◌∷◌, ◌++◌, Option, Some, None, refl, sym, ◌∙◌, ap, subst, arith}
-use Rattle.fr_shape.specs.declared.shape.Def.{Def}
-use Rattle.fr_model.specs.Collections.{is_map, is_map_form}
-use Rattle.fr_model.specs.Places.{Place}
-use Rattle.fr_model.specs.Tree.{Form, as_struct, as_array, as_variant, as_some, as_ok, as_err, as_pointer, as_list, as_slice, as_closed_slice, as_set, as_map, as_dyn_array, as_dyn_object, Tree, hole, Trees, begun, branch, and_last, count_below, tree_at, change_at}
-use Rattle.fr_plan.specs.declared.nodes.NodeId.{NodeId}
-use Rattle.fr_plan.specs.TypePlan.{Plan}
-use Rattle.fr_frame.specs.declared.places.FrameOwner.{FrameOwner}
-use Rattle.fr_frame.specs.declared.places.Slot.{Slot}
-use Rattle.fr_frame.specs.Bodies.{Body, begun_body, added, added_entry, IsGrowing, IsMapBody, IsUnplaced, TakesItems}
-use Rattle.fr_frame.specs.Cells.{Cell, absent}
-use Rattle.fr_frame.specs.Changes.{IfInUse, SameMarks, SameTokens, Shows}
-use Rattle.fr_frame.specs.Heap.{Node, Heap, depth_above, depth_below, depth_limit, heap_of, item_owner, stored_in, with_body, with_entered}
-use Rattle.fr_frame.specs.Kids.{Kid, gone, at, Plot, begun_plot, Kids, no_kids, kid, MayHave, tree_of, tree_in, trees_in, cell_of, cells_in, body_in, kid_occurs, kids_occur, child_node, child_owner, HoldsAll, IsThere, AreLeftAll}
-use Rattle.fr_store.specs.EnterLaws.{fresh_plot, fresh_tree}
+use Rattle.fr_store.specs.Common.{AllMarkedAmong, AllServe, AllStayPut, AreLeftAll, Body, Cell, ContentKind, Def, EntriesKind, FrameOwner, HasTracker, Heap, HoldsAll, IfInUse, IsLast, IsOpen, IsOpenAt, IsPlaced, IsThere, IsUnplaced, ItemsKind, KeepsChildren, Kid, Kids, MayHave, Node, NodeId, Place, Plan, Plot, Reaches, SameMarks, SameTokens, Shows, Slot, Stands, Top, Tracker, Tree, Trees, absent, all_kept, and_last, as_content, as_elements, as_entries, as_fields, as_items, at, begun, begun_body, begun_plot, body_here, body_in, body_other, branch, cell_of, cells_count, cells_in, change_at, child_node, child_owner, count_here, count_in, count_kids, cursor_in, depth_below, depth_limit, fresh_plot, fresh_tree, gone, heap_of, hole, is_map, is_map_tracker, kid, kid_at, kid_here, kid_nth, kid_occurs, kids_occur, marked_body, no_kids, node_along, node_here, occurs_put_at, open_at_from, open_reach, open_top, put_at, put_nth, slot_here, so_top, stored_in, tokens_kept, top_found, top_of, top_slot, tree_at, tree_change_at, tree_here, tree_in, tree_in_slots, tree_of, tree_of_at, trees_in, used_mapped, uses, uses_among, with_body, with_entered}
+use Rattle.fr_store.specs.MoveLaws.{top_node}
+use Rattle.fr_model.specs.Tree.{count_below}
+use Rattle.fr_frame.specs.Bodies.{added, added_entry, IsGrowing, IsMapBody, TakesItems}
+use Rattle.fr_frame.specs.Heap.{depth_above, item_owner}
 use Rattle.fr_store.specs.LeftLaws.{entry_next, left_past}
-use Rattle.fr_store.specs.MoveLaws.{open_at_from, open_reach, open_top, so_top, tokens_kept, top_found, top_node, top_slot, top_so, top_stands_in}
-use Rattle.fr_store.specs.Moves.{HasForm, IsOpenAt, count_here, cursor_in, node_here, tree_here, tree_in_slots, with_item_of, with_key_of}
-use Rattle.fr_store.specs.Numbers.{IsLast}
-use Rattle.fr_store.specs.Places.{IsPlaced, slot_here}
-use Rattle.fr_store.specs.StandLaws.{all_kept, AllServe}
-use Rattle.fr_store.specs.Stands.{IsOpen, Stands, kid_here}
-use Rattle.fr_store.specs.Staying.{AllStayPut}
-use Rattle.fr_store.specs.TopLaws.{KeepsChildren, Top, body_here, body_other, cells_count, marked_body, marked_entered, top_of, used_mapped}
-use Rattle.fr_store.specs.Ways.{count_kids, kid_at, kid_nth, node_along, put_at, put_nth, uses, uses_among, AllMarkedAmong, Reaches}
-use Rattle.fr_store.specs.WayLaws.{kid_put_at, occurs_put_at, put_at_twice, tree_change_at, tree_of_at, count_in}
+use Rattle.fr_store.specs.MoveLaws.{top_so, top_stands_in}
+use Rattle.fr_store.specs.Moves.{with_item_of, with_key_of}
+use Rattle.fr_store.specs.TopLaws.{marked_entered}
+use Rattle.fr_store.specs.WayLaws.{kid_put_at, put_at_twice}
 use Rattle.fr_store.proofs.ChildLaws.{plot_formed}
 use Rattle.fr_store.proofs.EnteringLaws.{all_entered, child_plot, entered_kid, stands_entered, stay_entered, tokens_entered}
 use Rattle.fr_store.proofs.StayLaws.{stay_all, stay_shown}
@@ -73,64 +58,60 @@ pub marked_and_last : (ks : Kids) → AllMarkedAmong true ks → AllMarkedAmong 
 marked_and_last no_kids all = (tt, tt)
 marked_and_last (kid k ks) all = (all.0, marked_and_last ks all.1)
 
-pub holds_and_last : (plan : Plan) (heap : Heap) (node : NodeId) (slot : ℕ) (form : Form) (i depth : ℕ) (ks : Kids)
-    → ((count : ℕ) → MayHave form count) → HoldsAll plan heap node slot form i depth ks
-    → HoldsAll plan heap node slot form i depth (kids_and_last ks gone)
-holds_and_last plan heap node slot form i depth no_kids may holds = (tt, may (suc i))
-holds_and_last plan heap node slot form i depth (kid k ks) may holds =
-    (holds.0, holds_and_last plan heap node slot form (suc i) depth ks may holds.1)
+pub holds_and_last : (plan : Plan) (heap : Heap) (node : NodeId) (slot : ℕ) (tracker : Tracker) (i depth : ℕ) (ks : Kids)
+    → ((count : ℕ) → MayHave tracker count) → HoldsAll plan heap node slot tracker i depth ks
+    → HoldsAll plan heap node slot tracker i depth (kids_and_last ks gone)
+holds_and_last plan heap node slot tracker i depth no_kids may holds = (tt, may (suc i))
+holds_and_last plan heap node slot tracker i depth (kid k ks) may holds =
+    (holds.0, holds_and_last plan heap node slot tracker (suc i) depth ks may holds.1)
 
 -- Forms that take items.
 
-items_may_have : (form : Form) (count : ℕ) → TakesItems form → MayHave form count
-items_may_have as_list count takes = tt
-items_may_have as_slice count takes = tt
-items_may_have as_set count takes = tt
-items_may_have as_dyn_array count takes = tt
+items_may_have : (tracker : Tracker) (count : ℕ) → TakesItems tracker → MayHave tracker count
+items_may_have (as_items ItemsKind.List) count takes = tt
+items_may_have (as_items ItemsKind.Slice) count takes = tt
+items_may_have (as_items ItemsKind.Set) count takes = tt
+items_may_have (as_items ItemsKind.Array) count takes = tt
 items_may_have _ count takes = absurd takes
 
-pub left_and_last : (form : Form) (i : ℕ) (ks : Kids) → AreLeftAll form i ks → AreLeftAll form i (kids_and_last ks gone)
-left_and_last form i no_kids all =
-    (left_past form i gone all refl, tt, omega (arith, all, entry_next i))
-left_and_last form i (kid k ks) all = (all.0, all.1, left_and_last form (suc i) ks all.2)
+pub left_and_last : (tracker : Tracker) (i : ℕ) (ks : Kids) → AreLeftAll tracker i ks → AreLeftAll tracker i (kids_and_last ks gone)
+left_and_last tracker i no_kids all = (left_past tracker i gone all refl, tt, omega (arith, all, entry_next i))
+left_and_last tracker i (kid k ks) all = (all.0, all.1, left_and_last tracker (suc i) ks all.2)
 
 -- the place keeps its other children
-grown_keeps : (form : Form) (kids : Kids) → TakesItems form
-    → KeepsChildren (begun_plot form kids) (begun_plot form (kids_and_last kids gone))
-grown_keeps form kids takes = record {
+grown_keeps : (tracker : Tracker) (kids : Kids) → TakesItems tracker
+    → KeepsChildren (begun_plot tracker kids) (begun_plot tracker (kids_and_last kids gone))
+grown_keeps tracker kids takes = record {
   marked = λ h. marked_and_last kids h;
   once = λ n. omega (arith, uses_and_last kids n);
   holds = λ plan heap node slot depth h.
-      holds_and_last plan heap node slot form 0 depth kids (λ count. items_may_have form count takes) h;
-  left = λ h. left_and_last form 0 kids h;
+      holds_and_last plan heap node slot tracker 0 depth kids (λ count. items_may_have tracker count takes) h;
+  left = λ h. left_and_last tracker 0 kids h;
 }
 
-pub grown_stay : (slot : ℕ) (form made : Form) (kids : Kids)
-    → AllStayPut (at slot false (begun_plot form kids)) (at slot false (begun_plot made (kids_and_last kids gone)))
-grown_stay slot form made kids [] placed = (record { reaches = tt; here = tt }, refl)
-grown_stay slot form made kids (i ∷ place) placed =
+pub grown_stay : (slot : ℕ) (tracker made : Tracker) (kids : Kids)
+    → AllStayPut (at slot false (begun_plot tracker kids)) (at slot false (begun_plot made (kids_and_last kids gone)))
+grown_stay slot tracker made kids [] placed = (record { reaches = tt; here = tt }, refl)
+grown_stay slot tracker made kids (i ∷ place) placed =
     let same = nth_before i kids gone placed.reaches.0 in
     let below = subst (λ (x : Kid). IsPlaced x place) (sym same) (record { reaches = placed.reaches.1; here = placed.here }) in (
-      record {
-        reaches = (omega (arith, placed.reaches.0, count_and_last kids gone), below.reaches);
-        here = below.here;
-      },
+      record { reaches = (omega (arith, placed.reaches.0, count_and_last kids gone), below.reaches); here = below.here },
       ap (λ (x : Kid). slot_here (kid_at place x)) same,
     )
 
 -- So a place grows: behind its children come others that aren't there yet, if any do, and child i is then entered, which isn't in a
 -- slot. It may be begun otherwise then.
-pub record Grows (form made : Form) (kids more : Kids) (i : ℕ) (change : Body → Body) (with_new : Def → Tree → Tree) : Type 1 where
-  pub body : begun_body made (cells_in more) ≡ change (begun_body form (cells_in kids))
-  pub keeps : KeepsChildren (begun_plot form kids) (begun_plot made more)
-  pub stay : (slot : ℕ) → AllStayPut (at slot false (begun_plot form kids)) (at slot false (begun_plot made more))
+pub record Grows (tracker made : Tracker) (kids more : Kids) (i : ℕ) (change : Body → Body) (with_new : Def → Tree → Tree) : Type 1 where
+  pub body : begun_body made (cells_in more) ≡ change (begun_body tracker (cells_in kids))
+  pub keeps : KeepsChildren (begun_plot tracker kids) (begun_plot made more)
+  pub stay : (slot : ℕ) → AllStayPut (at slot false (begun_plot tracker kids)) (at slot false (begun_plot made more))
   pub used : (n : ℕ) → uses_among more n ≡ uses_among kids n
   pub occurs : (t : ℕ) → kids_occur more t ≡ kids_occur kids t
   pub within : i < count_kids more
   pub unplaced : IsUnplaced (cell_of (kid_nth i more))
-  pub vacant : is_map_form made ≡ true → IsThere (kid_nth i more) → ⊥
+  pub vacant : is_map_tracker made ≡ true → IsThere (kid_nth i more) → ⊥
   pub tree : (n : ℕ) (def : Def) → begun made (trees_in (put_nth i (at n false (child_plot def (kid_nth i more))) more))
-      ≡ with_new def (begun form (trees_in kids))
+      ≡ with_new def (begun tracker (trees_in kids))
 
 -- a child that isn't there
 pub gone_unplaced : (k : Kid) → k ≡ gone → IsUnplaced (cell_of k)
@@ -140,29 +121,27 @@ pub gone_vacant : (k : Kid) → k ≡ gone → IsThere k → ⊥
 gone_vacant k e is_there = subst IsThere e is_there
 
 -- gets what is fresh
-pub tree_vacant : (form : Form) (i : ℕ) (ks : Kids) (n : ℕ) (def : Def) → kid_nth i ks ≡ gone
-    → begun form (trees_in (put_nth i (at n false (child_plot def (kid_nth i ks))) ks))
-    ≡ begun form (trees_in (put_nth i (at n false (fresh_plot def)) ks))
-tree_vacant form i ks n def e =
-    ap (λ (x : Kid). begun form (trees_in (put_nth i (at n false (child_plot def x)) ks))) e
+pub tree_vacant : (tracker : Tracker) (i : ℕ) (ks : Kids) (n : ℕ) (def : Def) → kid_nth i ks ≡ gone
+    → begun tracker (trees_in (put_nth i (at n false (child_plot def (kid_nth i ks))) ks))
+    ≡ begun tracker (trees_in (put_nth i (at n false (fresh_plot def)) ks))
+tree_vacant tracker i ks n def e = ap (λ (x : Kid). begun tracker (trees_in (put_nth i (at n false (child_plot def x)) ks))) e
 
 -- one item
-items_grow : (form : Form) (kids : Kids) → TakesItems form
-    → Grows form form kids (kids_and_last kids gone) (count_kids kids) added with_item_of
-items_grow form kids takes = record {
-  body = ap (begun_body form) (cells_and_last kids);
-  keeps = grown_keeps form kids takes;
-  stay = λ slot. grown_stay slot form form kids;
+items_grow : (tracker : Tracker) (kids : Kids) → TakesItems tracker
+    → Grows tracker tracker kids (kids_and_last kids gone) (count_kids kids) added with_item_of
+items_grow tracker kids takes = record {
+  body = ap (begun_body tracker) (cells_and_last kids);
+  keeps = grown_keeps tracker kids takes;
+  stay = λ slot. grown_stay slot tracker tracker kids;
   used = uses_and_last kids;
   occurs = occurs_and_last kids;
   within = omega (arith, count_and_last kids gone);
   unplaced = gone_unplaced (kid_nth (count_kids kids) (kids_and_last kids gone)) (nth_last kids gone);
   vacant = λ of_map. gone_vacant (kid_nth (count_kids kids) (kids_and_last kids gone)) (nth_last kids gone);
-  tree = λ n def.
-      tree_vacant form (count_kids kids) (kids_and_last kids gone) n def (nth_last kids gone)
-      ∙ ap (λ (ks : Kids). begun form (trees_in ks)) (put_last kids gone (at n false (fresh_plot def)))
-      ∙ ap (begun form) (trees_and_last kids (at n false (fresh_plot def)))
-      ∙ ap (λ (t : Tree). begun form (and_last (trees_in kids) t)) (fresh_tree def);
+  tree = λ n def. tree_vacant tracker (count_kids kids) (kids_and_last kids gone) n def (nth_last kids gone)
+      ∙ ap (λ (ks : Kids). begun tracker (trees_in ks)) (put_last kids gone (at n false (fresh_plot def)))
+      ∙ ap (begun tracker) (trees_and_last kids (at n false (fresh_plot def)))
+      ∙ ap (λ (t : Tree). begun tracker (and_last (trees_in kids) t)) (fresh_tree def);
 }
 
 -- one entry: its key, and its value, which isn't there yet
@@ -175,49 +154,48 @@ two_cells : (ks : Kids) → cells_in (kids_and_last (kids_and_last ks gone) gone
 two_cells no_kids = refl
 two_cells (kid k ks) = ap (λ (cs : List Cell). cell_of k ∷ cs) (two_cells ks)
 
-two_stay : (slot : ℕ) (form : Form) (kids : Kids)
-    → AllStayPut (at slot false (begun_plot form kids)) (at slot false (begun_plot form (kids_and_last (kids_and_last kids gone) gone)))
-two_stay slot form kids place placed =
-    let one = grown_stay slot form form kids place placed in
-    let two = grown_stay slot form form (kids_and_last kids gone) place one.0 in
+two_stay : (slot : ℕ) (tracker : Tracker) (kids : Kids)
+    → AllStayPut (at slot false (begun_plot tracker kids)) (at slot false (begun_plot tracker (kids_and_last (kids_and_last kids gone) gone)))
+two_stay slot tracker kids place placed =
+    let one = grown_stay slot tracker tracker kids place placed in
+    let two = grown_stay slot tracker tracker (kids_and_last kids gone) place one.0 in
     (two.0, two.1 ∙ one.1)
 
 nth_key : (kids : Kids) → kid_nth (count_kids kids) (kids_and_last (kids_and_last kids gone) gone) ≡ gone
 nth_key kids =
-    nth_before (count_kids kids) (kids_and_last kids gone) gone (omega (arith, count_and_last kids gone))
-    ∙ nth_last kids gone
+    nth_before (count_kids kids) (kids_and_last kids gone) gone (omega (arith, count_and_last kids gone)) ∙ nth_last kids gone
 
 entries_grow : (base : ℕ) (kids : Kids)
-    → Grows (as_map base) (as_map base) kids (kids_and_last (kids_and_last kids gone) gone) (count_kids kids) added_entry with_key_of
+    → Grows (as_entries (EntriesKind.Map base)) (as_entries (EntriesKind.Map base)) kids (kids_and_last (kids_and_last kids gone) gone) (count_kids kids) added_entry with_key_of
 entries_grow base kids = record {
-  body = ap (begun_body (as_map base)) (two_cells kids);
+  body = ap (begun_body (as_entries (EntriesKind.Map base))) (two_cells kids);
   keeps = record {
     marked = λ h. marked_and_last (kids_and_last kids gone) (marked_and_last kids h);
     once = λ n. omega (arith, uses_and_last kids n, uses_and_last (kids_and_last kids gone) n);
     holds = λ plan heap node slot depth h.
-        holds_and_last plan heap node slot (as_map base) 0 depth (kids_and_last kids gone) (λ count. tt)
-        (holds_and_last plan heap node slot (as_map base) 0 depth kids (λ count. tt) h);
+        holds_and_last plan heap node slot (as_entries (EntriesKind.Map base)) 0 depth (kids_and_last kids gone) (λ count. tt)
+        (holds_and_last plan heap node slot (as_entries (EntriesKind.Map base)) 0 depth kids (λ count. tt) h);
     left = λ h.
-        left_and_last (as_map base) 0 (kids_and_last kids gone) (left_and_last (as_map base) 0 kids h);
+        left_and_last (as_entries (EntriesKind.Map base)) 0 (kids_and_last kids gone) (left_and_last (as_entries (EntriesKind.Map base)) 0 kids h);
   };
-  stay = λ slot. two_stay slot (as_map base) kids;
+  stay = λ slot. two_stay slot (as_entries (EntriesKind.Map base)) kids;
   used = λ n. omega (arith, uses_and_last kids n, uses_and_last (kids_and_last kids gone) n);
   occurs = λ t. omega (arith, occurs_and_last kids t, occurs_and_last (kids_and_last kids gone) t);
   within = omega (arith, count_and_last kids gone, count_and_last (kids_and_last kids gone) gone);
   unplaced = gone_unplaced (kid_nth (count_kids kids) (kids_and_last (kids_and_last kids gone) gone)) (nth_key kids);
   vacant = λ of_map. gone_vacant (kid_nth (count_kids kids) (kids_and_last (kids_and_last kids gone) gone)) (nth_key kids);
   tree = λ n def.
-      tree_vacant (as_map base) (count_kids kids) (kids_and_last (kids_and_last kids gone) gone) n def (nth_key kids)
-      ∙ ap (λ (ks : Kids). begun (as_map base) (trees_in ks)) (put_key kids gone (at n false (fresh_plot def)))
-      ∙ ap (begun (as_map base)) (trees_and_last (kids_and_last kids (at n false (fresh_plot def))) gone)
-      ∙ ap (λ (ts : Trees). begun (as_map base) (and_last ts hole)) (trees_and_last kids (at n false (fresh_plot def)))
-      ∙ ap (λ (t : Tree). begun (as_map base) (and_last (and_last (trees_in kids) t) hole)) (fresh_tree def);
+      tree_vacant (as_entries (EntriesKind.Map base)) (count_kids kids) (kids_and_last (kids_and_last kids gone) gone) n def (nth_key kids)
+      ∙ ap (λ (ks : Kids). begun (as_entries (EntriesKind.Map base)) (trees_in ks)) (put_key kids gone (at n false (fresh_plot def)))
+      ∙ ap (begun (as_entries (EntriesKind.Map base))) (trees_and_last (kids_and_last kids (at n false (fresh_plot def))) gone)
+      ∙ ap (λ (ts : Trees). begun (as_entries (EntriesKind.Map base)) (and_last ts hole)) (trees_and_last kids (at n false (fresh_plot def)))
+      ∙ ap (λ (t : Tree). begun (as_entries (EntriesKind.Map base)) (and_last (and_last (trees_in kids) t) hole)) (fresh_tree def);
 }
 
 -- An open builder's top grows.
 module _ (plan : Plan) (before : List Slot) (stack : List ℕ) (open_now : IsOpen plan before stack) (p : ℕ) (last : IsLast stack p)
-    (form made : Form) (kids more : Kids) (i : ℕ) (begun_now : (open_top plan before stack open_now).plot ≡ begun_plot form kids)
-    (change : Body → Body) (with_new : Def → Tree → Tree) (grows : Grows form made kids more i change with_new) where
+    (tracker made : Tracker) (kids more : Kids) (i : ℕ) (begun_now : (open_top plan before stack open_now).plot ≡ begun_plot tracker kids)
+    (change : Body → Body) (with_new : Def → Tree → Tree) (grows : Grows tracker made kids more i change with_new) where
   abbrev k : Kid
   k = kid_here before stack
 
@@ -246,8 +224,7 @@ module _ (plan : Plan) (before : List Slot) (stack : List ℕ) (open_now : IsOpe
   stands_grown : Stands plan grown stack place first
   stands_grown =
       top_stands_in plan before grown stack open_now p last change (begun_plot made more) grown_body
-      (subst (λ (plot : Plot). KeepsChildren plot (begun_plot made more)) (sym begun_now) grows.keeps)
-      (λ m. refl)
+      (subst (λ (plot : Plot). KeepsChildren plot (begun_plot made more)) (sym begun_now) grows.keeps) (λ m. refl)
 
   stay_grown : AllStayPut k first
   stay_grown =
@@ -259,9 +236,8 @@ module _ (plan : Plan) (before : List Slot) (stack : List ℕ) (open_now : IsOpe
   all_grown : AllServe grown first
   all_grown =
       all_kept (heap_of before) grown place new k reach open_now.all
-      (λ m used. used_mapped (heap_of before) p (λ (x : Node). record x { body = change x.body }) m used)
-      (λ m.
-      let was : uses (kid_at place k) m ≡ uses (at top.slot false (begun_plot form kids)) m
+      (λ m used. used_mapped (heap_of before) p (λ (x : Node). record x { body = change x.body }) m used) (λ m.
+      let was : uses (kid_at place k) m ≡ uses (at top.slot false (begun_plot tracker kids)) m
       = ap (λ (x : Kid). uses x m) (top.is ∙ ap (λ (plot : Plot). at top.slot false plot) begun_now) in
       omega (arith, was, grows.used m))
 
@@ -298,7 +274,7 @@ module _ (plan : Plan) (before : List Slot) (stack : List ℕ) (open_now : IsOpe
       node_of (Some found) = found.node
       node_of None = plan.root
 
-  module _ (owner_of : Body → FrameOwner) (owner_is : owner_of (begun_body form (cells_in kids)) ≡ child_owner p i)
+  module _ (owner_of : Body → FrameOwner) (owner_is : owner_of (begun_body tracker (cells_in kids)) ≡ child_owner p i)
       (after : List Slot) (next : List ℕ) (def : Def) (n : ℕ) (node : NodeId)
       (is : node ≡ child_node plan (node_along plan plan.root place k) made i) (vacant : heap_of before n ≡ None)
       (shows : IfInUse before p (λ (found : Node). Shows after
@@ -318,8 +294,7 @@ module _ (plan : Plan) (before : List Slot) (stack : List ℕ) (open_now : IsOpe
     owner_same : owner_of (body_in top.plot) ≡ child_owner now.slot i
     owner_same = owner_here ∙ ap (λ (m : ℕ). child_owner m i) (sym slot_is)
 
-    shown : (m : ℕ) → heap_of after m
-        ≡ with_entered def grown (child_node plan (node_along plan plan.root place first) made i)
+    shown : (m : ℕ) → heap_of after m ≡ with_entered def grown (child_node plan (node_along plan plan.root place first) made i)
         (child_owner now.slot i) n m
     unfolding top_node
     shown m =
@@ -349,10 +324,9 @@ module _ (plan : Plan) (before : List Slot) (stack : List ℕ) (open_now : IsOpe
 
     tree_second : tree_of second ≡ change_at place (with_new def) (tree_of k)
     tree_second =
-        let was : tree_at place (tree_of k) ≡ begun form (trees_in kids)
+        let was : tree_at place (tree_of k) ≡ begun tracker (trees_in kids)
         = sym (tree_of_at place k) ∙ ap tree_of top.is ∙ ap tree_in begun_now in
-        ap tree_of (put_at_twice place new item k reach)
-        ∙ tree_change_at place (with_new def) item k
+        ap tree_of (put_at_twice place new item k reach) ∙ tree_change_at place (with_new def) item k
         (grows.tree n def ∙ ap (with_new def) (sym was))
 
     stands_second : Stands plan (heap_of after) (stack ++ n ∷ []) (place ++ i ∷ []) second
@@ -363,8 +337,7 @@ module _ (plan : Plan) (before : List Slot) (stack : List ℕ) (open_now : IsOpe
     occurs_second : (t : ℕ) → kid_occurs second t ≡ kid_occurs k t
     occurs_second t =
         tokens_entered plan grown (heap_of after) stack place first stands_grown now made more plot_same i grows.within
-        grows.unplaced grows.vacant def n free shown deep t
-        ∙ occurs_grown t
+        grows.unplaced grows.vacant def n free shown deep t ∙ occurs_grown t
 
     all_second : AllServe (heap_of after) second
     all_second =
@@ -381,8 +354,7 @@ module _ (plan : Plan) (before : List Slot) (stack : List ℕ) (open_now : IsOpe
     pub open_item : IsOpenAt plan after next (place ++ i ∷ []) (change_at place (with_new def) (tree_of k))
         × AllStayPut k (kid_here after next)
     open_item =
-        subst
-        (λ (s : List ℕ). IsOpenAt plan after s (place ++ i ∷ []) (change_at place (with_new def) (tree_of k))
+        subst (λ (s : List ℕ). IsOpenAt plan after s (place ++ i ∷ []) (change_at place (with_new def) (tree_of k))
         × AllStayPut k (kid_here after s)) (sym along) (
           open_at_from plan after (stack ++ n ∷ []) (place ++ i ∷ []) second
               (change_at place (with_new def) (tree_of k)) stands_second
@@ -392,62 +364,56 @@ module _ (plan : Plan) (before : List Slot) (stack : List ℕ) (open_now : IsOpe
 
     pub marks_item : SameMarks before after
     marks_item m =
-        ap stored_in (shown m)
-        ∙ marked_entered def grown (child_node plan (node_along plan plan.root place first) made i)
-        (child_owner now.slot i) n m free
-        ∙ marked_body (heap_of before) p change m
+        ap stored_in (shown m) ∙ marked_entered def grown (child_node plan (node_along plan plan.root place first) made i)
+        (child_owner now.slot i) n m free ∙ marked_body (heap_of before) p change m
 
 -- The same, as the calls say it, of a place that is begun so.
 module _ (plan : Plan) (before : List Slot) (stack : List ℕ) (open_now : IsOpen plan before stack) (p : ℕ) (last : IsLast stack p)
-    (form : Form) (has : HasForm form (tree_here before stack)) where
-  pub formed : (kids : Kids) × ((open_top plan before stack open_now).plot ≡ begun_plot form kids)
+    (tracker : Tracker) (has : HasTracker tracker (tree_here before stack)) where
+  pub formed : (kids : Kids) × ((open_top plan before stack open_now).plot ≡ begun_plot tracker kids)
   formed =
       let top = open_top plan before stack open_now in
-      plot_formed form top.plot
-      (subst (λ (t : Tree). HasForm form t) (sym (tree_of_at (cursor_in before stack) (kid_here before stack)) ∙ ap tree_of top.is) has)
+      plot_formed tracker top.plot
+      (subst (λ (t : Tree). HasTracker tracker t) (sym (tree_of_at (cursor_in before stack) (kid_here before stack)) ∙ ap tree_of top.is) has)
 
   pub counted : count_here before stack ≡ count_kids formed.0
   counted =
       let top = open_top plan before stack open_now in
-      ap count_below
-      (sym (tree_of_at (cursor_in before stack) (kid_here before stack)) ∙ ap tree_of top.is ∙ ap tree_in formed.1)
+      ap count_below (sym (tree_of_at (cursor_in before stack) (kid_here before stack)) ∙ ap tree_of top.is ∙ ap tree_in formed.1)
       ∙ count_in formed.0
 
-  pub formed_here : (So : Body → Type 0) → So (begun_body form (cells_in formed.0)) → IfInUse before p (λ (found : Node). So found.body)
+  pub formed_here : (So : Body → Type 0) → So (begun_body tracker (cells_in formed.0)) → IfInUse before p (λ (found : Node). So found.body)
   unfolding top_node
   formed_here So so =
       so_top plan before stack open_now p last (λ (found : Node). So found.body)
       (subst (λ (plot : Plot). So (body_in plot)) (sym formed.1) so)
 
-  module _ (more : Kids) (change : Body → Body) (with_new : Def → Tree → Tree) (grows : Grows form form formed.0 more (count_kids formed.0) change with_new)
+  module _ (more : Kids) (change : Body → Body) (with_new : Def → Tree → Tree) (grows : Grows tracker tracker formed.0 more (count_kids formed.0) change with_new)
       (after : List Slot) (next : List ℕ) (def : Def) (n : ℕ) (node : NodeId)
-      (is : node ≡ child_node plan (node_here plan before stack) form (count_here before stack)) (vacant : heap_of before n ≡ None)
+      (is : node ≡ child_node plan (node_here plan before stack) tracker (count_here before stack)) (vacant : heap_of before n ≡ None)
       (shows : IfInUse before p (λ (found : Node). Shows after
       (with_entered def (with_body (heap_of before) p change) node (item_owner p found.body) n)))
       (limit : IfInUse before p (λ (found : Node). depth_below (heap_of before) (item_owner p found.body) < depth_limit))
       (tokens : SameTokens before after) (along : next ≡ stack ++ n ∷ []) where
-    owner_is : item_owner p (begun_body form (cells_in formed.0)) ≡ child_owner p (count_kids formed.0)
+    owner_is : item_owner p (begun_body tracker (cells_in formed.0)) ≡ child_owner p (count_kids formed.0)
     owner_is = ap (child_owner p) (cells_count formed.0)
 
-    numbered : node ≡ child_node plan (node_here plan before stack) form (count_kids formed.0)
-    numbered = is ∙ ap (child_node plan (node_here plan before stack) form) counted
+    numbered : node ≡ child_node plan (node_here plan before stack) tracker (count_kids formed.0)
+    numbered = is ∙ ap (child_node plan (node_here plan before stack) tracker) counted
 
     both : IsOpenAt plan after next (cursor_in before stack ++ count_kids formed.0 ∷ [])
         (change_at (cursor_in before stack) (with_new def) (tree_in_slots before stack))
         × AllStayPut (kid_here before stack) (kid_here after next)
     both =
-        open_item plan before stack open_now p last form form formed.0 more (count_kids formed.0) formed.1 change with_new grows
-        (item_owner p) owner_is after next def n node numbered
-        vacant shows limit tokens along
+        open_item plan before stack open_now p last tracker tracker formed.0 more (count_kids formed.0) formed.1 change with_new grows
+        (item_owner p) owner_is after next def n node numbered vacant shows limit tokens along
 
     -- the new child is on top
     pub child_entered : IsOpenAt plan after next (cursor_in before stack ++ count_here before stack ∷ [])
         (change_at (cursor_in before stack) (with_new def) (tree_in_slots before stack))
     child_entered =
-        subst
-        (λ (count : ℕ). IsOpenAt plan after next (cursor_in before stack ++ count ∷ [])
-        (change_at (cursor_in before stack) (with_new def) (tree_in_slots before stack)))
-        (sym counted) both.0
+        subst (λ (count : ℕ). IsOpenAt plan after next (cursor_in before stack ++ count ∷ [])
+        (change_at (cursor_in before stack) (with_new def) (tree_in_slots before stack))) (sym counted) both.0
 
     -- no place leaves its slot
     pub child_stay : AllStayPut (kid_here before stack) (kid_here after next)
@@ -456,95 +422,83 @@ module _ (plan : Plan) (before : List Slot) (stack : List ℕ) (open_now : IsOpe
     -- and none is stored that wasn't, nor taken out of the store
     pub child_marks : SameMarks before after
     child_marks =
-        marks_item plan before stack open_now p last form form formed.0 more (count_kids formed.0) formed.1 change with_new grows
-        (item_owner p) owner_is after next def n node numbered
-        vacant shows limit tokens along
+        marks_item plan before stack open_now p last tracker tracker formed.0 more (count_kids formed.0) formed.1 change with_new grows
+        (item_owner p) owner_is after next def n node numbered vacant shows limit tokens along
 
 -- An item.
 module _ (plan : Plan) (before : List Slot) (stack : List ℕ) (open_now : IsOpen plan before stack) (p : ℕ) (last : IsLast stack p)
-    (form : Form) (has : HasForm form (tree_here before stack)) (takes : TakesItems form) where
+    (tracker : Tracker) (has : HasTracker tracker (tree_here before stack)) (takes : TakesItems tracker) where
   pub takes_item : IfInUse before p (λ (found : Node). IsGrowing found.body)
-  takes_item = formed_here plan before stack open_now p last form has (λ (body : Body). IsGrowing body) takes
+  takes_item = formed_here plan before stack open_now p last tracker has (λ (body : Body). IsGrowing body) takes
 
   module _ (after : List Slot) (next : List ℕ) (def : Def) (n : ℕ) (node : NodeId)
-      (is : node ≡ child_node plan (node_here plan before stack) form (count_here before stack)) (vacant : heap_of before n ≡ None)
+      (is : node ≡ child_node plan (node_here plan before stack) tracker (count_here before stack)) (vacant : heap_of before n ≡ None)
       (shows : IfInUse before p (λ (found : Node). Shows after
       (with_entered def (with_body (heap_of before) p added) node (item_owner p found.body) n)))
       (limit : IfInUse before p (λ (found : Node). depth_below (heap_of before) (item_owner p found.body) < depth_limit))
       (tokens : SameTokens before after) (along : next ≡ stack ++ n ∷ []) where
     abbrev its : Kids
-    its = (formed plan before stack open_now p last form has).0
+    its = (formed plan before stack open_now p last tracker has).0
 
     pub item_entered : IsOpenAt plan after next (cursor_in before stack ++ count_here before stack ∷ [])
         (change_at (cursor_in before stack) (with_item_of def) (tree_in_slots before stack))
     item_entered =
-        child_entered plan before stack open_now p last form has (kids_and_last its gone) added with_item_of
-        (items_grow form its takes) after next def n node is vacant shows limit tokens along
+        child_entered plan before stack open_now p last tracker has (kids_and_last its gone) added with_item_of
+        (items_grow tracker its takes) after next def n node is vacant shows limit tokens along
 
     pub item_stay : AllStayPut (kid_here before stack) (kid_here after next)
     item_stay =
-        child_stay plan before stack open_now p last form has (kids_and_last its gone) added with_item_of
-        (items_grow form its takes) after next def n node is vacant shows limit tokens along
+        child_stay plan before stack open_now p last tracker has (kids_and_last its gone) added with_item_of
+        (items_grow tracker its takes) after next def n node is vacant shows limit tokens along
 
     pub item_marks : SameMarks before after
     item_marks =
-        child_marks plan before stack open_now p last form has (kids_and_last its gone) added with_item_of
-        (items_grow form its takes) after next def n node is vacant shows limit tokens along
+        child_marks plan before stack open_now p last tracker has (kids_and_last its gone) added with_item_of
+        (items_grow tracker its takes) after next def n node is vacant shows limit tokens along
 
 -- A key.
 
-map_formed : (t : Tree) → is_map t ≡ true → (base : ℕ) × HasForm (as_map base) t
-map_formed (begun form ts) of_map = go form of_map
+pub map_tracker : (t : Tree) → is_map t ≡ true → (base : ℕ) × HasTracker (as_entries (EntriesKind.Map base)) t
+map_tracker (begun tracker ts) of_map = go tracker of_map
   where
-    go : (form : Form) → is_map_form form ≡ true → (base : ℕ) × (form ≡ as_map base)
-    go (as_map base) of_map = (base, refl)
-    go as_struct of_map = absurd (cc)
-    go as_array of_map = absurd (cc)
-    go (as_variant k) of_map = absurd (cc)
-    go as_some of_map = absurd (cc)
-    go as_ok of_map = absurd (cc)
-    go as_err of_map = absurd (cc)
-    go as_pointer of_map = absurd (cc)
-    go as_list of_map = absurd (cc)
-    go as_slice of_map = absurd (cc)
-    go as_closed_slice of_map = absurd (cc)
-    go as_set of_map = absurd (cc)
-    go as_dyn_array of_map = absurd (cc)
-    go (as_dyn_object keys) of_map = absurd (cc)
-map_formed _ of_map = absurd (cc)
+    go : (tracker : Tracker) → is_map_tracker tracker ≡ true → (base : ℕ) × (tracker ≡ as_entries (EntriesKind.Map base))
+    go (as_entries (EntriesKind.Map base)) of_map = (base, refl)
+    go (as_entries (EntriesKind.Object keys)) of_map = absurd (cc)
+    go _ of_map = absurd (cc)
+map_tracker _ of_map = absurd (cc)
 
 module _ (plan : Plan) (before : List Slot) (stack : List ℕ) (open_now : IsOpen plan before stack) (p : ℕ) (last : IsLast stack p)
     (of_map : is_map (tree_here before stack) ≡ true) where
   abbrev base : ℕ
-  base = (map_formed (tree_here before stack) of_map).0
+  base = (map_tracker (tree_here before stack) of_map).0
 
-  has_map : HasForm (as_map base) (tree_here before stack)
-  has_map = (map_formed (tree_here before stack) of_map).1
+  has_map : HasTracker (as_entries (EntriesKind.Map base)) (tree_here before stack)
+  has_map = (map_tracker (tree_here before stack) of_map).1
 
   pub takes_key : IfInUse before p (λ (found : Node). IsMapBody found.body)
-  takes_key = formed_here plan before stack open_now p last (as_map base) has_map (λ (body : Body). IsMapBody body) (base, refl)
+  takes_key = formed_here plan before stack open_now p last (as_entries (EntriesKind.Map base)) has_map (λ (body : Body). IsMapBody body) (base, refl)
 
   module _ (after : List Slot) (next : List ℕ) (def : Def) (n : ℕ) (node : NodeId)
-      (is : node ≡ child_node plan (node_here plan before stack) (as_map 0) (count_here before stack)) (vacant : heap_of before n ≡ None)
+      (is : node ≡ child_node plan (node_here plan before stack) (as_entries (EntriesKind.Map base)) (count_here before stack)) (vacant : heap_of before n ≡ None)
       (shows : IfInUse before p (λ (found : Node). Shows after
       (with_entered def (with_body (heap_of before) p added_entry) node (item_owner p found.body) n)))
       (limit : IfInUse before p (λ (found : Node). depth_below (heap_of before) (item_owner p found.body) < depth_limit))
       (tokens : SameTokens before after) (along : next ≡ stack ++ n ∷ []) where
     abbrev its_kids : Kids
-    its_kids = (formed plan before stack open_now p last (as_map base) has_map).0
+    its_kids = (formed plan before stack open_now p last (as_entries (EntriesKind.Map base)) has_map).0
 
     pub key_entered : IsOpenAt plan after next (cursor_in before stack ++ count_here before stack ∷ [])
         (change_at (cursor_in before stack) (with_key_of def) (tree_in_slots before stack))
     key_entered =
-        child_entered plan before stack open_now p last (as_map base) has_map (kids_and_last (kids_and_last its_kids gone) gone)
+        child_entered plan before stack open_now p last (as_entries (EntriesKind.Map base)) has_map (kids_and_last (kids_and_last its_kids gone) gone)
         added_entry with_key_of (entries_grow base its_kids) after next def n node is vacant shows limit tokens along
 
     pub key_stay : AllStayPut (kid_here before stack) (kid_here after next)
     key_stay =
-        child_stay plan before stack open_now p last (as_map base) has_map (kids_and_last (kids_and_last its_kids gone) gone)
+        child_stay plan before stack open_now p last (as_entries (EntriesKind.Map base)) has_map (kids_and_last (kids_and_last its_kids gone) gone)
         added_entry with_key_of (entries_grow base its_kids) after next def n node is vacant shows limit tokens along
 
     pub key_marks : SameMarks before after
     key_marks =
-        child_marks plan before stack open_now p last (as_map base) has_map (kids_and_last (kids_and_last its_kids gone) gone)
+        child_marks plan before stack open_now p last (as_entries (EntriesKind.Map base)) has_map (kids_and_last (kids_and_last its_kids gone) gone)
         added_entry with_key_of (entries_grow base its_kids) after next def n node is vacant shows limit tokens along

@@ -1,15 +1,9 @@
 -- The list of stored places, and the marks in the slots.
-use Rattle.std.proofs.Common.{◌≡◌, ◌≢◌, ◌⊎◌, ◌↔◌, ℕ, Bool, true, false, List, [], ◌∷◌, ◌++◌, Contains, Option, Some, None, IsSome, nat_eq, inl, inr, refl, sym, ◌∙◌, ap, subst, arith}
+use Rattle.std.proofs.Common.{◌≡◌, ◌≢◌, ◌⊎◌, ◌↔◌, ℕ, Bool, true, false, List, [], ◌∷◌, ◌++◌, Contains, Option, Some, None, IsSome, nat_eq, inl, inr, refl, sym, ◌∙◌, ap, subst, arith, if◌then◌else◌}
 use Rattle.std.proofs.lemmas.Bool.Decides.{nat_tests}
 use Rattle.std.proofs.lemmas.Grind.{common_steps}
 use Rattle.std.proofs.lemmas.List.Elements.{Contains-append_left, Contains-push, Contains-push_cases}
-use Rattle.std.specs.Option.{option_map}
-use Rattle.std.specs.Prelude.{if◌then◌else◌}
-use Rattle.fr_frame.specs.declared.places.Slot.{Slot}
-use Rattle.fr_frame.specs.Changes.{IsInUse, Shows}
-use Rattle.fr_frame.specs.Heap.{Node, Heap, heap_of, marked, stored_in, with_mark}
-use Rattle.fr_store.specs.Stored.{IsKept}
-use Rattle.fr_store.specs.WayLaws.{same_or_other}
+use Rattle.fr_store.specs.Common.{Heap, IsInUse, IsKept, Node, Shows, Slot, heap_of, marked, option_map, same_or_other, stored_in, with_mark}
 
 other_number : (m n : ℕ) → m ≢ n → nat_eq m n ≡ false
 other_number m n ne = grind (arith, common_steps, nat_tests)
@@ -24,17 +18,12 @@ now_marked None mark h = absurd (cc)
 
 pub mark_here : (heap : Heap) (n : ℕ) (mark : Bool) → IsSome (heap n) → marked (with_mark heap n mark) n ≡ mark
 mark_here heap n mark h =
-    ap
-    (λ (b : Bool).
-    stored_in (if b then option_map (λ (at : Node). record at { stored = mark }) (heap n) else heap n))
-    (same_number n)
-    ∙ now_marked (heap n) mark h
+    ap (λ (b : Bool). stored_in (if b then option_map (λ (at : Node). record at { stored = mark }) (heap n) else heap n))
+    (same_number n) ∙ now_marked (heap n) mark h
 
 pub mark_other : (heap : Heap) (n : ℕ) (mark : Bool) (m : ℕ) → m ≢ n → marked (with_mark heap n mark) m ≡ marked heap m
 mark_other heap n mark m ne =
-    ap
-    (λ (b : Bool).
-    stored_in (if b then option_map (λ (at : Node). record at { stored = mark }) (heap n) else heap m))
+    ap (λ (b : Bool). stored_in (if b then option_map (λ (at : Node). record at { stored = mark }) (heap n) else heap m))
     (other_number m n ne)
 
 marked_found : (found : Option Node) → stored_in found ≡ true → IsSome found
@@ -56,8 +45,7 @@ module _ (store : List ℕ) (slots after : List Slot) (place : ℕ) (kept : IsKe
       go : (n ≡ place) ⊎ (n ≢ place) → (marked (heap_of after) n ≡ true) ↔ Contains (store ++ place ∷ []) n
       go (inl e) = (
         λ h. subst (Contains (store ++ place ∷ [])) (sym e) (Contains-push store place),
-        λ h.
-            is ∙ ap (marked (with_mark (heap_of slots) place true)) e ∙ mark_here (heap_of slots) place true in_use,
+        λ h. is ∙ ap (marked (with_mark (heap_of slots) place true)) e ∙ mark_here (heap_of slots) place true in_use,
       )
       go (inr ne) =
           let same : marked (heap_of after) n ≡ marked (heap_of slots) n = is ∙ mark_other (heap_of slots) place true n ne in (
@@ -80,8 +68,7 @@ module _ (store : List ℕ) (slots after : List Slot) (place : ℕ) (kept : IsKe
       go : (n ≡ place) ⊎ (n ≢ place) → (marked (heap_of after) n ≡ true) ↔ Contains rest n
       go (inl e) = (
         λ h.
-            let no : true ≡ false
-            = sym h ∙ is ∙ ap (marked (with_mark (heap_of slots) place false)) e
+            let no : true ≡ false = sym h ∙ is ∙ ap (marked (with_mark (heap_of slots) place false)) e
             ∙ mark_here (heap_of slots) place false in_use in
             absurd (cc),
         λ h. absurd (((less n).0 h).1 e),

@@ -1,7 +1,6 @@
 -- The last of a list of slots.
 use Rattle.std.proofs.Common.{◌≡◌, ℕ, zero, suc, ◌-◌, List, [], ◌∷◌, ◌++◌, length, set, refl, ◌∙◌, ap, arith}
-use Rattle.fr_frame.specs.declared.places.SlotId.{SlotId}
-use Rattle.fr_store.specs.Numbers.{numbers}
+use Rattle.fr_store.specs.Common.{SlotId, numbers}
 
 pub put_last : (slots : List SlotId) (k : ℕ) (new : SlotId) (above : List ℕ) (n : ℕ) → k ≡ length slots - 1
     → numbers slots ≡ above ++ n ∷ [] → numbers (set slots k new) ≡ above ++ new.0 ∷ []

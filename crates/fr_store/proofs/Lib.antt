@@ -6,6 +6,7 @@ pub mod BeneathQueue
 pub mod BeneathSteps
 pub mod BeneathTurns
 pub mod ChildLaws
+pub mod ChildWays
 pub mod ChildOrder
 pub mod ContentLaws
 pub mod DynamicLaws

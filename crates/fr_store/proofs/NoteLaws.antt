@@ -1,7 +1,6 @@
 -- Lists of stored places with the same slots.
 use Rattle.std.proofs.Common.{◌≡◌, ℕ, zero, suc, ◌<◌, List, [], ◌∷◌, length, get_or, set, refl, ap, arith}
-use Rattle.fr_store.specs.declared.turning.StoredPlace.{StoredPlace}
-use Rattle.fr_store.specs.Numbers.{slot_of, slots_of}
+use Rattle.fr_store.specs.Common.{StoredPlace, slot_of, slots_of}
 
 pub slot_read : (xs ys : List StoredPlace) (i : ℕ) (d : StoredPlace) → slots_of xs ≡ slots_of ys
     → slot_of (get_or xs i d) ≡ slot_of (get_or ys i d)

@@ -1,14 +1,7 @@
 -- The places on the stack, while the stack stays as it is.
 use Rattle.std.proofs.Common.{◌≡◌, ℕ, List, ◌++◌, length, get_or, refl, sym, ◌∙◌, ap, subst}
-use Rattle.fr_model.specs.Places.{Place}
-use Rattle.fr_plan.specs.TypePlan.{Plan}
-use Rattle.fr_frame.specs.declared.places.Slot.{Slot}
-use Rattle.fr_frame.specs.Heap.{heap_of}
-use Rattle.fr_frame.specs.Kids.{Kid}
-use Rattle.fr_store.specs.Places.{IsPlaced, slot_at}
-use Rattle.fr_store.specs.Stands.{IsOpen, cursor_shown, kid_here}
+use Rattle.fr_store.specs.Common.{IsOpen, IsPlaced, Kid, Leads, Place, Plan, Slot, cursor_shown, heap_of, kid_here, slot_at, slots_along}
 use Rattle.fr_store.specs.Turning.{OpenStayPut}
-use Rattle.fr_store.specs.Ways.{slots_along, Leads}
 use Rattle.fr_store.proofs.PlaceLaws.{along_nth, open_placed}
 
 -- the slot of an open place is on the stack
@@ -19,8 +12,7 @@ slot_on plan slots stack cursor place below is_open is on_way =
     let k : Kid = kid_here slots stack in
     let leads : Leads (place ++ below) k = subst (λ (c : Place). Leads c k) (is ∙ on_way) is_open.stands.leads in (
       open_placed place below k leads,
-      ap (λ (l : List ℕ). get_or l (length place) 0)
-          (is_open.stands.along ∙ ap (λ (c : Place). slots_along c k) (is ∙ on_way))
+      ap (λ (l : List ℕ). get_or l (length place) 0) (is_open.stands.along ∙ ap (λ (c : Place). slots_along c k) (is ∙ on_way))
           ∙ along_nth place below k (length place) 0 leads refl,
     )
 

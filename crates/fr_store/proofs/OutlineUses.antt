@@ -1,15 +1,13 @@
 -- How many children a place has is told without what the children of a list are.
 use Rattle.std.proofs.Common.{◌≡◌, length, Option, Some, None, option_map, refl, sym, ◌∙◌, ap}
-use Rattle.fr_frame.specs.Bodies.{Body, entered_body, whole_body, begun_body}
-use Rattle.fr_frame.specs.Heap.{Node}
+use Rattle.fr_store.specs.Common.{Body, Node, begun_body, cells_found, cells_in_body, whole_body}
+use Rattle.fr_frame.specs.Bodies.{entered_body}
 use Rattle.fr_frame.specs.OutlineLaws.{outline_count}
 use Rattle.fr_frame.specs.Outlines.{outline, outlined}
-use Rattle.fr_store.specs.Prunes.{cells_found, cells_in_body}
 
 count_outlined : (body : Body) → length (cells_in_body (outline body)) ≡ length (cells_in_body body)
-count_outlined entered_body = refl
-count_outlined (whole_body v) = refl
-count_outlined (begun_body form cells) = outline_count (begun_body form cells)
+count_outlined (begun_body tracker cells) = outline_count (begun_body tracker cells)
+count_outlined _ = refl
 
 by_outline : (found : Option Node) → length (cells_found (option_map outlined found)) ≡ length (cells_found found)
 by_outline (Some at) = count_outlined at.body

@@ -1,11 +1,8 @@
 -- Lists of which each element stands in some way to all that follow, and what filters and changes leave of them.
 use Rattle.std.proofs.Common.{◌≡◌, ◌≢◌, ◌⊎◌, ℕ, zero, suc, ◌+◌, ◌<◌, ◌≤◌, Bool, true, false, cond, List, [], ◌∷◌, ◌++◌, append_assoc, map, reverse, length, length-append, get_or, nat_eq, slice_get, slice_index, Some, inl, inr, refl, sym, ap, ◌∙◌, subst, arith}
-use Rattle.std.specs.List.{All, Contains, filter}
+use Rattle.fr_store.specs.Common.{All, AreOnce, Contains, Pairs, counts_if, counts_in, counts_other, counts_same, filter, same_or_other}
 use Rattle.std.proofs.lemmas.List.{reverse-append, map-append, get_or_default}
 use Rattle.std.proofs.lemmas.List.Elements.{All-nil, All-cons, All-head, All-tail, All-append, All-filter, All-map, All-weaker, Contains-append_cases, Contains-append_left, Contains-append_right}
-use Rattle.fr_store.specs.Places.{Pairs, counts_in, AreOnce}
-use Rattle.fr_store.specs.Ways.{counts_if}
-use Rattle.fr_store.specs.WayLaws.{counts_same, counts_other, same_or_other}
 
 module _ {X : Type 0} where
   pub all_right : (P : X → Type 0) (xs ys : List X) → All P (xs ++ ys) → All P ys
@@ -15,8 +12,7 @@ module _ {X : Type 0} where
   pub all_reverse : (P : X → Type 0) (xs : List X) → All P xs → All P (reverse xs)
   all_reverse P [] h = All-nil P
   all_reverse P (x ∷ xs) h =
-      subst (All P) (sym (reverse-append (x ∷ []) xs))
-      (All-append P (reverse xs) (x ∷ []) (all_reverse P xs (All-tail P x xs h))
+      subst (All P) (sym (reverse-append (x ∷ []) xs)) (All-append P (reverse xs) (x ∷ []) (all_reverse P xs (All-tail P x xs h))
       (All-cons P x [] (All-head P x xs h) (All-nil P)))
 
   -- Elements.
@@ -95,8 +91,7 @@ module _ {X Y : Type 0} (f : X → Y) where
   map_filter p q [] same = refl
   map_filter p q (x ∷ xs) same =
       ap (λ (b : Bool). cond b (f x ∷ filter p (map f xs)) (filter p (map f xs))) (All-head (λ y. p (f y) ≡ q y) x xs same)
-      ∙ ap (λ (l : List Y). cond (q x) (f x ∷ l) l) (map_filter p q xs (All-tail (λ y. p (f y) ≡ q y) x xs same))
-      ∙ go (q x)
+      ∙ ap (λ (l : List Y). cond (q x) (f x ∷ l) l) (map_filter p q xs (All-tail (λ y. p (f y) ≡ q y) x xs same)) ∙ go (q x)
     where
       go : (b : Bool) → cond b (f x ∷ map f (filter q xs)) (map f (filter q xs)) ≡ map f (cond b (x ∷ filter q xs) (filter q xs))
       go true = refl
@@ -141,15 +136,12 @@ module _ {X : Type 0} (So : X → X → Type 0) where
       )
 
 -- read from the end
-pub pairs_reverse : {X : Type 0} (So : X → X → Type 0) (xs : List X) → Pairs So xs
-    → Pairs (λ (x y : X). So y x) (reverse xs)
+pub pairs_reverse : {X : Type 0} (So : X → X → Type 0) (xs : List X) → Pairs So xs → Pairs (λ (x y : X). So y x) (reverse xs)
 pairs_reverse So [] h = tt
 pairs_reverse {X} So (x ∷ xs) h =
     subst (Pairs (λ (y z : X). So z y)) (sym (reverse-append (x ∷ []) xs))
-    (pairs_append (λ (y z : X). So z y) (reverse xs) (x ∷ []) (pairs_reverse So xs h.1)
-    (All-nil (λ (z : X). So z x), tt)
-    (all_reverse (λ (y : X). All (λ (z : X). So z y) (x ∷ [])) xs
-    (All-weaker (So x) (λ (y : X). All (λ (z : X). So z y) (x ∷ []))
+    (pairs_append (λ (y z : X). So z y) (reverse xs) (x ∷ []) (pairs_reverse So xs h.1) (All-nil (λ (z : X). So z x), tt)
+    (all_reverse (λ (y : X). All (λ (z : X). So z y) (x ∷ [])) xs (All-weaker (So x) (λ (y : X). All (λ (z : X). So z y) (x ∷ []))
     (λ y so. All-cons (λ (z : X). So z y) x [] so (All-nil (λ (z : X). So z y))) xs h.0)))
 
 -- Counts.
@@ -161,8 +153,7 @@ counts_append n (x ∷ xs) ys = omega (arith, counts_append n xs ys)
 pub none_counted : (n : ℕ) (xs : List ℕ) → All (λ x. x ≢ n) xs → counts_in n xs ≡ 0
 none_counted n [] none = refl
 none_counted n (x ∷ xs) none =
-    omega
-    (arith, counts_other x n (All-head (λ y. y ≢ n) x xs none), none_counted n xs (All-tail (λ y. y ≢ n) x xs none))
+    omega (arith, counts_other x n (All-head (λ y. y ≢ n) x xs none), none_counted n xs (All-tail (λ y. y ≢ n) x xs none))
 
 pub counted_in : (n : ℕ) (xs : List ℕ) → 0 < counts_in n xs → Contains xs n
 counted_in n [] h = absurd (omega arith)
@@ -258,8 +249,7 @@ upto_has (suc n) m h = go (same_or_other n m) (λ less. upto_has n m less)
 
 -- there is room for different numbers below this one
 pub room_below : (xs : List ℕ) (n : ℕ) → AreOnce xs → ((m : ℕ) → Contains xs m → m < n) → length xs ≤ n
-room_below xs n once low =
-    omega (arith, fits xs (upto n) once (λ m at. upto_has n m (low m at)), upto_long n)
+room_below xs n once low = omega (arith, fits xs (upto n) once (λ m at. upto_has n m (low m at)), upto_long n)
 
 -- Lists of which all passes.
 pub filter_all : {X : Type 0} (p : X → Bool) (xs : List X) → All (λ x. p x ≡ true) xs → filter p xs ≡ xs
@@ -278,5 +268,4 @@ filter_none p (x ∷ xs) all =
 -- the first of the second list goes behind the first list, and more behind the second
 pub parts : {X : Type 0} (done rest : List X) (p : X) (added : List X)
     → (done ++ p ∷ []) ++ (rest ++ added) ≡ (done ++ p ∷ rest) ++ added
-parts done rest p added =
-    append_assoc done (p ∷ []) (rest ++ added) ∙ sym (append_assoc done (p ∷ rest) added)
+parts done rest p added = append_assoc done (p ∷ []) (rest ++ added) ∙ sym (append_assoc done (p ∷ rest) added)

@@ -1,14 +1,11 @@
 -- The order of the walk over paths that go on by one step, and over paths that begin alike.
 use Rattle.std.proofs.Common.{◌≡◌, ◌⊎◌, ℕ, suc, ◌<◌, List, [], ◌∷◌, ◌++◌, length, length-append, inl, inr, refl, sym, ◌∙◌, ap, arith}
-use Rattle.std.specs.declared.cmp.Ordering.{Ordering}
-use Rattle.std.specs.declared.cmp.Ordering.TheVariants.{Less, Equal}
-use Rattle.std.specs.Cmp.Lexicographic.{slice_cmp}
-use Rattle.std.specs.Ordering.{nat_cmp, ordering_then}
+use Rattle.fr_store.specs.Common.{Less, Ordering, PathStep, ordering_then, slice_cmp, step_order, walk_order}
+use Rattle.std.specs.declared.cmp.Ordering.TheVariants.{Equal}
+use Rattle.std.specs.Ordering.{nat_cmp}
 use Rattle.std.proofs.lemmas.Bool.Decides.{nat_tests}
 use Rattle.std.proofs.lemmas.Grind.{common_steps}
 use Rattle.std.proofs.lemmas.Map.Lookups.{exact_unsigned}
-use Rattle.fr_path.specs.declared.path_steps.PathStep.{PathStep}
-use Rattle.fr_path.specs.Order.{step_order, walk_order}
 use Rattle.fr_path.specs.OrderLaws.{step_itself}
 
 -- Numbers.
@@ -27,8 +24,7 @@ number_told i j e = grind (arith, common_steps, nat_tests)
 front_steps : (p a b : List PathStep) → slice_cmp step_order (p ++ a) (p ++ b) ≡ slice_cmp step_order a b
 front_steps [] a b = refl
 front_steps (s ∷ p) a b =
-    ap (λ (o : Ordering). ordering_then o (slice_cmp step_order (p ++ a) (p ++ b))) (step_itself s s refl)
-    ∙ front_steps p a b
+    ap (λ (o : Ordering). ordering_then o (slice_cmp step_order (p ++ a) (p ++ b))) (step_itself s s refl) ∙ front_steps p a b
 
 on_steps : (a b : List PathStep) (x y : PathStep) → length a ≡ length b → slice_cmp step_order a b ≡ Less
     → slice_cmp step_order (a ++ x ∷ []) (b ++ y ∷ []) ≡ Less
@@ -46,8 +42,7 @@ on_steps (s ∷ a) (t ∷ b) x y e less = go (step_order s t) less (λ rest. on_
 
 last_steps : (a : List PathStep) (x y : PathStep) → step_order x y ≡ Less
     → slice_cmp step_order (a ++ x ∷ []) (a ++ y ∷ []) ≡ Less
-last_steps a x y less =
-    front_steps a (x ∷ []) (y ∷ []) ∙ ap (λ (o : Ordering). ordering_then o Equal) less
+last_steps a x y less = front_steps a (x ∷ []) (y ∷ []) ∙ ap (λ (o : Ordering). ordering_then o Equal) less
 
 -- Paths.
 
@@ -79,15 +74,13 @@ pub first_on : (a b : List PathStep) (x y : PathStep) → walk_order a b ≡ Les
 first_on a b x y first = go (comes_by a b first)
   where
     go : ComesBy a b → walk_order (a ++ x ∷ []) (b ++ y ∷ []) ≡ Less
-    go (inl longer) =
-        longer_first (a ++ x ∷ []) (b ++ y ∷ []) (omega (arith, longer, one_more_step a x, one_more_step b y))
+    go (inl longer) = longer_first (a ++ x ∷ []) (b ++ y ∷ []) (omega (arith, longer, one_more_step a x, one_more_step b y))
     go (inr by) =
         steps_first (a ++ x ∷ []) (b ++ y ∷ []) (omega (arith, by.0, one_more_step a x, one_more_step b y))
         (on_steps a b x y (sym by.0) by.1)
 
 -- of two that go on from one path, the step tells
-pub first_last : (a : List PathStep) (x y : PathStep) → step_order x y ≡ Less
-    → walk_order (a ++ x ∷ []) (a ++ y ∷ []) ≡ Less
+pub first_last : (a : List PathStep) (x y : PathStep) → step_order x y ≡ Less → walk_order (a ++ x ∷ []) (a ++ y ∷ []) ≡ Less
 first_last a x y less =
     steps_first (a ++ x ∷ []) (a ++ y ∷ []) (omega (arith, one_more_step a x, one_more_step a y)) (last_steps a x y less)
 

@@ -1,19 +1,10 @@
 -- Places in slots, and the ways to them.
 use Rattle.std.proofs.Common.{◌≡◌, ◌≢◌, ◌⊎◌, ℕ, zero, suc, ◌+◌, ◌<◌, ◌≤◌, Bool, true, false, List, [], ◌∷◌, ◌++◌, length, length-append, get_or, map, nat_eq, inl, inr, refl, sym, ◌∙◌, ap, subst, arith}
-use Rattle.std.specs.List.{All}
+use Rattle.fr_store.specs.Common.{All, AllMarked, AreOnce, FrameOwner, Heap, Holds, IsHere, IsPlaced, IsStoredHere, Kid, Kids, Leads, NodeId, Pairs, Place, Plan, Plot, Reaches, StoredBut, at, begun_plot, count_kids, counts_if, counts_in, counts_other, counts_same, entered_plot, gone, holds_at, kid, kid_at, kid_at_append, kid_nth, leads_at, leads_reach, marked, marked_nth, no_kids, node_along, owner_along, same_or_other, slot_at, slot_here, slots_above, slots_along, stored_here, stored_in, there, uses, uses_among, uses_at, uses_in, uses_nth, whole_plot}
 use Rattle.std.proofs.lemmas.List.{append-nil}
 use Rattle.std.proofs.lemmas.List.Elements.{All-contains, All-head, All-tail, Contains-get_or}
-use Rattle.fr_model.specs.Places.{Place}
-use Rattle.fr_plan.specs.declared.nodes.NodeId.{NodeId}
-use Rattle.fr_plan.specs.TypePlan.{Plan}
-use Rattle.fr_frame.specs.declared.places.FrameOwner.{FrameOwner}
-use Rattle.fr_frame.specs.Heap.{Heap, marked, stored_in}
-use Rattle.fr_frame.specs.Kids.{Kid, gone, there, at, Plot, entered_plot, whole_plot, begun_plot, Kids, no_kids, kid, Holds}
-use Rattle.fr_store.specs.HoldLaws.{holds_at}
-use Rattle.fr_store.specs.LeaveLaws.{kid_at_append}
-use Rattle.fr_store.specs.Places.{IsHere, slot_here, stored_here, IsPlaced, IsStoredHere, slot_at, Pairs, AreOnce, counts_in}
-use Rattle.fr_store.specs.Ways.{count_kids, kid_nth, kid_in_plot, kid_at, slots_along, slots_above, uses, uses_in, uses_among, AllMarked, StoredBut, Leads, Reaches, node_along, owner_along, counts_if}
-use Rattle.fr_store.specs.WayLaws.{counts_same, counts_other, same_or_other, leads_reach, leads_at, along_at, uses_nth, uses_at, marked_at, marked_nth}
+use Rattle.fr_store.specs.Ways.{kid_in_plot}
+use Rattle.fr_store.specs.WayLaws.{along_at, marked_at}
 use Rattle.fr_store.proofs.HeadLaws.{two_nth}
 use Rattle.fr_store.proofs.PairLaws.{none_counted, of_map}
 
@@ -21,26 +12,25 @@ use Rattle.fr_store.proofs.PairLaws.{none_counted, of_map}
 
 reaches_front : (place below : Place) (k : Kid) → Reaches (place ++ below) k → Reaches place k
 reaches_front [] below k reach = tt
-reaches_front (i ∷ place) below (at slot stored (begun_plot form kids)) reach =
+reaches_front (i ∷ place) below (at slot stored (begun_plot tracker kids)) reach =
     (reach.0, reaches_front place below (kid_nth i kids) reach.1)
 reaches_front (i ∷ place) below _ reach = absurd reach
 
 pub reaches_back : (place below : Place) (k : Kid) → Reaches (place ++ below) k → Reaches below (kid_at place k)
 reaches_back [] below k reach = reach
-reaches_back (i ∷ place) below (at slot stored (begun_plot form kids)) reach =
+reaches_back (i ∷ place) below (at slot stored (begun_plot tracker kids)) reach =
     reaches_back place below (kid_nth i kids) reach.1
 reaches_back (i ∷ place) below _ reach = absurd reach
 
 reaches_on : (place below : Place) (k : Kid) → Reaches place k → Reaches below (kid_at place k) → Reaches (place ++ below) k
 reaches_on [] below k reach on = on
-reaches_on (i ∷ place) below (at slot stored (begun_plot form kids)) reach on =
+reaches_on (i ∷ place) below (at slot stored (begun_plot tracker kids)) reach on =
     (reach.0, reaches_on place below (kid_nth i kids) reach.1 on)
 reaches_on (i ∷ place) below _ reach on = absurd reach
 
 here_of_way : (i : ℕ) (below : Place) (k : Kid) → Reaches (i ∷ below) k → IsHere k
-here_of_way i below gone reach = absurd reach
-here_of_way i below (there v) reach = absurd reach
 here_of_way i below (at slot stored plot) reach = tt
+here_of_way i below _ reach = absurd reach
 
 -- what lies above a place in a slot is in a slot
 pub placed_above : (place below : Place) (k : Kid) → IsPlaced k (place ++ below) → IsPlaced k place
@@ -67,9 +57,8 @@ placed_child place i k placed = record {
 -- Where no slot serves twice, a slot tells its place.
 
 uses_here : (k : Kid) → IsHere k → 1 ≤ uses k (slot_here k)
-uses_here gone here = absurd here
-uses_here (there v) here = absurd here
 uses_here (at slot stored plot) here = omega (arith, counts_same slot)
+uses_here _ here = absurd here
 
 used_at : (place : Place) (k : Kid) → IsHere (kid_at place k) → 1 ≤ uses k (slot_at k place)
 used_at place k here = omega (arith, uses_here (kid_at place k) here, uses_at place k (slot_at k place))
@@ -77,31 +66,23 @@ used_at place k here = omega (arith, uses_here (kid_at place k) here, uses_at pl
 same_way : (first second : Place) (k : Kid) → ((n : ℕ) → uses k n ≤ 1) → Reaches first k → IsHere (kid_at first k)
     → Reaches second k → IsHere (kid_at second k) → slot_at k first ≡ slot_at k second → first ≡ second
 same_way [] [] k once one here two also e = refl
-same_way [] (j ∷ second) (at slot stored (begun_plot form kids)) once one here two also e =
+same_way [] (j ∷ second) (at slot stored (begun_plot tracker kids)) once one here two also e =
     let child : uses (kid_nth j kids) slot ≡ uses (kid_nth j kids) (slot_at (kid_nth j kids) second)
     = ap (uses (kid_nth j kids)) e in
-    absurd
-    (omega
-    (arith, once slot, counts_same slot, uses_nth j kids slot, used_at second (kid_nth j kids) also))
-same_way (i ∷ first) [] (at slot stored (begun_plot form kids)) once one here two also e =
+    absurd (omega (arith, once slot, counts_same slot, uses_nth j kids slot, used_at second (kid_nth j kids) also))
+same_way (i ∷ first) [] (at slot stored (begun_plot tracker kids)) once one here two also e =
     let child : uses (kid_nth i kids) slot ≡ uses (kid_nth i kids) (slot_at (kid_nth i kids) first)
     = ap (uses (kid_nth i kids)) (sym e) in
-    absurd
-    (omega
-    (arith, once slot, counts_same slot, uses_nth i kids slot, used_at first (kid_nth i kids) here))
-same_way (i ∷ first) (j ∷ second) (at slot stored (begun_plot form kids)) once one here two also e =
-    go (same_or_other i j)
-    (λ reach there same. same_way first second (kid_nth i kids)
+    absurd (omega (arith, once slot, counts_same slot, uses_nth i kids slot, used_at first (kid_nth i kids) here))
+same_way (i ∷ first) (j ∷ second) (at slot stored (begun_plot tracker kids)) once one here two also e =
+    go (same_or_other i j) (λ reach there same. same_way first second (kid_nth i kids)
     (λ n. omega (arith, once n, uses_nth i kids n)) one.1 here reach there same)
   where
-    go : (i ≡ j) ⊎ (i ≢ j)
-        → (Reaches second (kid_nth i kids) → IsHere (kid_at second (kid_nth i kids))
-        → slot_at (kid_nth i kids) first ≡ slot_at (kid_nth i kids) second → first ≡ second)
-        → i ∷ first ≡ j ∷ second
+    go : (i ≡ j) ⊎ (i ≢ j) → (Reaches second (kid_nth i kids) → IsHere (kid_at second (kid_nth i kids))
+        → slot_at (kid_nth i kids) first ≡ slot_at (kid_nth i kids) second → first ≡ second) → i ∷ first ≡ j ∷ second
     go (inl same) rest =
         let back = sym same in
-        let more : first ≡ second
-        = rest (subst (λ (m : ℕ). Reaches second (kid_nth m kids)) back two.1)
+        let more : first ≡ second = rest (subst (λ (m : ℕ). Reaches second (kid_nth m kids)) back two.1)
         (subst (λ (m : ℕ). IsHere (kid_at second (kid_nth m kids))) back also)
         (e ∙ ap (λ (m : ℕ). slot_at (kid_nth m kids) second) back) in
         cc
@@ -109,8 +90,7 @@ same_way (i ∷ first) (j ∷ second) (at slot stored (begun_plot form kids)) on
         let n = slot_at (kid_nth i kids) first in
         let child : uses (kid_nth j kids) n ≡ uses (kid_nth j kids) (slot_at (kid_nth j kids) second)
         = ap (uses (kid_nth j kids)) e in
-        absurd
-        (omega
+        absurd (omega
         (arith, once n, two_nth i j kids n ne, used_at first (kid_nth i kids) here, used_at second (kid_nth j kids) also))
 same_way (i ∷ first) second (at slot stored entered_plot) once one here two also e = absurd one
 same_way (i ∷ first) second (at slot stored (whole_plot v)) once one here two also e = absurd one
@@ -120,8 +100,7 @@ same_way [] (j ∷ second) _ once one here two also e = absurd two
 
 pub same_place : (first second : Place) (k : Kid) → ((n : ℕ) → uses k n ≤ 1) → IsPlaced k first → IsPlaced k second
     → slot_at k first ≡ slot_at k second → first ≡ second
-same_place first second k once one two e =
-    same_way first second k once one.reaches one.here two.reaches two.here e
+same_place first second k once one two e = same_way first second k once one.reaches one.here two.reaches two.here e
 
 -- places that differ are in different slots
 pub slots_once : (k : Kid) → ((n : ℕ) → uses k n ≤ 1) → (So : Place → Place → Type 0) → ((p q : Place) → So p q → p ≢ q)
@@ -160,17 +139,14 @@ first_along [] (at slot stored plot) here = ([], refl)
 first_along (i ∷ place) (at slot stored plot) here = (slots_along place (kid_in_plot i plot), refl)
 
 pub leads_here : (place : Place) (k : Kid) → Leads place k → IsHere k
-leads_here [] gone leads = absurd leads
-leads_here [] (there v) leads = absurd leads
 leads_here [] (at slot stored plot) leads = tt
-leads_here (i ∷ place) gone leads = absurd leads
-leads_here (i ∷ place) (there v) leads = absurd leads
+leads_here [] _ leads = absurd leads
 leads_here (i ∷ place) (at slot stored plot) leads = tt
+leads_here (i ∷ place) _ leads = absurd leads
 
 mark_of : (mark : Bool) (k : Kid) → AllMarked mark k → IsHere k → stored_here k ≡ mark
-mark_of mark gone all here = absurd here
-mark_of mark (there v) all here = absurd here
 mark_of mark (at slot stored plot) all here = all.0
+mark_of mark _ all here = absurd here
 
 nth_cases : (i j : ℕ) (Below : Kid → Type 0) (ks : Kids) → StoredBut i Below ks
     → ((i ≡ j) × Below (kid_nth j ks)) ⊎ AllMarked true (kid_nth j ks)
@@ -189,26 +165,23 @@ nth_cases (suc i) (suc j) Below (kid k ks) leads = go (nth_cases i j Below ks le
 pub stored_or_open : (cursor place : Place) (k : Kid) → Leads cursor k → Reaches place k → IsHere (kid_at place k)
     → IsStoredHere k place ⊎ ((below : Place) × (cursor ≡ place ++ below))
 stored_or_open cursor [] k leads reach here = inr (cursor, refl)
-stored_or_open [] (j ∷ place) (at slot stored (begun_plot form kids)) leads reach here =
+stored_or_open [] (j ∷ place) (at slot stored (begun_plot tracker kids)) leads reach here =
     inl (mark_of true (kid_at place (kid_nth j kids))
     (marked_at true place (kid_nth j kids) (marked_nth true j kids leads.1)) here)
-stored_or_open (i ∷ cursor) (j ∷ place) (at slot stored (begun_plot form kids)) leads reach here =
+stored_or_open (i ∷ cursor) (j ∷ place) (at slot stored (begun_plot tracker kids)) leads reach here =
     go (nth_cases i j (λ below. Leads cursor below) kids leads.1)
     (λ on. stored_or_open cursor place (kid_nth j kids) on reach.1 here)
   where
-    more : (i ≡ j)
-        → (stored_here (kid_at place (kid_nth j kids)) ≡ true) ⊎ ((below : Place) × (cursor ≡ place ++ below))
+    more : (i ≡ j) → (stored_here (kid_at place (kid_nth j kids)) ≡ true) ⊎ ((below : Place) × (cursor ≡ place ++ below))
         → (stored_here (kid_at place (kid_nth j kids)) ≡ true) ⊎ ((below : Place) × (i ∷ cursor ≡ j ∷ place ++ below))
     more e (inl marked) = inl marked
     more e (inr on) = inr (on.0, ap (λ (n : ℕ). n ∷ cursor) e ∙ ap (λ (p : Place). j ∷ p) on.1)
 
-    go : ((i ≡ j) × Leads cursor (kid_nth j kids)) ⊎ AllMarked true (kid_nth j kids)
-        → (Leads cursor (kid_nth j kids)
+    go : ((i ≡ j) × Leads cursor (kid_nth j kids)) ⊎ AllMarked true (kid_nth j kids) → (Leads cursor (kid_nth j kids)
         → (stored_here (kid_at place (kid_nth j kids)) ≡ true) ⊎ ((below : Place) × (cursor ≡ place ++ below)))
         → (stored_here (kid_at place (kid_nth j kids)) ≡ true) ⊎ ((below : Place) × (i ∷ cursor ≡ j ∷ place ++ below))
     go (inl way) rest = more way.0 (rest way.1)
-    go (inr all) rest =
-        inl (mark_of true (kid_at place (kid_nth j kids)) (marked_at true place (kid_nth j kids) all) here)
+    go (inr all) rest = inl (mark_of true (kid_at place (kid_nth j kids)) (marked_at true place (kid_nth j kids) all) here)
 stored_or_open cursor (j ∷ place) _ leads reach here = absurd reach
 
 -- no open place is stored
@@ -231,7 +204,7 @@ open_placed above below k leads = record {
 
 above_long : (place : Place) (k : Kid) → Reaches place k → length (slots_above place k) ≡ length place
 above_long [] k reach = refl
-above_long (i ∷ place) (at slot stored (begun_plot form kids)) reach = ap suc (above_long place (kid_nth i kids) reach.1)
+above_long (i ∷ place) (at slot stored (begun_plot tracker kids)) reach = ap suc (above_long place (kid_nth i kids) reach.1)
 above_long (i ∷ place) _ reach = absurd reach
 
 pub along_long : (cursor : Place) (k : Kid) → Leads cursor k → length (slots_along cursor k) ≡ length cursor + 1
@@ -267,9 +240,8 @@ along_nth above below k i d leads e =
 -- what the heap says of a place's mark
 mark_told : (plan : Plan) (heap : Heap) (node : NodeId) (owner : FrameOwner) (depth : ℕ) (k : Kid)
     → Holds plan heap node owner depth k → IsHere k → marked heap (slot_here k) ≡ stored_here k
-mark_told plan heap node owner depth gone holds here = absurd here
-mark_told plan heap node owner depth (there v) holds here = absurd here
 mark_told plan heap node owner depth (at slot stored plot) holds here = ap stored_in holds.0
+mark_told plan heap node owner depth _ holds here = absurd here
 
 pub mark_at : (plan : Plan) (heap : Heap) (node : NodeId) (owner : FrameOwner) (depth : ℕ) (place : Place) (k : Kid)
     → Holds plan heap node owner depth k → IsPlaced k place → marked heap (slot_at k place) ≡ stored_here (kid_at place k)
@@ -283,8 +255,7 @@ mutual
   pub place_of : (k : Kid) (n : ℕ) → 0 < uses k n → (p : Place) × IsPlaced k p × (slot_at k p ≡ n)
   place_of gone n h = absurd (omega arith)
   place_of (there v) n h = absurd (omega arith)
-  place_of (at slot stored plot) n h =
-      go (same_or_other slot n) (λ more. place_in slot stored plot n more)
+  place_of (at slot stored plot) n h = go (same_or_other slot n) (λ more. place_in slot stored plot n more)
     where
       go : (slot ≡ n) ⊎ (slot ≢ n)
           → (0 < uses_in plot n → (p : Place) × IsPlaced (at slot stored plot) p × (slot_at (at slot stored plot) p ≡ n))
@@ -294,20 +265,17 @@ mutual
 
   place_in : (slot : ℕ) (stored : Bool) (plot : Plot) (n : ℕ) → 0 < uses_in plot n
       → (p : Place) × IsPlaced (at slot stored plot) p × (slot_at (at slot stored plot) p ≡ n)
-  place_in slot stored entered_plot n h = absurd (omega arith)
-  place_in slot stored (whole_plot v) n h = absurd (omega arith)
-  place_in slot stored (begun_plot form kids) n h =
+  place_in slot stored (begun_plot tracker kids) n h =
       let found = place_among kids n h in
       (found.0 ∷ found.1, record { reaches = (found.2, found.3.reaches); here = found.3.here }, found.4)
+  place_in slot stored _ n h = absurd (omega arith)
 
   place_among : (ks : Kids) (n : ℕ) → 0 < uses_among ks n
       → (i : ℕ) × (p : Place) × (i < count_kids ks) × IsPlaced (kid_nth i ks) p × (slot_at (kid_nth i ks) p ≡ n)
   place_among no_kids n h = absurd (omega arith)
-  place_among (kid k ks) n h =
-      go (uses k n) refl (λ here. place_of k n here) (λ later. place_among ks n later)
+  place_among (kid k ks) n h = go (uses k n) refl (λ here. place_of k n here) (λ later. place_among ks n later)
     where
-      go : (count : ℕ) → uses k n ≡ count → (0 < uses k n → (p : Place) × IsPlaced k p × (slot_at k p ≡ n))
-          → (0 < uses_among ks n
+      go : (count : ℕ) → uses k n ≡ count → (0 < uses k n → (p : Place) × IsPlaced k p × (slot_at k p ≡ n)) → (0 < uses_among ks n
           → (i : ℕ) × (p : Place) × (i < count_kids ks) × IsPlaced (kid_nth i ks) p × (slot_at (kid_nth i ks) p ≡ n))
           → (i : ℕ) × (p : Place) × (i < count_kids (kid k ks)) × IsPlaced (kid_nth i (kid k ks)) p
           × (slot_at (kid_nth i (kid k ks)) p ≡ n)

@@ -1,22 +1,12 @@
 -- Laws of pruning, for proofs: what lies beneath a place, and what is left of it once the first so many children are released.
-use Rattle.std.proofs.Common.{◌≡◌, ℕ, zero, suc, ◌+◌, ◌<◌, ◌≤◌, Bool, true, List, [], ◌∷◌, length, map, set, nat_eq, slice_get, Option, Some, None, refl, sym, ◌∙◌, ap, subst, arith}
-use Rattle.std.specs.Prelude.{if◌then◌else◌}
-use Rattle.std.specs.Option.{option_and_then}
+use Rattle.std.proofs.Common.{◌≡◌, ℕ, zero, suc, ◌+◌, ◌<◌, ◌≤◌, Bool, true, List, [], ◌∷◌, length, map, set, nat_eq, slice_get, Option, Some, None, refl, sym, ◌∙◌, ap, subst, arith, if◌then◌else◌}
+use Rattle.fr_store.specs.Common.{AllMarkedAmong, AllMarkedIn, AreUnplaced, Body, Cell, FrameOwner, Heap, Holds, HoldsAll, HoldsIn, IsClosed, IsKept, IsPruned, IsRooted, Kid, Kids, MayHave, Node, NodeId, Plan, Plot, RoseBy, Slot, StoresNoMore, Tracker, absent, at, begun_body, begun_plot, beneath, body_in, body_occurs, cell_at, cell_of, cells_in, cells_in_body, child_node, child_owner, depth_limit, entered_plot, given, gone, heap_of, kid, kid_nth, kids_occur, no_kids, option_and_then, plot_occurs, pruned, slot_of_cell, slots_occur, slotted_occur, there, unlinked, uses, uses_among, uses_in, whole_body, whole_plot}
 use Rattle.std.proofs.lemmas.Grind.{common_steps}
 use Rattle.std.proofs.lemmas.Bool.Decides.{nat_tests}
-use Rattle.fr_shape.specs.Released.{RoseBy}
-use Rattle.fr_model.specs.Tree.{Form}
-use Rattle.fr_plan.specs.declared.nodes.NodeId.{NodeId}
-use Rattle.fr_plan.specs.TypePlan.{Plan}
-use Rattle.fr_frame.specs.declared.places.FrameOwner.{FrameOwner}
-use Rattle.fr_frame.specs.declared.places.Slot.{Slot}
-use Rattle.fr_frame.specs.Bodies.{Body, entered_body, whole_body, begun_body, body_occurs, cell_at, with_cell, unlinked, unlinked_by, IsClosed, AreUnplaced}
-use Rattle.fr_frame.specs.Cells.{Cell, absent, given, placed, cells_occur, slot_at, slot_of_cell}
-use Rattle.fr_frame.specs.Heap.{Node, Heap, depth_limit, heap_of, slots_occur}
-use Rattle.fr_frame.specs.Kids.{Kid, gone, there, at, Plot, entered_plot, whole_plot, begun_plot, Kids, no_kids, kid, MayHave, cell_of, cells_in, body_in, kid_in, kids_in, plot_in, kid_by, kid_from, child_node, child_owner, Holds, HoldsIn, HoldsAll, plot_occurs, kids_occur}
-use Rattle.fr_store.specs.Prunes.{kids_in_plot, kids_below, beneath, IsRooted, slotted_occurs, slotted_occur, emptied, pruned, IsPruned, cells_in_body}
-use Rattle.fr_store.specs.Stored.{IsKept, StoresNoMore}
-use Rattle.fr_store.specs.Ways.{kid_nth, uses, uses_in, uses_among, AllMarkedIn, AllMarkedAmong}
+use Rattle.fr_frame.specs.Bodies.{entered_body, with_cell, unlinked_by}
+use Rattle.fr_frame.specs.Cells.{placed, cells_occur, slot_at}
+use Rattle.fr_frame.specs.Kids.{kid_in, kids_in, plot_in, kid_by, kid_from}
+use Rattle.fr_store.specs.Prunes.{kids_in_plot, kids_below, slotted_occurs, emptied}
 
 -- The first so many children.
 
@@ -29,7 +19,7 @@ emptied_first (suc i) (c ∷ cs) = emptied c ∷ emptied_first i cs
 abbrev pub pruned_first : ℕ → Body → Body
 pruned_first i entered_body = entered_body
 pruned_first i (whole_body v) = whole_body v
-pruned_first i (begun_body form cells) = begun_body form (emptied_first i cells)
+pruned_first i (begun_body tracker cells) = begun_body tracker (emptied_first i cells)
 
 abbrev pub first_kids : ℕ → Kids → Kids
 first_kids i no_kids = no_kids
@@ -45,9 +35,7 @@ depth_found None = 0
 pub record Pruning (i n : ℕ) (store : List ℕ) (before after : List Slot) (ledger now : List ℕ) : Type 0 where
   pub heap : IsPruned (heap_of before) (heap_of after) n (pruned_first i) (first_kids i (beneath (heap_of before) n))
   pub released : RoseBy (slotted_occur (first_kids i (beneath (heap_of before) n))) ledger now
-  pub tokens :
-      (t : ℕ) → slots_occur before t
-      ≡ slots_occur after t + slotted_occur (first_kids i (beneath (heap_of before) n)) t
+  pub tokens : (t : ℕ) → slots_occur before t ≡ slots_occur after t + slotted_occur (first_kids i (beneath (heap_of before) n)) t
   pub kept : IsKept store after
   pub marks : StoresNoMore before after
 
@@ -63,8 +51,7 @@ mutual
   read_more plan heap node owner depth levels gone e holds = refl
   read_more plan heap node owner depth levels (there v) e holds = refl
   read_more plan heap node owner depth levels (at slot stored plot) e holds =
-      go (one_level levels depth e holds.1)
-      (λ less deep. read_more_in plan heap node slot (suc depth) less plot deep holds.2)
+      go (one_level levels depth e holds.1) (λ less deep. read_more_in plan heap node slot (suc depth) less plot deep holds.2)
     where
       go : (less : ℕ) × (levels ≡ suc less)
           → ((less : ℕ) → depth_limit ≤ less + suc depth → plot_in (kid_from less heap) (body_in plot) ≡ plot)
@@ -76,19 +63,18 @@ mutual
   read_more_in : (plan : Plan) (heap : Heap) (node : NodeId) (slot depth levels : ℕ) (plot : Plot)
       → depth_limit ≤ levels + depth → HoldsIn plan heap node slot depth plot
       → plot_in (kid_from levels heap) (body_in plot) ≡ plot
-  read_more_in plan heap node slot depth levels entered_plot e holds = refl
-  read_more_in plan heap node slot depth levels (whole_plot v) e holds = refl
-  read_more_in plan heap node slot depth levels (begun_plot form kids) e holds =
-      ap (λ (ks : Kids). begun_plot form ks) (read_more_among plan heap node slot form 0 depth levels kids e holds)
+  read_more_in plan heap node slot depth levels (begun_plot tracker kids) e holds =
+      ap (λ (ks : Kids). begun_plot tracker ks) (read_more_among plan heap node slot tracker 0 depth levels kids e holds)
+  read_more_in plan heap node slot depth levels _ e holds = refl
 
-  read_more_among : (plan : Plan) (heap : Heap) (node : NodeId) (slot : ℕ) (form : Form) (i depth levels : ℕ) (ks : Kids)
-      → depth_limit ≤ levels + depth → HoldsAll plan heap node slot form i depth ks
+  read_more_among : (plan : Plan) (heap : Heap) (node : NodeId) (slot : ℕ) (tracker : Tracker) (i depth levels : ℕ) (ks : Kids)
+      → depth_limit ≤ levels + depth → HoldsAll plan heap node slot tracker i depth ks
       → kids_in (kid_from levels heap) (cells_in ks) ≡ ks
-  read_more_among plan heap node slot form i depth levels no_kids e holds = refl
-  read_more_among plan heap node slot form i depth levels (kid k ks) e holds =
+  read_more_among plan heap node slot tracker i depth levels no_kids e holds = refl
+  read_more_among plan heap node slot tracker i depth levels (kid k ks) e holds =
       ap (λ (x : Kid). kid x (kids_in (kid_from levels heap) (cells_in ks)))
-      (read_more plan heap (child_node plan node form i) (child_owner slot i) depth levels k e holds.0)
-      ∙ ap (λ (xs : Kids). kid k xs) (read_more_among plan heap node slot form (suc i) depth levels ks e holds.1)
+      (read_more plan heap (child_node plan node tracker i) (child_owner slot i) depth levels k e holds.0)
+      ∙ ap (λ (xs : Kids). kid k xs) (read_more_among plan heap node slot tracker (suc i) depth levels ks e holds.1)
 
 -- what lies beneath the place is what is read off the heap
 pub beneath_is : (heap : Heap) (n : ℕ) (rooted : IsRooted heap n) → beneath heap n ≡ kids_in_plot rooted.plot
@@ -98,8 +84,7 @@ beneath_is heap n rooted = go (one_level depth_limit 0 (omega arith) (omega (ari
     go l =
         ap (λ (levels : ℕ). kids_below (kid_from levels heap n)) l.1
         ∙ ap (λ (o : Option Node). kids_below (kid_by (kid_from l.0 heap) n o)) rooted.here
-        ∙ ap (λ (b : Body). kids_in_plot (plot_in (kid_from l.0 heap) b)) rooted.body
-        ∙ ap kids_in_plot
+        ∙ ap (λ (b : Body). kids_in_plot (plot_in (kid_from l.0 heap) b)) rooted.body ∙ ap kids_in_plot
         (read_more_in rooted.plan heap rooted.found.node n (suc rooted.found.depth) l.0 rooted.plot
         (omega (arith, l.1)) rooted.holds)
 
@@ -110,9 +95,8 @@ plot_uses entered_plot m = refl
 plot_uses _ m = refl
 
 pub plot_marked : (plot : Plot) → AllMarkedIn true plot → AllMarkedAmong true (kids_in_plot plot)
-plot_marked entered_plot all = tt
-plot_marked (whole_plot v) all = tt
-plot_marked (begun_plot form kids) all = all
+plot_marked (begun_plot tracker kids) all = all
+plot_marked _ all = tt
 
 pub plot_cells : (plot : Plot) → cells_in_body (body_in plot) ≡ cells_in (kids_in_plot plot)
 plot_cells entered_plot = refl
@@ -126,9 +110,8 @@ kids_tokens (kid (at slot stored plot) ks) t = omega (arith, kids_tokens ks t)
 
 -- the tokens of a place are those in slots beneath it and its own
 pub plot_tokens : (plot : Plot) (t : ℕ) → plot_occurs plot t ≡ slotted_occur (kids_in_plot plot) t + body_occurs (body_in plot) t
-plot_tokens entered_plot t = omega arith
-plot_tokens (whole_plot v) t = omega arith
-plot_tokens (begun_plot form kids) t = kids_tokens kids t
+plot_tokens (begun_plot tracker kids) t = kids_tokens kids t
+plot_tokens _ t = omega arith
 
 emptied_tokens : (cs : List Cell) (t : ℕ) → cells_occur (map emptied cs) t ≡ cells_occur cs t
 emptied_tokens [] t = refl
@@ -137,9 +120,8 @@ emptied_tokens (given v ∷ cs) t = omega (arith, emptied_tokens cs t)
 emptied_tokens (placed n ∷ cs) t = omega (arith, emptied_tokens cs t)
 
 pub pruned_tokens : (body : Body) (t : ℕ) → body_occurs (pruned body) t ≡ body_occurs body t
-pruned_tokens entered_body t = refl
-pruned_tokens (whole_body v) t = refl
-pruned_tokens (begun_body form cells) t = emptied_tokens cells t
+pruned_tokens (begun_body tracker cells) t = emptied_tokens cells t
+pruned_tokens _ t = refl
 
 -- What the first so many children use and hold.
 
@@ -198,9 +180,8 @@ emptied_length (suc i) (c ∷ cs) = ap suc (emptied_length i cs)
 emptied_set : (i m : ℕ) (cs : List Cell) → slice_get cs i ≡ Some (placed m)
     → set (emptied_first i cs) i absent ≡ emptied_first (suc i) cs
 emptied_set i m [] is = refl
-emptied_set zero m (absent ∷ cs) is = absurd (cc)
-emptied_set zero m (given v ∷ cs) is = absurd (cc)
 emptied_set zero m (placed n ∷ cs) is = ap (λ (xs : List Cell). absent ∷ xs) (sym (emptied_none cs))
+emptied_set zero m _ is = absurd (cc)
 emptied_set (suc i) m (c ∷ cs) is = ap (λ (xs : List Cell). emptied c ∷ xs) (emptied_set i m cs is)
 
 -- one more, which is in none
@@ -212,47 +193,41 @@ emptied_kept zero (placed n ∷ cs) is = absurd (cc)
 emptied_kept (suc i) (c ∷ cs) is = ap (λ (xs : List Cell). emptied c ∷ xs) (emptied_kept i cs is)
 
 pub pruned_kept : (i : ℕ) (body : Body) → slot_at (cells_in_body body) i ≡ None → pruned_first (suc i) body ≡ pruned_first i body
-pruned_kept i entered_body is = refl
-pruned_kept i (whole_body v) is = refl
-pruned_kept i (begun_body form cells) is = ap (begun_body form) (emptied_kept i cells is)
+pruned_kept i (begun_body tracker cells) is = ap (begun_body tracker) (emptied_kept i cells is)
+pruned_kept i _ is = refl
 
 pub pruned_none : (body : Body) → pruned_first 0 body ≡ body
-pruned_none entered_body = refl
-pruned_none (whole_body v) = refl
-pruned_none (begun_body form cells) = ap (begun_body form) (emptied_none cells)
+pruned_none (begun_body tracker cells) = ap (begun_body tracker) (emptied_none cells)
+pruned_none _ = refl
 
 pub pruned_all : (body : Body) → pruned_first (length (cells_in_body body)) body ≡ pruned body
-pruned_all entered_body = refl
-pruned_all (whole_body v) = refl
-pruned_all (begun_body form cells) = ap (begun_body form) (emptied_all cells)
+pruned_all (begun_body tracker cells) = ap (begun_body tracker) (emptied_all cells)
+pruned_all _ = refl
 
 pub pruned_slot : (i : ℕ) (body : Body) → slot_at (cells_in_body (pruned_first i body)) i ≡ slot_at (cells_in_body body) i
-pruned_slot i entered_body = refl
-pruned_slot i (whole_body v) = refl
-pruned_slot i (begun_body form cells) = ap (option_and_then slot_of_cell) (emptied_get i cells)
+pruned_slot i (begun_body tracker cells) = ap (option_and_then slot_of_cell) (emptied_get i cells)
+pruned_slot i _ = refl
 
-unlinked_at : (form : Form) (i m count : ℕ) (cells : List Cell) → MayHave form count → i < count
-    → slice_get cells i ≡ Some (placed m)
-    → unlinked m i (begun_body form cells) ≡ begun_body form (set cells i absent)
-unlinked_at form i m count cells may h is =
+unlinked_at : (tracker : Tracker) (i m count : ℕ) (cells : List Cell) → MayHave tracker count → i < count
+    → slice_get cells i ≡ Some (placed m) → unlinked m i (begun_body tracker cells) ≡ begun_body tracker (set cells i absent)
+unlinked_at tracker i m count cells may h is =
     let e : nat_eq m m ≡ true = grind (arith, common_steps, nat_tests) in
-    ap (unlinked_by m i (begun_body form cells)) here
-    ∙ ap (λ (b : Bool). if b then with_cell (begun_body form cells) i absent else begun_body form cells) e
-    ∙ there_too
+    ap (unlinked_by m i (begun_body tracker cells)) here
+    ∙ ap (λ (b : Bool). if b then with_cell (begun_body tracker cells) i absent else begun_body tracker cells) e ∙ there_too
   where
-    here : cell_at (begun_body form cells) i ≡ Some (placed m)
+    here : cell_at (begun_body tracker cells) i ≡ Some (placed m)
     here = is
 
-    there_too : with_cell (begun_body form cells) i absent ≡ begun_body form (set cells i absent)
+    there_too : with_cell (begun_body tracker cells) i absent ≡ begun_body tracker (set cells i absent)
     there_too = refl
 
 -- one more child leaves its slot
-pub unlinked_first : (form : Form) (i m count : ℕ) (cells : List Cell) → MayHave form count → i < count
+pub unlinked_first : (tracker : Tracker) (i m count : ℕ) (cells : List Cell) → MayHave tracker count → i < count
     → slice_get cells i ≡ Some (placed m)
-    → unlinked m i (pruned_first i (begun_body form cells)) ≡ pruned_first (suc i) (begun_body form cells)
-unlinked_first form i m count cells may h is =
-    unlinked_at form i m count (emptied_first i cells) may h (emptied_get i cells ∙ is)
-    ∙ ap (begun_body form) (emptied_set i m cells is)
+    → unlinked m i (pruned_first i (begun_body tracker cells)) ≡ pruned_first (suc i) (begun_body tracker cells)
+unlinked_first tracker i m count cells may h is =
+    unlinked_at tracker i m count (emptied_first i cells) may h (emptied_get i cells ∙ is)
+    ∙ ap (begun_body tracker) (emptied_set i m cells is)
 
 unplaced_emptied : (cs : List Cell) → AreUnplaced cs → map emptied cs ≡ cs
 unplaced_emptied [] closed = refl
@@ -262,9 +237,8 @@ unplaced_emptied (placed n ∷ cs) closed = absurd closed.0
 
 -- a place none of whose children is in a slot stays as it is
 pub closed_pruned : (body : Body) → IsClosed body → pruned body ≡ body
-closed_pruned entered_body closed = refl
-closed_pruned (whole_body v) closed = refl
-closed_pruned (begun_body form cells) closed = ap (begun_body form) (unplaced_emptied cells closed)
+closed_pruned (begun_body tracker cells) closed = ap (begun_body tracker) (unplaced_emptied cells closed)
+closed_pruned _ closed = refl
 
 emptied_unplaced : (cs : List Cell) → AreUnplaced (map emptied cs)
 emptied_unplaced [] = tt
@@ -277,11 +251,10 @@ emptied_unplaced (placed n ∷ cs) = (tt, emptied_unplaced cs)
 pub kid_in_slot : (i m : ℕ) (ks : Kids) → slot_at (cells_in ks) i ≡ Some m → AllMarkedAmong true ks
     → (plot : Plot) × (kid_nth i ks ≡ at m true plot)
 kid_in_slot i m no_kids is all = absurd (cc)
-kid_in_slot zero m (kid gone ks) is all = absurd (cc)
-kid_in_slot zero m (kid (there v) ks) is all = absurd (cc)
 kid_in_slot zero m (kid (at slot stored plot) ks) is all =
     let same : slot ≡ m = cc in
     (plot, ap (λ (b : Bool). at slot b plot) all.0.0 ∙ ap (λ (x : ℕ). at x true plot) same)
+kid_in_slot zero m _ is all = absurd (cc)
 kid_in_slot (suc i) m (kid k ks) is all = kid_in_slot i m ks is all.1
 
 pub cell_in_slot : (i m : ℕ) (ks : Kids) (plot : Plot) → kid_nth i ks ≡ at m true plot
@@ -292,24 +265,22 @@ cell_in_slot (suc i) m (kid k ks) plot is = cell_in_slot i m ks plot is
 
 pub slotless_uses : (i : ℕ) (ks : Kids) (m : ℕ) → slot_at (cells_in ks) i ≡ None → uses (kid_nth i ks) m ≡ 0
 slotless_uses i no_kids m is = refl
-slotless_uses zero (kid gone ks) m is = refl
-slotless_uses zero (kid (there v) ks) m is = refl
 slotless_uses zero (kid (at slot stored plot) ks) m is = absurd (cc)
+slotless_uses zero _ m is = refl
 slotless_uses (suc i) (kid k ks) m is = slotless_uses i ks m is
 
 pub slotless_tokens : (i : ℕ) (ks : Kids) (t : ℕ) → slot_at (cells_in ks) i ≡ None → slotted_occurs (kid_nth i ks) t ≡ 0
 slotless_tokens i no_kids t is = refl
-slotless_tokens zero (kid gone ks) t is = refl
-slotless_tokens zero (kid (there v) ks) t is = refl
 slotless_tokens zero (kid (at slot stored plot) ks) t is = absurd (cc)
+slotless_tokens zero _ t is = refl
 slotless_tokens (suc i) (kid k ks) t is = slotless_tokens i ks t is
 
-pub held_nth : (plan : Plan) (heap : Heap) (node : NodeId) (slot : ℕ) (form : Form) (first depth : ℕ) (ks : Kids) (i m : ℕ)
-    → m ≡ first + i → HoldsAll plan heap node slot form first depth ks
-    → Holds plan heap (child_node plan node form m) (child_owner slot m) depth (kid_nth i ks)
-held_nth plan heap node slot form first depth no_kids i m e holds = tt
-held_nth plan heap node slot form first depth (kid k ks) zero m e holds =
+pub held_nth : (plan : Plan) (heap : Heap) (node : NodeId) (slot : ℕ) (tracker : Tracker) (first depth : ℕ) (ks : Kids) (i m : ℕ)
+    → m ≡ first + i → HoldsAll plan heap node slot tracker first depth ks
+    → Holds plan heap (child_node plan node tracker m) (child_owner slot m) depth (kid_nth i ks)
+held_nth plan heap node slot tracker first depth no_kids i m e holds = tt
+held_nth plan heap node slot tracker first depth (kid k ks) zero m e holds =
     let same : first ≡ m = omega arith in
-    subst (λ (j : ℕ). Holds plan heap (child_node plan node form j) (child_owner slot j) depth k) same holds.0
-held_nth plan heap node slot form first depth (kid k ks) (suc i) m e holds =
-    held_nth plan heap node slot form (suc first) depth ks i m (omega arith) holds.1
+    subst (λ (j : ℕ). Holds plan heap (child_node plan node tracker j) (child_owner slot j) depth k) same holds.0
+held_nth plan heap node slot tracker first depth (kid k ks) (suc i) m e holds =
+    held_nth plan heap node slot tracker (suc first) depth ks i m (omega arith) holds.1

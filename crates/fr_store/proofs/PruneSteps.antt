@@ -1,17 +1,11 @@
 -- One child after another leaves its slot.
 use Rattle.std.proofs.Common.{◌≡◌, ◌≢◌, ◌⊎◌, ℕ, zero, suc, ◌+◌, ◌-◌, ◌<◌, ◌≤◌, true, false, List, nat_eq, Option, Some, None, inl, inr, refl, sym, ◌∙◌, ap, subst, arith}
-use Rattle.fr_shape.specs.Released.{Room, RoseBy}
-use Rattle.fr_shape.specs.TokenLaws.{both, Room_fewer, Room_left, Room_risen}
-use Rattle.fr_model.specs.Tree.{Form}
-use Rattle.fr_frame.specs.Bodies.{Body, begun_body, body_occurs, unlinked}
-use Rattle.fr_frame.specs.Cells.{Cell, slot_at}
-use Rattle.fr_frame.specs.Heap.{Node, Heap, depth_limit, with_slot, without, marked, stored_in}
-use Rattle.fr_frame.specs.Kids.{Kid, at, Plot, entered_plot, whole_plot, begun_plot, Kids, no_kids, kid, MayHave, cells_in, body_in, child_node, child_owner, Holds, HoldsIn}
-use Rattle.fr_store.specs.HoldLaws.{AgreeOn, holds_frame, may_have_all}
-use Rattle.fr_store.specs.Prunes.{kids_in_plot, beneath, IsRooted, slotted_occurs, slotted_occur, pruned, IsPruned, cells_in_body, cells_found}
-use Rattle.fr_store.specs.TopLaws.{slot_here, slot_other, body_here, body_other}
-use Rattle.fr_store.specs.Ways.{count_kids, kid_nth, counts_if, uses, uses_in, uses_among, AllMarked, AllMarkedAmong}
-use Rattle.fr_store.specs.WayLaws.{counts_same, counts_other, same_or_other, marked_nth}
+use Rattle.fr_store.specs.Common.{AllMarked, AllMarkedAmong, Body, Cell, Heap, Holds, HoldsIn, IsPruned, IsRooted, Kid, Kids, MayHave, Node, Plot, Room, Room_fewer, Room_risen, RoseBy, Tracker, at, begun_body, begun_plot, beneath, body_here, body_in, body_occurs, body_other, both, cells_found, cells_in, cells_in_body, child_node, child_owner, count_kids, counts_if, counts_other, counts_same, depth_limit, entered_plot, kid, kid_nth, marked, marked_nth, may_have_all, no_kids, pruned, same_or_other, slot_other, slotted_occur, stored_in, unlinked, uses, uses_among, uses_in, whole_plot, with_slot, without}
+use Rattle.fr_shape.specs.TokenLaws.{Room_left}
+use Rattle.fr_frame.specs.Cells.{slot_at}
+use Rattle.fr_store.specs.HoldLaws.{AgreeOn, holds_frame}
+use Rattle.fr_store.specs.Prunes.{kids_in_plot, slotted_occurs}
+use Rattle.fr_store.specs.TopLaws.{slot_here}
 use Rattle.fr_store.proofs.PruneLaws.{pruned_first, first_kids, depth_found, beneath_is, plot_uses, plot_marked, plot_cells, plot_tokens, first_uses, uses_first, tokens_first, pruned_slot, unlinked_first, kid_in_slot, cell_in_slot, held_nth}
 
 -- What lies beneath the place.
@@ -28,8 +22,7 @@ module _ (heap : Heap) (n : ℕ) (rooted : IsRooted heap n) where
       subst (λ (ks : Kids). AllMarkedAmong true ks) (sym (beneath_is heap n rooted)) (plot_marked rooted.plot rooted.stored)
 
   pub beneath_cells : cells_in_body rooted.found.body ≡ cells_in (beneath heap n)
-  beneath_cells =
-      ap cells_in_body rooted.body ∙ plot_cells rooted.plot ∙ ap cells_in (sym (beneath_is heap n rooted))
+  beneath_cells = ap cells_in_body rooted.body ∙ plot_cells rooted.plot ∙ ap cells_in (sym (beneath_is heap n rooted))
 
   -- its own slot isn't beneath it
   pub beneath_apart : (m : ℕ) → 0 < uses_among (beneath heap n) m → m ≢ n
@@ -43,10 +36,10 @@ used_or_not (suc count) = inl (omega arith)
 
 -- a child in a slot is held there
 pub record ChildHeld (heap : Heap) (n : ℕ) (rooted : IsRooted heap n) (i m : ℕ) (below : Plot) : Type 0 where
-  pub form : Form
-  pub body : rooted.found.body ≡ begun_body form (cells_in (beneath heap n))
-  pub may_have : MayHave form (count_kids (beneath heap n))
-  pub holds : Holds rooted.plan heap (child_node rooted.plan rooted.found.node form i) (child_owner n i)
+  pub tracker : Tracker
+  pub body : rooted.found.body ≡ begun_body tracker (cells_in (beneath heap n))
+  pub may_have : MayHave tracker (count_kids (beneath heap n))
+  pub holds : Holds rooted.plan heap (child_node rooted.plan rooted.found.node tracker i) (child_owner n i)
       (suc rooted.found.depth) (at m true below)
 
 nth_within : (i m : ℕ) (ks : Kids) (plot : Plot) → kid_nth i ks ≡ at m true plot → i < count_kids ks
@@ -63,17 +56,17 @@ child_held heap n rooted i m below is = go rooted.plot rooted.body rooted.holds 
         → ChildHeld heap n rooted i m below
     go entered_plot body holds e = let none = sym (ap (kid_nth i) e) ∙ is in absurd (cc)
     go (whole_plot v) body holds e = let none = sym (ap (kid_nth i) e) ∙ is in absurd (cc)
-    go (begun_plot form kids) body holds e =
+    go (begun_plot tracker kids) body holds e =
         let here : kid_nth i kids ≡ at m true below = sym (ap (kid_nth i) e) ∙ is in
         record {
-          form = form;
-          body = body ∙ ap (λ (ks : Kids). begun_body form (cells_in ks)) (sym e);
-          may_have = subst (λ (ks : Kids). MayHave form (count_kids ks)) (sym e)
-              (may_have_all rooted.plan heap rooted.found.node n form (suc rooted.found.depth) kids holds);
+          tracker = tracker;
+          body = body ∙ ap (λ (ks : Kids). begun_body tracker (cells_in ks)) (sym e);
+          may_have = subst (λ (ks : Kids). MayHave tracker (count_kids ks)) (sym e)
+              (may_have_all rooted.plan heap rooted.found.node n tracker (suc rooted.found.depth) kids holds);
           holds = subst
-              (λ (k : Kid). Holds rooted.plan heap (child_node rooted.plan rooted.found.node form i) (child_owner n i)
+              (λ (k : Kid). Holds rooted.plan heap (child_node rooted.plan rooted.found.node tracker i) (child_owner n i)
               (suc rooted.found.depth) k) here
-              (held_nth rooted.plan heap rooted.found.node n form 0 (suc rooted.found.depth) kids i i (omega arith) holds);
+              (held_nth rooted.plan heap rooted.found.node n tracker 0 (suc rooted.found.depth) kids i i (omega arith) holds);
         }
 
 -- So many children were released, and one more is in a slot.
@@ -81,9 +74,9 @@ child_held heap n rooted i m below is = go rooted.plot rooted.body rooted.holds 
 pub record Child (before mid : Heap) (n : ℕ) (rooted : IsRooted before n) (i m : ℕ) : Type 0 where
   pub below : IsRooted mid m
   pub is : kid_nth i (beneath before n) ≡ at m true below.plot
-  pub form : Form
-  pub body : rooted.found.body ≡ begun_body form (cells_in (beneath before n))
-  pub may_have : MayHave form (count_kids (beneath before n))
+  pub tracker : Tracker
+  pub body : rooted.found.body ≡ begun_body tracker (cells_in (beneath before n))
+  pub may_have : MayHave tracker (count_kids (beneath before n))
   pub owner : below.found.owner ≡ child_owner n i
   pub stored : below.found.stored ≡ true
   pub deeper : below.found.depth ≡ suc rooted.found.depth
@@ -105,11 +98,10 @@ module _ (before mid : Heap) (n : ℕ) (rooted : IsRooted before n) (i : ℕ)
       let held = child_held before n rooted i m one.0 one.1 in
       let all : (x : ℕ) → uses (kid_nth i (beneath before n)) x ≡ counts_if (nat_eq m x) + uses_in one.0 x
       = λ x. ap (λ (k : Kid). uses k x) one.1 in
-      let agree : AgreeOn before mid (at m true one.0)
-      = λ x h. so_far.rest x
+      let agree : AgreeOn before mid (at m true one.0) = λ x h. so_far.rest x
       (beneath_apart before n rooted x (omega (arith, all x, uses_first i (beneath before n) x)))
       (omega (arith, all x, uses_first i (beneath before n) x, beneath_once before n rooted x)) in
-      let now = holds_frame rooted.plan before mid (child_node rooted.plan rooted.found.node held.form i)
+      let now = holds_frame rooted.plan before mid (child_node rooted.plan rooted.found.node held.tracker i)
       (child_owner n i) (suc rooted.found.depth) (at m true one.0) held.holds agree in
       let marked : AllMarked true (at m true one.0)
       = subst (λ (k : Kid). AllMarked true k) one.1 (marked_nth true i (beneath before n) (beneath_stored before n rooted)) in
@@ -117,7 +109,7 @@ module _ (before mid : Heap) (n : ℕ) (rooted : IsRooted before n) (i : ℕ)
         below = record {
           plan = rooted.plan;
           found = record {
-            node = child_node rooted.plan rooted.found.node held.form i;
+            node = child_node rooted.plan rooted.found.node held.tracker i;
             owner = child_owner n i;
             stored = true;
             depth = suc rooted.found.depth;
@@ -132,7 +124,7 @@ module _ (before mid : Heap) (n : ℕ) (rooted : IsRooted before n) (i : ℕ)
           stored = marked.1;
         };
         is = one.1;
-        form = held.form;
+        tracker = held.tracker;
         body = held.body;
         may_have = held.may_have;
         owner = refl;
@@ -167,13 +159,10 @@ module _ (before mid : Heap) (n : ℕ) (rooted : IsRooted before n) (i : ℕ)
       pub child_room : Room (both (slotted_occur (beneath mid m)) (body_occurs child.below.found.body)) now
       child_room =
           Room_risen (slotted_occur (first_kids i (beneath before n)))
-          (both (slotted_occur (beneath mid m)) (body_occurs child.below.found.body)) ledger now
-          (Room_fewer
+          (both (slotted_occur (beneath mid m)) (body_occurs child.below.found.body)) ledger now (Room_fewer
           (both (slotted_occur (first_kids i (beneath before n)))
-          (both (slotted_occur (beneath mid m)) (body_occurs child.below.found.body)))
-          (slotted_occur (beneath before n)) ledger
-          (λ t. omega (arith, child_tokens t, tokens_first i (beneath before n) t)) room)
-          rose
+          (both (slotted_occur (beneath mid m)) (body_occurs child.below.found.body))) (slotted_occur (beneath before n)) ledger
+          (λ t. omega (arith, child_tokens t, tokens_first i (beneath before n) t)) room) rose
 
       pub below_room : Room (slotted_occur (beneath mid m)) now
       below_room = Room_left (slotted_occur (beneath mid m)) (body_occurs child.below.found.body) now child_room
@@ -192,29 +181,23 @@ module _ (before mid : Heap) (n : ℕ) (rooted : IsRooted before n) (i : ℕ)
       -- the child leaves its slot
       module _ (after : Heap) (left : (x : ℕ) → after x ≡ without late m (child_owner n i) x) where
         after_other : (x : ℕ) → x ≢ n → x ≢ m → after x ≡ late x
-        after_other x a b =
-            left x ∙ body_other (with_slot late m None) n (unlinked m i) x a
-            ∙ slot_other late m None x b
+        after_other x a b = left x ∙ body_other (with_slot late m None) n (unlinked m i) x a ∙ slot_other late m None x b
 
         after_free : after m ≡ None
         after_free =
-            left m
-            ∙ body_other (with_slot late m None) n (unlinked m i) m
-            (beneath_apart before n rooted m child_used)
+            left m ∙ body_other (with_slot late m None) n (unlinked m i) m (beneath_apart before n rooted m child_used)
             ∙ slot_here late m None
 
         after_here : after n ≡ Some (record rooted.found { body = pruned_first (suc i) rooted.found.body })
         after_here =
-            left n
-            ∙ body_here (with_slot late m None) n (unlinked m i)
+            left n ∙ body_here (with_slot late m None) n (unlinked m i)
             (record rooted.found { body = pruned_first i rooted.found.body })
             (slot_other late m None n (λ e. beneath_apart before n rooted m child_used (sym e)) ∙ above_here)
             ∙ ap (λ (b : Body). Some (record rooted.found { body = b }))
             (ap (λ (b : Body). unlinked m i (pruned_first i b)) child.body
-            ∙ unlinked_first child.form i m (count_kids (beneath before n)) (cells_in (beneath before n)) child.may_have
+            ∙ unlinked_first child.tracker i m (count_kids (beneath before n)) (cells_in (beneath before n)) child.may_have
             (nth_within i m (beneath before n) child.below.plot child.is)
-            (cell_in_slot i m (beneath before n) child.below.plot child.is)
-            ∙ ap (pruned_first (suc i)) (sym child.body))
+            (cell_in_slot i m (beneath before n) child.below.plot child.is) ∙ ap (pruned_first (suc i)) (sym child.body))
 
         first_now : (x : ℕ) → uses_among (first_kids (suc i) (beneath before n)) x
             ≡ uses_among (first_kids i (beneath before n)) x + (counts_if (nat_eq m x) + uses_among (beneath mid m) x)
@@ -222,8 +205,7 @@ module _ (before mid : Heap) (n : ℕ) (rooted : IsRooted before n) (i : ℕ)
 
         first_apart : (x : ℕ) → 0 < uses_among (first_kids (suc i) (beneath before n)) x → x ≢ n
         first_apart x h =
-            beneath_apart before n rooted x
-            (omega (arith, first_now x, child_uses x, uses_first i (beneath before n) x))
+            beneath_apart before n rooted x (omega (arith, first_now x, child_uses x, uses_first i (beneath before n) x))
 
         pub child_left : IsPruned before after n (pruned_first (suc i)) (first_kids (suc i) (beneath before n))
         child_left = record {
@@ -241,8 +223,7 @@ module _ (before mid : Heap) (n : ℕ) (rooted : IsRooted before n) (i : ℕ)
                 earlier : (0 < uses_among (beneath mid m) x) ⊎ (uses_among (beneath mid m) x ≡ 0) → late x ≡ None
                 earlier (inl used) = later.free x used
                 earlier (inr none) =
-                    later.rest x ne none
-                    ∙ so_far.free x (omega (arith, first_now x, counts_other m x (λ e. ne (sym e))))
+                    later.rest x ne none ∙ so_far.free x (omega (arith, first_now x, counts_other m x (λ e. ne (sym e))))
 
             rest : (x : ℕ) → x ≢ n → uses_among (first_kids (suc i) (beneath before n)) x ≡ 0 → after x ≡ before x
             rest x a h =
@@ -255,8 +236,7 @@ module _ (before mid : Heap) (n : ℕ) (rooted : IsRooted before n) (i : ℕ)
         after_marked x ne = go (same_or_other x n)
           where
             go : (x ≡ n) ⊎ (x ≢ n) → marked after x ≡ marked late x
-            go (inl e) =
-                ap (marked after) e ∙ ap stored_in after_here ∙ sym (ap stored_in above_here) ∙ ap (marked late) (sym e)
+            go (inl e) = ap (marked after) e ∙ ap stored_in after_here ∙ sym (ap stored_in above_here) ∙ ap (marked late) (sym e)
             go (inr other) = ap stored_in (after_other x other ne)
 
         pub after_unmarked : marked after m ≡ false

@@ -1,22 +1,10 @@
 -- The turns of the loop that prunes: slots, store and ledger after the first so many children.
-use Rattle.std.proofs.Common.{◌≡◌, ◌≢◌, ◌⊎◌, ℕ, suc, ◌+◌, ◌-◌, ◌<◌, Bool, true, false, List, [], length, Option, Some, None, inl, inr, refl, sym, ◌∙◌, ap, subst, arith}
-use Rattle.std.specs.Prelude.{◌↔◌, is_some, IsSomeAnd}
-use Rattle.std.specs.List.{Contains}
-use Rattle.fr_shape.specs.Released.{Room, RoseBy}
-use Rattle.fr_shape.specs.TokenLaws.{both, nothing, Room_same, Room_risen, RoseBy_same, RoseBy_both, RoseBy_nothing}
-use Rattle.fr_frame.specs.declared.places.FrameOwner.{FrameOwner}
-use Rattle.fr_frame.specs.declared.places.Slot.{Slot}
-use Rattle.fr_frame.specs.Bodies.{Body, body_occurs, IsClosed}
-use Rattle.fr_frame.specs.Cells.{Cell, slot_at}
-use Rattle.fr_frame.specs.Changes.{IfInUse, IsInUse, Shows}
-use Rattle.fr_frame.specs.Heap.{Node, depth_limit, without, heap_of, slots_occur, marked, stored_in}
-use Rattle.fr_frame.specs.Kids.{at, Kids, no_kids, cells_in, body_in, child_owner}
+use Rattle.std.proofs.Common.{◌≡◌, ◌≢◌, ◌⊎◌, ℕ, suc, ◌+◌, ◌-◌, ◌<◌, Bool, true, false, List, [], length, Option, Some, None, inl, inr, refl, sym, ◌∙◌, ap, subst, arith, ◌↔◌}
+use Rattle.fr_store.specs.Common.{Body, Cell, Contains, FrameOwner, IfInUse, IsClosed, IsInUse, IsKept, IsPruned, IsRooted, IsSomeAnd, Kids, Node, Room, Room_risen, Room_same, RoseBy, RoseBy_same, Shows, Slot, StoresNoMore, at, beneath, body_here, body_in, body_occurs, both, cells_found, cells_in, cells_in_body, child_owner, closed_uses, depth_limit, heap_of, is_some, marked, no_kids, pruned, same_or_other, slots_occur, slotted_occur, stored_in, uses_among, without}
+use Rattle.fr_shape.specs.TokenLaws.{nothing, RoseBy_both, RoseBy_nothing}
+use Rattle.fr_frame.specs.Cells.{slot_at}
 use Rattle.fr_store.specs.HoldLaws.{none_stored}
-use Rattle.fr_store.specs.Prunes.{beneath, IsRooted, slotted_occur, pruned, IsPruned, cells_in_body, cells_found}
-use Rattle.fr_store.specs.Stored.{IsKept, StoresNoMore}
-use Rattle.fr_store.specs.TopLaws.{body_here, closed_by_marks, closed_uses, closed_occur}
-use Rattle.fr_store.specs.Ways.{uses_among}
-use Rattle.fr_store.specs.WayLaws.{same_or_other}
+use Rattle.fr_store.specs.TopLaws.{closed_by_marks, closed_occur}
 use Rattle.fr_store.proofs.PruneLaws.{pruned_first, first_kids, depth_found, Pruning, beneath_is, plot_tokens, pruned_tokens, first_uses, first_tokens, first_all, first_none, pruned_kept, pruned_none, pruned_all, closed_pruned, slotless_uses, slotless_tokens}
 use Rattle.fr_store.proofs.PruneSteps.{beneath_uses, beneath_cells, Child, slot_is, child_of, child_falls, child_tokens, child_room, below_room, child_here, child_left, after_marked, after_unmarked}
 
@@ -40,8 +28,7 @@ module _ (n : ℕ) (slots : List Slot) (rooted : IsRooted (heap_of slots) n) (ke
 
   pub nothing_pruned : IsPruned (heap_of slots) (heap_of slots) n pruned (beneath (heap_of slots) n)
   nothing_pruned = record {
-    here = rooted.here
-        ∙ ap (λ (b : Body). Some (record rooted.found { body = b }))
+    here = rooted.here ∙ ap (λ (b : Body). Some (record rooted.found { body = b }))
         (sym (closed_pruned rooted.found.body (subst IsClosed (sym rooted.body) closed)))
         ∙ sym (body_here (heap_of slots) n pruned rooted.found rooted.here);
     free = λ m h. absurd (omega (arith, beneath_uses (heap_of slots) n rooted m, closed_uses rooted.plot m closed));
@@ -66,8 +53,7 @@ pruning_none n store slots ledger rooted kept =
     let empty : first_kids 0 kids ≡ no_kids = first_none kids in
     record {
       heap = record {
-        here = rooted.here
-            ∙ ap (λ (b : Body). Some (record rooted.found { body = b })) (sym (pruned_none rooted.found.body))
+        here = rooted.here ∙ ap (λ (b : Body). Some (record rooted.found { body = b })) (sym (pruned_none rooted.found.body))
             ∙ sym (body_here (heap_of slots) n (pruned_first 0) rooted.found rooted.here);
         free = λ m h.
             let none : uses_among (first_kids 0 kids) m ≡ 0 = ap (λ (ks : Kids). uses_among ks m) empty in
@@ -110,8 +96,7 @@ module _ (n : ℕ) (start : List Slot) (rooted : IsRooted (heap_of start) n) (le
       record {
         heap = record {
           here = so_far.heap.here ∙ body_here (heap_of start) n (pruned_first i) rooted.found rooted.here
-              ∙ ap (λ (b : Body). Some (record rooted.found { body = b }))
-              (sym (pruned_kept i rooted.found.body
+              ∙ ap (λ (b : Body). Some (record rooted.found { body = b })) (sym (pruned_kept i rooted.found.body
               (ap (λ (cs : List Cell). slot_at cs i) (beneath_cells (heap_of start) n rooted) ∙ slotless)))
               ∙ sym (body_here (heap_of start) n (pruned_first (suc i)) rooted.found rooted.here);
           free = λ m h. so_far.heap.free m (omega (arith, same_uses m));
@@ -215,8 +200,7 @@ module _ (n : ℕ) (start : List Slot) (rooted : IsRooted (heap_of start) n) (le
           pruning_child = record {
             heap = child_left (heap_of start) (heap_of mid) n rooted i so_far.heap m next (heap_of late) later
                 (heap_of after) gone_now;
-            released = RoseBy_same
-                (both (slotted_occur (first_kids i (beneath (heap_of start) n)))
+            released = RoseBy_same (both (slotted_occur (first_kids i (beneath (heap_of start) n)))
                 (both (slotted_occur (beneath (heap_of mid) m)) (body_occurs (pruned next.below.found.body))))
                 (slotted_occur (first_kids (suc i) (beneath (heap_of start) n))) ledger at_last (λ t. sym (more_tokens t))
                 (RoseBy_both (slotted_occur (first_kids i (beneath (heap_of start) n)))

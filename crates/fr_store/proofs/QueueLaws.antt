@@ -1,15 +1,8 @@
 -- The list of stored places as it is written down: what is in it, which places wait, and where the next open one comes.
 use Rattle.std.proofs.Common.{◌≡◌, ◌≢◌, ◌⊎◌, ℕ, ◌+◌, ◌-◌, ◌<◌, ◌≤◌, Bool, false, cond, List, [], ◌∷◌, ◌++◌, map, length, length-append, get_or, append_assoc, inl, inr, refl, sym, ◌∙◌, ap, subst, arith}
-use Rattle.std.specs.List.{All, Contains, filter}
-use Rattle.std.specs.List.Sorted.{IsNonDecreasingBy}
+use Rattle.fr_store.specs.Common.{All, AreAllStored, ComesEarlier, Contains, IsNonDecreasingBy, IsPlaced, IsSpread, IsStoredHere, Kid, Leads, Pairs, Place, StoredPlace, filter, first_key, key_of, kid_at, order_below, slot_at, slot_of, slots_between, slots_of, stored_here, uses}
 use Rattle.std.proofs.lemmas.List.{append-nil, length-map, map-append}
 use Rattle.std.proofs.lemmas.List.Elements.{All-nil, All-append, All-contains, All-filter, All-head, All-tail, filter-append, filter_passes}
-use Rattle.fr_model.specs.Places.{Place}
-use Rattle.fr_frame.specs.Kids.{Kid}
-use Rattle.fr_store.specs.declared.turning.StoredPlace.{StoredPlace}
-use Rattle.fr_store.specs.Numbers.{slot_of, slots_of}
-use Rattle.fr_store.specs.Places.{Pairs, AreAllStored, ComesEarlier, IsPlaced, IsSpread, IsStoredHere, first_key, key_of, order_below, slot_at, slots_between, stored_here}
-use Rattle.fr_store.specs.Ways.{kid_at, uses, Leads}
 use Rattle.fr_store.proofs.EarlierLaws.{earlier_differs}
 use Rattle.fr_store.proofs.PairLaws.{filter_all, fits, in_filter, of_map, pairs_filter, parts}
 use Rattle.fr_store.proofs.PlaceLaws.{behind, leads_here, open_placed, open_unstored, slots_once}
@@ -61,16 +54,14 @@ module _ (k : Kid) where
 module _ (k : Kid) (cursor : Place) (once : (n : ℕ) → uses k n ≤ 1) (leads : Leads cursor k) (places : List StoredPlace)
     (stored : AreAllStored k places) where
   -- there is room for all
-  pub few_written : (queue : List ℕ) (head opened at : ℕ) → IsQueue k cursor queue head opened at
-      → length queue ≤ length places
+  pub few_written : (queue : List ℕ) (head opened at : ℕ) → IsQueue k cursor queue head opened at → length queue ≤ length places
   few_written queue head opened at q =
       let all : List Place = q.done ++ q.waiting in
       let here : All (IsPlaced k) (stored_among k all)
       = All-filter (λ p. stored_here (kid_at p k)) (IsPlaced k) all q.spreading.placed in
       let apart = slots_once k once (ComesEarlier k) (earlier_differs k) (stored_among k all) here
       (pairs_filter (ComesEarlier k) (λ p. stored_here (kid_at p k)) all q.spreading.order) in
-      let few = fits (map (slot_at k) (stored_among k all)) (slots_of places) apart
-      (λ n at.
+      let few = fits (map (slot_at k) (stored_among k all)) (slots_of places) apart (λ n at.
       let from = of_map (slot_at k) (stored_among k all) n at in
       subst (Contains (slots_of places)) from.2
       (stored.all from.0 (All-contains (IsPlaced k) (stored_among k all) from.0 here from.1)
@@ -181,8 +172,7 @@ module _ (k : Kid) (cursor : Place) (once : (n : ℕ) → uses k n ≤ 1) (leads
       stored_turn : (p : Place) (rest : List Place) (waits : q.waiting ≡ p ∷ rest) → IsStoredHere k p
           → ((added : List Place) → All (IsStoredHere k) added
           → ((length cursor + 1 ≡ opened) × All (IsStoredHere k) (rest ++ added))
-          ⊎ OpenAhead k cursor (rest ++ added) (head + 1) opened at)
-          → IsQueue k cursor written_more (head + 1) opened at
+          ⊎ OpenAhead k cursor (rest ++ added) (head + 1) opened at) → IsQueue k cursor written_more (head + 1) opened at
       stored_turn p rest waits is next =
           let placed : IsPlaced k p = placed_p p rest [] waits in
           let low : ℕ = first_key (slot_at k p) in
@@ -214,8 +204,7 @@ module _ (k : Kid) (cursor : Place) (once : (n : ℕ) → uses k n ≤ 1) (leads
               let none = ap (λ (l : List Place). length (stored_among k l)) e in
               absurd (omega (arith, written))
           last (p ∷ rest) e over all =
-              stored_turn p rest e (All-head (IsStoredHere k) p rest all)
-              (λ added more.
+              stored_turn p rest e (All-head (IsStoredHere k) p rest all) (λ added more.
               inl (over, All-append (IsStoredHere k) rest added (All-tail (IsStoredHere k) p rest all) more))
 
           ahead : (o : OpenAhead k cursor q.waiting head opened at) → (before : List Place) → o.before ≡ before
@@ -228,11 +217,8 @@ module _ (k : Kid) (cursor : Place) (once : (n : ℕ) → uses k n ≤ 1) (leads
           ahead o (p ∷ before) e =
               let all : All (IsStoredHere k) (p ∷ before) = subst (All (IsStoredHere k)) e o.before_stored in
               let long = ap (λ (l : List Place). length l) e in
-              stored_turn p (before ++ o.above ∷ o.after)
-              (o.is ∙ ap (λ (l : List Place). l ++ o.above ∷ o.after) e)
-              (All-head (IsStoredHere k) p before all)
-              (λ added more.
-              inr
+              stored_turn p (before ++ o.above ∷ o.after) (o.is ∙ ap (λ (l : List Place). l ++ o.above ∷ o.after) e)
+              (All-head (IsStoredHere k) p before all) (λ added more. inr
               (record {
                 above = o.above;
                 below = o.below;
@@ -254,8 +240,7 @@ module _ (k : Kid) (cursor : Place) (once : (n : ℕ) → uses k n ≤ 1) (leads
     -- An open place that comes now.
     module _ (n middle : ℕ) (open_still : opened < length cursor + 1) (now : head ≡ at) where
       abbrev pub opened_more : List ℕ
-      opened_more = (queue ++ slots_between (first_key n) middle places)
-          ++ slots_between middle (first_key n + 4294967296) places
+      opened_more = (queue ++ slots_between (first_key n) middle places) ++ slots_between middle (first_key n + 4294967296) places
 
       pub ahead_now : OpenAhead k cursor q.waiting head opened at
       ahead_now = go q.next
@@ -288,8 +273,7 @@ module _ (k : Kid) (cursor : Place) (once : (n : ℕ) → uses k n ≤ 1) (leads
         -- all that was written is done, or comes after the open place
         written_now : length queue ≡ head + length o.after
         written_now =
-            let after : stored_among k q.waiting ≡ o.after
-            = ap (stored_among k) (none_before o)
+            let after : stored_among k q.waiting ≡ o.after = ap (stored_among k) (none_before o)
             ∙ ap (λ (b : Bool). cond b (o.above ∷ stored_among k o.after) (stored_among k o.after)) unstored
             ∙ all_among k o.after o.after_stored in
             omega (arith, written, ap (λ (l : List Place). length l) after)
@@ -304,8 +288,7 @@ module _ (k : Kid) (cursor : Place) (once : (n : ℕ) → uses k n ≤ 1) (leads
             → slots_between from to places ≡ map (slot_at k) (stored_among k (children_of from to))
         unfolding low children_of
         between_of from to a b =
-            sym (children_slots k cursor once leads places stored sorted o.above here from to a b)
-            ∙ ap (map (slot_at k))
+            sym (children_slots k cursor once leads places stored sorted o.above here from to a b) ∙ ap (map (slot_at k))
             (sym (all_among k (children_of from to) (stored_all k cursor once leads places stored sorted o.above here from to a b)))
 
         -- it is the last one on the stack
@@ -434,8 +417,7 @@ module _ (k : Kid) (cursor : Place) (once : (n : ℕ) → uses k n ≤ 1) (leads
                   above = o.above ++ j ∷ [];
                   below = below;
                   on_way =
-                      o.on_way ∙ ap (λ (l : Place). o.above ++ l) goes_on
-                      ∙ sym (append_assoc o.above (j ∷ []) below);
+                      o.on_way ∙ ap (λ (l : Place). o.above ++ l) goes_on ∙ sym (append_assoc o.above (j ∷ []) below);
                   number = omega (arith, o.number, length-append o.above (j ∷ []));
                   before = o.after ++ front;
                   after = back;
@@ -450,13 +432,10 @@ module _ (k : Kid) (cursor : Place) (once : (n : ℕ) → uses k n ≤ 1) (leads
 
       -- what is known of the key in the middle, by what comes on the stack
       pub open_next : (o : OpenAhead k cursor q.waiting head opened at) → n ≡ slot_at k o.above
-          → (length cursor + 1 ≤ opened + 1 → middle ≡ first_key n + 4294967296)
-          → ((j : ℕ) (below : Place) → o.below ≡ j ∷ below
+          → (length cursor + 1 ≤ opened + 1 → middle ≡ first_key n + 4294967296) → ((j : ℕ) (below : Place) → o.below ≡ j ∷ below
           → (j < 4294967296) × (middle ≡ first_key n + (4294967295 - order_below j (kid_at o.above k))))
-          → IsQueue k cursor opened_more head (opened + 1)
-          (length queue + length (slots_between (first_key n) middle places))
-      open_next o slot last on =
-          subst (λ (m : ℕ). IsQueue k cursor opened_more head (opened + 1) m) place (go o.below refl)
+          → IsQueue k cursor opened_more head (opened + 1) (length queue + length (slots_between (first_key n) middle places))
+      open_next o slot last on = subst (λ (m : ℕ). IsQueue k cursor opened_more head (opened + 1) m) place (go o.below refl)
         where
           place : at + length o.after + length (slots_between (first_key n) middle places)
               ≡ length queue + length (slots_between (first_key n) middle places)
@@ -483,8 +462,7 @@ module _ (k : Kid) (cursor : Place) (once : (n : ℕ) → uses k n ≤ 1) (leads
 
         finished : q.waiting ≡ [] → IsSpread k queue
         finished e =
-            let whole : q.done ++ q.waiting ≡ q.done
-            = ap (λ (l : List Place). q.done ++ l) e ∙ append-nil q.done in
+            let whole : q.done ++ q.waiting ≡ q.done = ap (λ (l : List Place). q.done ++ l) e ∙ append-nil q.done in
             let spreading : IsSpreading k q.done [] = subst (λ (l : List Place). IsSpreading k q.done l) e q.spreading in
             let placed : All (IsPlaced k) q.done = subst (All (IsPlaced k)) whole q.spreading.placed in
             record {

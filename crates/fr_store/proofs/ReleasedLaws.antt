@@ -1,6 +1,6 @@
 -- What was released isn't held any more: tokens in slots and a ledger, taken together.
 use Rattle.std.proofs.Common.{◌≡◌, ℕ, ◌+◌, ◌<◌, List, refl, sym, ◌∙◌, subst, arith}
-use Rattle.fr_shape.specs.Released.{Conserved, Room, RoseBy}
+use Rattle.fr_store.specs.Common.{Conserved, Room, RoseBy}
 
 -- what was released is what isn't held any more
 pub conserved_by : (held fell left : ℕ → ℕ) (before after : List ℕ) → ((t : ℕ) → held t ≡ left t + fell t)

@@ -1,13 +1,11 @@
 -- The places of one range of keys among sorted ones.
 use Rattle.std.proofs.Common.{◌≡◌, ℕ, zero, suc, ◌+◌, ◌-◌, ◌<◌, ◌≤◌, Bool, true, false, cond, List, [], ◌∷◌, length, get_or, take, drop, ltb, refl, sym, ◌∙◌, ap, subst, arith}
-use Rattle.std.specs.List.{filter}
-use Rattle.std.specs.List.Sorted.{IsNonDecreasingBy, IsPartitionPoint}
+use Rattle.fr_store.specs.Common.{IsNonDecreasingBy, StoredPlace, filter, is_between, key_of}
+use Rattle.std.specs.List.Sorted.{IsPartitionPoint}
 use borrow.Author.Tests.{ltb-true, ltb-false}
 use Rattle.std.proofs.lemmas.Bool.Decides.{nat_tests}
 use Rattle.std.proofs.lemmas.Grind.{common_steps}
 use Rattle.std.proofs.lemmas.List.{take_rest, get_or_default, get_or-drop, length-drop}
-use Rattle.fr_store.specs.declared.turning.StoredPlace.{StoredPlace}
-use Rattle.fr_store.specs.Places.{is_between, key_of}
 use Rattle.fr_store.proofs.PairLaws.{filter_none}
 
 -- What the test says.
@@ -81,8 +79,7 @@ run_over from to places start i e up within high =
     let later : key_of (get_or places (start + i) d) ≤ key_of (get_or places (start + (i + j)) d)
     = up (start + i) (start + (i + j)) d (omega arith) inside in
     let there : to ≤ key_of (get_or places (start + (i + j)) d) = omega arith in
-    too_high from to (get_or (drop i (drop start places)) j d)
-    (subst (λ (p : StoredPlace). to ≤ key_of p) (sym at_j) there))
+    too_high from to (get_or (drop i (drop start places)) j d) (subst (λ (p : StoredPlace). to ≤ key_of p) (sym at_j) there))
 
 module _ (from to : ℕ) (places : List StoredPlace) (start : ℕ)
     (point : IsPartitionPoint (λ (p : StoredPlace). ltb (key_of p) from ≡ true)
@@ -99,8 +96,7 @@ module _ (from to : ℕ) (places : List StoredPlace) (start : ℕ)
       → to ≤ key_of (get_or ahead i e) → filter (is_between from to) (drop i ahead) ≡ []
   run_ends i e up within high =
       ap (λ (l : List StoredPlace). filter (is_between from to) (drop i l)) (take_rest places start)
-      ∙ run_over from to places start i e up
-      (subst (λ (l : List StoredPlace). i < length l) (take_rest places start) within)
+      ∙ run_over from to places start i e up (subst (λ (l : List StoredPlace). i < length l) (take_rest places start) within)
       (subst (λ (l : List StoredPlace). to ≤ key_of (get_or l i e)) (take_rest places start) high)
 
   -- until then each is in it
@@ -110,7 +106,6 @@ module _ (from to : ℕ) (places : List StoredPlace) (start : ℕ)
       let inside : i < length (drop start places) = subst (λ (l : List StoredPlace). i < length l) (take_rest places start) within in
       let at : get_or ahead i e ≡ get_or places (start + i) e
       = ap (λ (l : List StoredPlace). get_or l i e) (take_rest places start) ∙ get_or-drop start places i e in
-      let low : from ≤ key_of (get_or places (start + i) e)
-      = ltb-false (key_of (get_or places (start + i) e)) from
+      let low : from ≤ key_of (get_or places (start + i) e) = ltb-false (key_of (get_or places (start + i) e)) from
       (point.1 (start + i) e (omega arith) (omega (arith, length-drop start places))) in
       between_is from to (get_or ahead i e) (subst (λ (p : StoredPlace). from ≤ key_of p) (sym at) low) less

@@ -1,16 +1,9 @@
 -- Laws of the children of a set, for proofs: one of them goes, and a value comes behind the others unless it is there.
-use Rattle.std.proofs.Common.{◌≡◌, ◌≢◌, ℕ, zero, suc, Bool, true, false, ◌||◌, List, [], ◌∷◌, ◌++◌, refl, sym, ◌∙◌, ap, arith}
-use Rattle.std.specs.Prelude.{if◌then◌else◌}
+use Rattle.std.proofs.Common.{◌≡◌, ◌≢◌, ℕ, zero, suc, Bool, true, false, ◌||◌, List, [], ◌∷◌, ◌++◌, refl, sym, ◌∙◌, ap, arith, if◌then◌else◌}
+use Rattle.fr_store.specs.Common.{AllMarkedAmong, AreLeftAll, AreUnplaced, Cell, IsPlaced, ItemsKind, Kid, Kids, Place, StoredBut, Tracker, Trees, Val, and_last, as_items, at, branch, cell_of, cells_in, given, gone, kid, kid_nth, no_kids, put_nth, there, tree_of, trees_in, whole}
 use Rattle.fr_shape.specs.Same.{same}
-use Rattle.fr_shape.specs.Val.{Val}
-use Rattle.fr_model.specs.Collections.{and_item, has_same, is_set_form, without_nth}
-use Rattle.fr_model.specs.Places.{Place}
-use Rattle.fr_model.specs.Tree.{Form, as_set, whole, Trees, branch, and_last}
-use Rattle.fr_frame.specs.Bodies.{and_item_cell, has_same_cell, without_cell, AreUnplaced}
-use Rattle.fr_frame.specs.Cells.{Cell, given}
-use Rattle.fr_frame.specs.Kids.{Kid, gone, there, at, Kids, no_kids, kid, tree_of, trees_in, cell_of, cells_in, AreLeftAll}
-use Rattle.fr_store.specs.Places.{IsPlaced}
-use Rattle.fr_store.specs.Ways.{kid_nth, put_nth, AllMarkedAmong, StoredBut}
+use Rattle.fr_model.specs.Collections.{and_item, has_same, is_set_tracker, without_nth}
+use Rattle.fr_frame.specs.Bodies.{and_item_cell, has_same_cell, without_cell}
 use Rattle.fr_store.proofs.ItemLaws.{kids_and_last}
 use Rattle.fr_store.proofs.StayLaws.{none_below}
 
@@ -86,7 +79,7 @@ unplaced_item ks v closed = go (has_same_cell v (cells_in ks))
     go true = closed
     go false = unplaced_value ks v closed
 
-pub set_left : (i : ℕ) (ks : Kids) → AreUnplaced (cells_in ks) → AreLeftAll as_set i ks
+pub set_left : (i : ℕ) (ks : Kids) → AreUnplaced (cells_in ks) → AreLeftAll (as_items ItemsKind.Set) i ks
 set_left i no_kids closed = omega arith
 set_left i (kid gone ks) closed = (refl, tt, set_left (suc i) ks closed.1)
 set_left i (kid (there v) ks) closed = (refl, tt, set_left (suc i) ks closed.1)
@@ -94,7 +87,7 @@ set_left i (kid (at slot stored plot) ks) closed = absurd closed.0
 
 -- Of a set's items but the one on the way none is in a slot.
 
-among_unplaced : (i : ℕ) (ks : Kids) → AllMarkedAmong true ks → AreLeftAll as_set i ks → AreUnplaced (cells_in ks)
+among_unplaced : (i : ℕ) (ks : Kids) → AllMarkedAmong true ks → AreLeftAll (as_items ItemsKind.Set) i ks → AreUnplaced (cells_in ks)
 among_unplaced i no_kids marks left = tt
 among_unplaced i (kid gone ks) marks left = (tt, among_unplaced (suc i) ks marks.1 left.2)
 among_unplaced i (kid (there v) ks) marks left = (tt, among_unplaced (suc i) ks marks.1 left.2)
@@ -102,7 +95,7 @@ among_unplaced i (kid (at slot stored plot) ks) marks left =
     let apart : true ≡ false = sym marks.0.0 ∙ left.0 in
     absurd (cc)
 
-pub others_unplaced : (i first : ℕ) (Below : Kid → Type 0) (ks : Kids) → StoredBut i Below ks → AreLeftAll as_set first ks
+pub others_unplaced : (i first : ℕ) (Below : Kid → Type 0) (ks : Kids) → StoredBut i Below ks → AreLeftAll (as_items ItemsKind.Set) first ks
     → AreUnplaced (cells_in (put_nth i gone ks))
 others_unplaced i first Below no_kids but left = absurd but
 others_unplaced zero first Below (kid k ks) but left = (tt, among_unplaced (suc first) ks but.1 left.2)
@@ -112,9 +105,9 @@ others_unplaced (suc i) first Below (kid (at slot stored plot) ks) but left =
     let apart : true ≡ false = sym but.0.0 ∙ left.0 in
     absurd (cc)
 
-pub set_form : (form : Form) → is_set_form form ≡ true → form ≡ as_set
-set_form as_set of_set = refl
-set_form _ of_set = absurd (cc)
+pub set_tracker : (tracker : Tracker) → is_set_tracker tracker ≡ true → tracker ≡ as_items ItemsKind.Set
+set_tracker (as_items ItemsKind.Set) of_set = refl
+set_tracker _ of_set = absurd (cc)
 
 pub beside_unplaced : (i j : ℕ) (ks : Kids) (way : Place) → i ≢ j → AreUnplaced (cells_in (put_nth i gone ks))
     → IsPlaced (kid_nth j ks) way → ⊥

@@ -1,29 +1,12 @@
 -- A whole value at the top, or another place that has no child in a slot, after all that is stored beneath it was released.
 use Rattle.std.proofs.Common.{◌≡◌, ◌≢◌, ◌⊎◌, ℕ, zero, suc, ◌<◌, ◌+◌, ◌≤◌, true, false, List, [], ◌∷◌, ◌++◌, append-nil, length, nat_eq, Option, Some, inl, inr, refl, sym, ◌∙◌, ap, subst, arith}
-use Rattle.std.specs.Prelude.{is_some, IsSome, IsSomeAnd}
-use Rattle.fr_shape.specs.Released.{Room, RoseBy}
-use Rattle.fr_shape.specs.TokenLaws.{both, Room_same, Room_fewer, Room_risen, RoseBy_same, RoseBy_both}
-use Rattle.fr_model.specs.Places.{Place}
-use Rattle.fr_model.specs.Tree.{Tree, change_at, tree_occurs}
-use Rattle.fr_plan.specs.TypePlan.{Plan}
-use Rattle.fr_frame.specs.declared.places.Slot.{Slot}
-use Rattle.fr_frame.specs.Bodies.{body_occurs, IsClosed}
-use Rattle.fr_frame.specs.Changes.{IfInUse, IsInUse, Shows}
-use Rattle.fr_frame.specs.Heap.{Node, with_body, heap_of, slots_occur, marked, stored_in}
-use Rattle.fr_frame.specs.Kids.{Kid, at, Plot, Kids, cell_of, tree_of, tree_in, body_in, kid_occurs, plot_occurs, Holds, HoldsIn, AreLeftIn}
-use Rattle.fr_store.specs.HoldLaws.{AgreeBeside, Replaces}
-use Rattle.fr_store.specs.MoveLaws.{open_reach, open_top, top_slot, top_node, top_found, open_at_from}
-use Rattle.fr_store.specs.Moves.{IsOpenAt, cursor_in, tree_in_slots, tokens_here}
-use Rattle.fr_store.specs.Numbers.{IsLast}
-use Rattle.fr_store.specs.Prunes.{beneath, IsRooted, slotted_occur, pruned, IsPruned}
-use Rattle.fr_store.specs.LeftLaws.{at_for_at}
-use Rattle.fr_store.specs.StandLaws.{all_changed, kid_is, stands_change, AllServe}
-use Rattle.fr_store.specs.Stands.{Stands, IsOpen, kid_here, kid_shown}
-use Rattle.fr_store.specs.Staying.{StayPutButBeneath}
-use Rattle.fr_store.specs.Stored.{IsKept, StoresNoMore}
-use Rattle.fr_store.specs.TopLaws.{MayHaveIts, body_here, closed_holds, closed_marked, closed_uses, body_other, free_unused, top_uses, not_beside, top_held}
-use Rattle.fr_store.specs.Ways.{kid_at, put_at, slots_above, counts_if, uses, uses_in, uses_among, Leads, Reaches, node_along}
-use Rattle.fr_store.specs.WayLaws.{counts_same, same_or_other, leads_reach, uses_at, occurs_put_at, tree_put_at, tree_of_at, tree_tokens}
+use Rattle.fr_store.specs.Common.{AgreeBeside, AllServe, AreLeftIn, Holds, HoldsIn, IfInUse, IsClosed, IsInUse, IsKept, IsLast, IsOpen, IsOpenAt, IsPruned, IsRooted, IsSome, IsSomeAnd, Kid, Kids, Leads, MayHaveIts, Node, Place, Plan, Plot, Reaches, Replaces, Room, Room_fewer, Room_risen, Room_same, RoseBy, RoseBy_same, Shows, Slot, Stands, StayPutButBeneath, StoresNoMore, Tree, at, at_for_at, beneath, body_here, body_in, body_occurs, body_other, both, cell_of, change_at, closed_marked, closed_uses, counts_if, counts_same, cursor_in, heap_of, is_some, kid_at, kid_here, kid_is, kid_occurs, kid_shown, leads_reach, marked, node_along, occurs_put_at, open_at_from, open_reach, open_top, plot_occurs, pruned, put_at, same_or_other, slots_above, slots_occur, slotted_occur, stands_change, stored_in, tokens_here, top_found, top_held, top_slot, top_uses, tree_in, tree_in_slots, tree_of, tree_of_at, tree_put_at, uses, uses_among, uses_at, uses_in, with_body}
+use Rattle.fr_store.specs.MoveLaws.{top_node}
+use Rattle.fr_shape.specs.TokenLaws.{RoseBy_both}
+use Rattle.fr_model.specs.Tree.{tree_occurs}
+use Rattle.fr_store.specs.StandLaws.{all_changed}
+use Rattle.fr_store.specs.TopLaws.{closed_holds, free_unused, not_beside}
+use Rattle.fr_store.specs.WayLaws.{tree_tokens}
 use Rattle.fr_store.proofs.PruneLaws.{beneath_is, plot_tokens, pruned_tokens}
 use Rattle.fr_store.proofs.PruneSteps.{beneath_uses}
 use Rattle.fr_store.proofs.StayLaws.{stay_but_beneath}
@@ -43,17 +26,14 @@ module _ (plan : Plan) (slots : List Slot) (stack : List ℕ) (open_now : IsOpen
         here = top_found plan slots stack open_now n last;
         body = refl;
         limit = top.limit;
-        holds = subst
-            (λ (m : ℕ). HoldsIn plan (heap_of slots)
+        holds = subst (λ (m : ℕ). HoldsIn plan (heap_of slots)
             (node_along plan plan.root (cursor_in slots stack) (kid_shown (heap_of slots) stack)) m
             (suc (length (cursor_in slots stack))) top.plot) same top.children;
         once = λ m.
-            let here : counts_if (nat_eq top.slot m) ≡ counts_if (nat_eq n m)
-            = ap (λ (x : ℕ). counts_if (nat_eq x m)) same in
+            let here : counts_if (nat_eq top.slot m) ≡ counts_if (nat_eq n m) = ap (λ (x : ℕ). counts_if (nat_eq x m)) same in
             let all = top_uses plan (heap_of slots) stack (cursor_in slots stack) (kid_shown (heap_of slots) stack)
             open_now.stands top m in
-            omega
-            (arith, here, all, uses_at (cursor_in slots stack) (kid_shown (heap_of slots) stack) m, open_now.stands.once m);
+            omega (arith, here, all, uses_at (cursor_in slots stack) (kid_shown (heap_of slots) stack) m, open_now.stands.once m);
         stored = top.stored;
       }
 
@@ -65,10 +45,8 @@ module _ (plan : Plan) (slots : List Slot) (stack : List ℕ) (open_now : IsOpen
       let top = open_top plan slots stack open_now in
       sym (ap (λ (tree : Tree). tree_occurs tree t) (tree_of_at (cursor_in slots stack) (kid_shown (heap_of slots) stack)))
       ∙ sym (tree_tokens (kid_at (cursor_in slots stack) (kid_shown (heap_of slots) stack)) t)
-      ∙ ap (λ (x : Kid). kid_occurs x t) top.is
-      ∙ plot_tokens top.plot t
-      ∙ ap (λ (ks : Kids). slotted_occur ks t + body_occurs (body_in top.plot) t)
-      (sym (beneath_is (heap_of slots) n top_rooted))
+      ∙ ap (λ (x : Kid). kid_occurs x t) top.is ∙ plot_tokens top.plot t
+      ∙ ap (λ (ks : Kids). slotted_occur ks t + body_occurs (body_in top.plot) t) (sym (beneath_is (heap_of slots) n top_rooted))
 
   module _ (ledger : List ℕ) (room : Room (tokens_here slots stack) ledger) where
     both_room : Room
@@ -91,8 +69,7 @@ module _ (plan : Plan) (slots : List Slot) (stack : List ℕ) (open_now : IsOpen
           body = pruned (top_node plan slots stack open_now n last).body;
         })
     pruned_here =
-        is.here
-        ∙ body_here (heap_of slots) n pruned (top_node plan slots stack open_now n last)
+        is.here ∙ body_here (heap_of slots) n pruned (top_node plan slots stack open_now n last)
         (top_found plan slots stack open_now n last)
 
     pub pruned_in_use : IsInUse mid n
@@ -116,10 +93,8 @@ module _ (plan : Plan) (slots : List Slot) (stack : List ℕ) (open_now : IsOpen
         let so : RoseBy (body_occurs (pruned (top_node plan slots stack open_now n last).body)) now after
         = subst (λ (o : Option Node). IsSomeAnd o (λ (found : Node). RoseBy (body_occurs found.body) now after))
         pruned_here last_rose in
-        RoseBy_same
-        (both (slotted_occur (beneath (heap_of slots) n))
-        (body_occurs (pruned (top_node plan slots stack open_now n last).body)))
-        (tokens_here slots stack) ledger after
+        RoseBy_same (both (slotted_occur (beneath (heap_of slots) n))
+        (body_occurs (pruned (top_node plan slots stack open_now n last).body))) (tokens_here slots stack) ledger after
         (λ t. omega (arith, tokens_both t, pruned_tokens (top_node plan slots stack open_now n last).body t))
         (RoseBy_both (slotted_occur (beneath (heap_of slots) n))
         (body_occurs (pruned (top_node plan slots stack open_now n last).body)) ledger now after rose so)
@@ -129,11 +104,8 @@ module _ (plan : Plan) (slots : List Slot) (stack : List ℕ) (open_now : IsOpen
         (left : AreLeftIn new) (puts : Shows after (with_body (heap_of mid) n (λ old. body_in new))) where
       set_here : heap_of after n ≡ Some (record (top_node plan slots stack open_now n last) { body = body_in new })
       set_here =
-          puts n
-          ∙ body_here (heap_of mid) n (λ old. body_in new)
-          (record (top_node plan slots stack open_now n last) {
-            body = pruned (top_node plan slots stack open_now n last).body;
-          })
+          puts n ∙ body_here (heap_of mid) n (λ old. body_in new)
+          (record (top_node plan slots stack open_now n last) { body = pruned (top_node plan slots stack open_now n last).body })
           pruned_here
 
       set_other : (m : ℕ) → m ≢ n → heap_of after m ≡ heap_of mid m
@@ -168,12 +140,9 @@ module _ (plan : Plan) (slots : List Slot) (stack : List ℕ) (open_now : IsOpen
           = top_uses plan (heap_of slots) stack place k open_now.stands top in
           let longer : Stands plan (heap_of slots) stack (place ++ []) k
           = subst (λ (p : Place). Stands plan (heap_of slots) stack p k) (sym (append-nil place)) open_now.stands in
-          let agree : AgreeBeside (heap_of slots) (heap_of after) k (kid_at place k)
-          = λ m h.
-          let ne : m ≢ n
-          = λ e. not_beside plan (heap_of slots) stack place k open_now.stands top m h (e ∙ sym same) in
-          set_other m ne
-          ∙ is.rest m ne
+          let agree : AgreeBeside (heap_of slots) (heap_of after) k (kid_at place k) = λ m h.
+          let ne : m ≢ n = λ e. not_beside plan (heap_of slots) stack place k open_now.stands top m h (e ∙ sym same) in
+          set_other m ne ∙ is.rest m ne
           (omega (arith, beneath_uses (heap_of slots) n top_rooted m, all m, open_now.stands.once m)) in
           let replaces : Replaces plan (heap_of slots) (heap_of after) (kid_at place k) (at n false new)
           = λ node owner depth holds.
@@ -183,13 +152,10 @@ module _ (plan : Plan) (slots : List Slot) (stack : List ℕ) (open_now : IsOpen
             was.1,
             closed_holds plan (heap_of after) node n (suc depth) new may closed,
           ) in
-          let once : (m : ℕ) → uses k m + uses (at n false new) m ≤ 1 + uses (kid_at place k) m
-          = λ m.
+          let once : (m : ℕ) → uses k m + uses (at n false new) m ≤ 1 + uses (kid_at place k) m = λ m.
           let here : counts_if (nat_eq top.slot m) ≡ counts_if (nat_eq n m) = ap (λ (x : ℕ). counts_if (nat_eq x m)) same in
           omega (arith, open_now.stands.once m, all m, here, closed_uses new m closed) in
-          subst
-          (λ (p : Place). Stands plan (heap_of after) stack p (put_at place (at n false new) k))
-          (append-nil place)
+          subst (λ (p : Place). Stands plan (heap_of after) stack p (put_at place (at n false new) k)) (append-nil place)
           (stands_change plan (heap_of slots) (heap_of after) stack stack place [] [] (at n false new) k longer
           (sym (ap cell_of top.is ∙ ap (λ (x : ℕ). cell_of (at x false top.plot)) same)) agree replaces once
           (refl, closed_marked true new closed) (at_for_at (kid_at place k) top.slot n false top.plot new top.is) (λ h. left)
@@ -203,13 +169,11 @@ module _ (plan : Plan) (slots : List Slot) (stack : List ℕ) (open_now : IsOpen
           let top = open_top plan slots stack open_now in
           subst (λ (x : Kid). StayPutButBeneath place k x)
           (sym (kid_is plan (heap_of after) stack place (put_at place (at n false new) k) set_stands))
-          (stay_but_beneath place (at n false new) k n false false top.plot new
-          (open_reach plan slots stack open_now)
+          (stay_but_beneath place (at n false new) k n false false top.plot new (open_reach plan slots stack open_now)
           (top.is ∙ ap (λ (x : ℕ). at x false top.plot) (top_slot plan slots stack open_now n last)) refl)
 
       -- each slot in use is that of a place
-      set_all : AllServe (heap_of after)
-          (put_at (cursor_in slots stack) (at n false new) (kid_shown (heap_of slots) stack))
+      set_all : AllServe (heap_of after) (put_at (cursor_in slots stack) (at n false new) (kid_shown (heap_of slots) stack))
       unfolding top_node top_rooted
       set_all =
           let place : Place = cursor_in slots stack in
@@ -227,23 +191,17 @@ module _ (plan : Plan) (slots : List Slot) (stack : List ℕ) (open_now : IsOpen
               omega
               (arith, here, top_uses plan (heap_of slots) stack (cursor_in slots stack) (kid_shown (heap_of slots) stack) open_now.stands top m, beneath_uses (heap_of slots) n top_rooted m)
 
-          still : (m : ℕ) → m ≢ n → IsSome (heap_of mid m) → (count : ℕ)
-              → uses_among (beneath (heap_of slots) n) m ≡ count
+          still : (m : ℕ) → m ≢ n → IsSome (heap_of mid m) → (count : ℕ) → uses_among (beneath (heap_of slots) n) m ≡ count
               → IsSome (heap_of slots m) × (uses_among (beneath (heap_of slots) n) m ≡ 0)
           still m ne used zero e = (subst (λ (o : Option Node). IsSome o) (is.rest m ne e) used, e)
-          still m ne used (suc count) e =
-              absurd (free_unused (heap_of mid) m (is.free m (omega (arith, e))) used)
+          still m ne used (suc count) e = absurd (free_unused (heap_of mid) m (is.free m (omega (arith, e))) used)
 
-          from : (m : ℕ) → IsSome (heap_of after m)
-              → (0 < uses (at n false new) m)
-              ⊎ (IsSome (heap_of slots m)
+          from : (m : ℕ) → IsSome (heap_of after m) → (0 < uses (at n false new) m) ⊎ (IsSome (heap_of slots m)
               × (uses (kid_at (cursor_in slots stack) (kid_shown (heap_of slots) stack)) m ≤ uses (at n false new) m))
           from m used = go (same_or_other m n)
             where
-              go : (m ≡ n) ⊎ (m ≢ n) → (0 < uses (at n false new) m)
-                  ⊎ (IsSome (heap_of slots m)
-                  × (uses (kid_at (cursor_in slots stack) (kid_shown (heap_of slots) stack)) m
-                  ≤ uses (at n false new) m))
+              go : (m ≡ n) ⊎ (m ≢ n) → (0 < uses (at n false new) m) ⊎ (IsSome (heap_of slots m)
+                  × (uses (kid_at (cursor_in slots stack) (kid_shown (heap_of slots) stack)) m ≤ uses (at n false new) m))
               go (inl e) =
                   let one : counts_if (nat_eq n m) ≡ 1 = ap (λ (y : ℕ). counts_if (nat_eq n y)) e ∙ counts_same n in
                   inl (omega (arith, one))
@@ -254,24 +212,20 @@ module _ (plan : Plan) (slots : List Slot) (stack : List ℕ) (open_now : IsOpen
 
       pub set_open : ((t : ℕ) → slots_occur slots t ≡ slots_occur mid t + slotted_occur (beneath (heap_of slots) n) t)
           → IfInUse mid n (λ (found : Node). (t : ℕ) → slots_occur mid t + plot_occurs new t
-          ≡ slots_occur after t + body_occurs found.body t)
-          → IsOpenAt plan after stack (cursor_in slots stack)
+          ≡ slots_occur after t + body_occurs found.body t) → IsOpenAt plan after stack (cursor_in slots stack)
           (change_at (cursor_in slots stack) (λ old. tree_in new) (tree_in_slots slots stack))
       set_open fell put =
           let place : Place = cursor_in slots stack in
           let k : Kid = kid_shown (heap_of slots) stack in
           let so : (t : ℕ) → slots_occur mid t + plot_occurs new t
           ≡ slots_occur after t + body_occurs (pruned (top_node plan slots stack open_now n last).body) t
-          = subst
-          (λ (o : Option Node). IsSomeAnd o (λ (found : Node). (t : ℕ) → slots_occur mid t + plot_occurs new t
+          = subst (λ (o : Option Node). IsSomeAnd o (λ (found : Node). (t : ℕ) → slots_occur mid t + plot_occurs new t
           ≡ slots_occur after t + body_occurs found.body t)) pruned_here put in
           let reach : Reaches place k
           = leads_reach place [] k (subst (λ (p : Place). Leads p k) (sym (append-nil place)) open_now.stands.leads) in
           let here : (t : ℕ) → tokens_here slots stack t ≡ kid_occurs (kid_at place k) t
           = λ t. sym (ap (λ (tree : Tree). tree_occurs tree t) (tree_of_at place k)) ∙ sym (tree_tokens (kid_at place k) t) in
           open_at_from plan after stack place (put_at place (at n false new) k)
-          (change_at place (λ old. tree_in new) (tree_of k)) set_stands
-          (λ t.
-          omega
+          (change_at place (λ old. tree_in new) (tree_of k)) set_stands (λ t. omega
           (arith, occurs_put_at place (at n false new) k t reach, open_now.tokens t, fell t, so t, here t, tokens_both t, pruned_tokens (top_node plan slots stack open_now n last).body t))
           set_all (tree_put_at place (at n false new) k)

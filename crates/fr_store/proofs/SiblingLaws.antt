@@ -1,15 +1,8 @@
 -- The stored children of one place among sorted stored places.
 use Rattle.std.proofs.Common.{◌≡◌, ◌≢◌, ◌⊎◌, ℕ, suc, ◌+◌, ◌-◌, ◌<◌, ◌≤◌, true, false, List, [], ◌∷◌, ◌++◌, map, length, get_or, nat_eq, append_assoc, inl, inr, refl, sym, ◌∙◌, ap, subst, arith}
-use Rattle.std.specs.List.{All, Contains, filter}
-use Rattle.std.specs.List.Sorted.{IsNonDecreasingBy}
+use Rattle.fr_store.specs.Common.{All, AreAllStored, AreOnce, ComesEarlier, Contains, IsNarrow, IsNonDecreasingBy, IsPlaced, IsStoredChildOf, IsStoredHere, Kid, Leads, Pairs, Place, StoredPlace, at, begun_plot, counts_if, counts_same, filter, first_key, is_between, key_of, kid_at, order_below, same_or_other, slot_at, slot_of, slots_of, stored_here, uses}
 use Rattle.std.proofs.lemmas.List.Elements.{All-cons, All-append, All-contains, All-contains_itself, All-filter, All-head, All-map, All-tail, filter_passes, Contains-append_left, Contains-append_right}
-use Rattle.fr_model.specs.Places.{Place}
-use Rattle.fr_frame.specs.Kids.{Kid, at, begun_plot}
-use Rattle.fr_store.specs.declared.turning.StoredPlace.{StoredPlace}
-use Rattle.fr_store.specs.Numbers.{slot_of, slots_of}
-use Rattle.fr_store.specs.Places.{Pairs, AreAllStored, AreOnce, ComesEarlier, IsAfterBelow, IsNarrow, IsPlaced, IsStoredChildOf, IsStoredHere, child_of, first_key, is_between, key_of, order_below, slot_at, stored_here}
-use Rattle.fr_store.specs.Ways.{counts_if, kid_at, uses, Leads}
-use Rattle.fr_store.specs.WayLaws.{counts_same, same_or_other}
+use Rattle.fr_store.specs.Places.{IsAfterBelow, child_of}
 use Rattle.fr_store.proofs.EarlierLaws.{siblings}
 use Rattle.fr_store.proofs.PairLaws.{first_in, later_in, in_counted, in_filter, in_map, of_map, pairs_append, pairs_filter, pairs_map}
 use Rattle.fr_store.proofs.PlaceLaws.{open_unstored, placed_above, same_place, stored_or_open}
@@ -20,15 +13,15 @@ use Rattle.fr_store.proofs.StepLaws.{order_later, order_small, order_told}
 -- Where a child comes.
 
 told_below : (k : Kid) (i j : ℕ) → i < 4294967296 → j < 4294967296 → order_below i k ≡ order_below j k → i ≡ j
-told_below (at slot stored (begun_plot form kids)) i j a b e = order_told form i j a b e
+told_below (at slot stored (begun_plot tracker kids)) i j a b e = order_told tracker i j a b e
 told_below _ i j a b e = e
 
 later_below : (k : Kid) (i j : ℕ) → i < 4294967296 → j < 4294967296 → order_below j k < order_below i k → IsAfterBelow k i j
-later_below (at slot stored (begun_plot form kids)) i j a b less = order_later form i j a b less
+later_below (at slot stored (begun_plot tracker kids)) i j a b less = order_later tracker i j a b less
 later_below _ i j a b less = less
 
 small_below : (k : Kid) (i : ℕ) → i < 4294967296 → order_below i k < 4294967296
-small_below (at slot stored (begun_plot form kids)) i a = order_small form i a
+small_below (at slot stored (begun_plot tracker kids)) i a = order_small tracker i a
 small_below _ i a = a
 
 same_last : (p q : Place) (i j : ℕ) → p ++ i ∷ [] ≡ q ++ j ∷ [] → (p ≡ q) × (i ≡ j)
@@ -86,11 +79,9 @@ module _ (k : Kid) (cursor : Place) (once : (n : ℕ) → uses k n ≤ 1) (leads
           let above : first.0 ≡ child.0
           = its_parent x first.0 child.0 first.1 (placed_above child.0 (y.number ∷ []) k child.1.placed)
           (parents ∙ child.1.parent) in
-          let numbers : x.number ≡ y.number
-          = told_below (kid_at child.0 k) x.number y.number narrow_x.0 small.0
+          let numbers : x.number ≡ y.number = told_below (kid_at child.0 k) x.number y.number narrow_x.0 small.0
           (ap (λ (p : Place). order_below x.number (kid_at p k)) (sym above) ∙ sym first.1.order ∙ orders ∙ child.1.order) in
-          let slots : slot_of x ≡ slot_of y
-          = first.1.slot ∙ ap (λ (p : Place). slot_at k (p ++ x.number ∷ [])) above
+          let slots : slot_of x ≡ slot_of y = first.1.slot ∙ ap (λ (p : Place). slot_at k (p ++ x.number ∷ [])) above
           ∙ ap (λ (i : ℕ). slot_at k (child.0 ++ i ∷ [])) numbers ∙ sym child.1.slot in
           let one : counts_if (nat_eq (slot_of x) (slot_of y)) ≡ 1
           = ap (λ (n : ℕ). counts_if (nat_eq n (slot_of y))) slots ∙ counts_same (slot_of y) in
@@ -142,8 +133,7 @@ module _ (k : Kid) (cursor : Place) (once : (n : ℕ) → uses k n ≤ 1) (leads
       pub in_order : Pairs (ComesEarlier k) (children from to)
       in_order =
           pairs_map (λ (x y : StoredPlace). key_of x < key_of y) (ComesEarlier k) (child_of p)
-          (λ (x : StoredPlace). Contains places x × (is_between from to x ≡ true))
-          (λ x y one two less.
+          (λ (x : StoredPlace). Contains places x × (is_between from to x ≡ true)) (λ x y one two less.
           let first = (is_child x one).parent in
           let second = (is_child y two).parent in
           let narrow_x : IsNarrow x = All-contains IsNarrow places x stored.narrow one.0 in
@@ -185,14 +175,12 @@ module _ (k : Kid) (cursor : Place) (once : (n : ℕ) → uses k n ≤ 1) (leads
 
     listed : (from to i : ℕ) → IsPlaced k (p ++ i ∷ []) → IsStoredHere k (p ++ i ∷ [])
         → ((x : StoredPlace) → x.order < 4294967296 → x.parent ≡ slot_at k p → x.order ≡ order_below i (kid_at p k)
-        → (from ≤ key_of x) × (key_of x < to))
-        → Contains (children from to) (p ++ i ∷ [])
+        → (from ≤ key_of x) × (key_of x < to)) → Contains (children from to) (p ++ i ∷ [])
     listed from to i child is range =
         let x = among i child is in
         let small : IsNarrow x.0 = All-contains IsNarrow places x.0 stored.narrow x.1 in
         let keys = range x.0 small.1 x.2 x.4 in
-        subst (λ (j : ℕ). Contains (children from to) (p ++ j ∷ [])) x.3
-        (in_map (child_of p) (found from to) x.0
+        subst (λ (j : ℕ). Contains (children from to) (p ++ j ∷ [])) x.3 (in_map (child_of p) (found from to) x.0
         (in_filter (is_between from to) places x.0 x.1 (between_is from to x.0 keys.0 keys.1)))
 
     -- no child is open: these are all
@@ -248,8 +236,7 @@ module _ (k : Kid) (cursor : Place) (once : (n : ℕ) → uses k n ≤ 1) (leads
           let bound = order_j in
           go child.stored (same_or_other (order_below x.number (kid_at p k)) (order_below j (kid_at p k))) (omega arith)
         where
-          go : IsStoredHere k (child_of p x)
-              → (order_below x.number (kid_at p k) ≡ order_below j (kid_at p k))
+          go : IsStoredHere k (child_of p x) → (order_below x.number (kid_at p k) ≡ order_below j (kid_at p k))
               ⊎ (order_below x.number (kid_at p k) ≢ order_below j (kid_at p k))
               → order_below x.number (kid_at p k) ≤ order_below j (kid_at p k)
               → order_below x.number (kid_at p k) < order_below j (kid_at p k)
@@ -286,9 +273,7 @@ module _ (k : Kid) (cursor : Place) (once : (n : ℕ) → uses k n ≤ 1) (leads
           → All (ComesEarlier k (child_of p x)) ((p ++ j ∷ []) ∷ children middle (low + 4294967296))
       from_front x is =
           All-cons (ComesEarlier k (child_of p x)) (p ++ j ∷ []) (children middle (low + 4294967296))
-          (siblings k p x.number j (front_step x is))
-          (back_all (child_of p x)
-          (λ y other.
+          (siblings k p x.number j (front_step x is)) (back_all (child_of p x) (λ y other.
           let high = front_order x is in
           let less = back_order y other in
           siblings k p x.number y.number
@@ -356,8 +341,7 @@ module _ (k : Kid) (cursor : Place) (leads : Leads cursor k) (p : Place) where
       go (inl is) = is
       go (inr on) =
           let longer : cursor ≡ p ++ i ∷ on.0 = on.1 ∙ append_assoc p (i ∷ []) on.0 in
-          let no : false ≡ true
-          = sym (open_unstored p (i ∷ on.0) k (subst (λ (c : Place). Leads c k) longer leads)) ∙ st in
+          let no : false ≡ true = sym (open_unstored p (i ∷ on.0) k (subst (λ (c : Place). Leads c k) longer leads)) ∙ st in
           absurd (cc)
 
   -- nor has the last place on the stack
@@ -379,5 +363,4 @@ module _ (k : Kid) (cursor : Place) (leads : Leads cursor k) (p : Place) where
 
       go : IsStoredHere k (p ++ i ∷ []) ⊎ ((below : Place) × (cursor ≡ (p ++ i ∷ []) ++ below)) → IsStoredHere k (p ++ i ∷ [])
       go (inl is) = is
-      go (inr on) =
-          absurd (ne (sym (same p below on.0 (sym on_way ∙ on.1 ∙ append_assoc p (i ∷ []) on.0))))
+      go (inr on) = absurd (ne (sym (same p below on.0 (sym on_way ∙ on.1 ∙ append_assoc p (i ∷ []) on.0))))

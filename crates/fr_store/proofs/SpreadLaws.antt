@@ -1,11 +1,8 @@
 -- How the list of all places grows: each place is followed by its children.
 use Rattle.std.proofs.Common.{◌≡◌, ◌⊎◌, ℕ, List, [], ◌∷◌, ◌++◌, get_or, append_assoc, inl, inr, refl, sym, subst, arith}
-use Rattle.std.specs.List.{All, Contains}
+use Rattle.fr_store.specs.Common.{All, ComesEarlier, Contains, IsHere, IsPlaced, Kid, Pairs, Place}
 use Rattle.std.proofs.lemmas.List.{append-nil}
 use Rattle.std.proofs.lemmas.List.Elements.{All-nil, All-cons, All-head, All-append, All-contains, Contains-append_left, Contains-append_right, Contains-push, Contains-push_cases}
-use Rattle.fr_model.specs.Places.{Place}
-use Rattle.fr_frame.specs.Kids.{Kid}
-use Rattle.fr_store.specs.Places.{Pairs, IsHere, IsPlaced, ComesEarlier}
 use Rattle.fr_store.proofs.EarlierLaws.{children_earlier, root_earlier}
 use Rattle.fr_store.proofs.PairLaws.{all_right, first_in, pairs_append, pairs_cross, parts}
 use Rattle.fr_store.proofs.PlaceLaws.{placed_above}
@@ -46,8 +43,7 @@ spreads_root k here = record {
 
 -- the first one that waits
 pub p_placed : (k : Kid) (done rest : List Place) (p : Place) → IsSpreading k done (p ∷ rest) → IsPlaced k p
-p_placed k done rest p s =
-    All-head (IsPlaced k) p rest (all_right (IsPlaced k) done (p ∷ rest) s.placed)
+p_placed k done rest p s = All-head (IsPlaced k) p rest (all_right (IsPlaced k) done (p ∷ rest) s.placed)
 
 -- One place more.
 module _ (k : Kid) (done rest : List Place) (p : Place) (s : IsSpreading k done (p ∷ rest)) (added : List Place)
@@ -56,8 +52,7 @@ module _ (k : Kid) (done rest : List Place) (p : Place) (s : IsSpreading k done 
   listed = done ++ p ∷ rest
 
   before_p : All (λ q. ComesEarlier k q p) done
-  before_p i d h =
-      All-head (ComesEarlier k (get_or done i d)) p rest (pairs_cross (ComesEarlier k) done (p ∷ rest) s.order i d h)
+  before_p i d h = All-head (ComesEarlier k (get_or done i d)) p rest (pairs_cross (ComesEarlier k) done (p ∷ rest) s.order i d h)
 
   before_added : (q : Place) → ComesOf done q → All (ComesEarlier k q) added
   before_added q (inl e) i d h =
@@ -65,8 +60,7 @@ module _ (k : Kid) (done rest : List Place) (p : Place) (s : IsSpreading k done 
       subst (ComesEarlier k q) (sym child.1) (subst (λ (l : Place). ComesEarlier k l (p ++ child.0 ∷ [])) (sym e) (root_earlier k p child.0))
   before_added q (inr from) i d h =
       let child = are.each i d h in
-      subst (ComesEarlier k q) (sym child.1)
-      (subst (λ (l : Place). ComesEarlier k l (p ++ child.0 ∷ [])) (sym from.3)
+      subst (ComesEarlier k q) (sym child.1) (subst (λ (l : Place). ComesEarlier k l (p ++ child.0 ∷ [])) (sym from.3)
       (children_earlier k from.0 p from.1 child.0 (All-contains (λ q. ComesEarlier k q p) done from.0 before_p from.2)))
 
   children_more : (place : Place) (i : ℕ) → Contains (done ++ p ∷ []) place → IsPlaced k (place ++ i ∷ [])
@@ -76,19 +70,16 @@ module _ (k : Kid) (done rest : List Place) (p : Place) (s : IsSpreading k done 
       go : Contains done place ⊎ (p ≡ place) → Contains (listed ++ added) (place ++ i ∷ [])
       go (inl old) = Contains-append_left listed added (place ++ i ∷ []) (s.children place i old placed)
       go (inr e) =
-          Contains-append_right listed added (place ++ i ∷ [])
-          (subst (λ (q : Place). Contains added (q ++ i ∷ [])) e
+          Contains-append_right listed added (place ++ i ∷ []) (subst (λ (q : Place). Contains added (q ++ i ∷ [])) e
           (are.all i (subst (λ (q : Place). IsPlaced k (q ++ i ∷ [])) (sym e) placed)))
 
   comes_still : (q : Place) → ComesOf done q → ComesOf (done ++ p ∷ []) q
   comes_still q (inl e) = inl e
-  comes_still q (inr from) =
-      inr (from.0, from.1, Contains-append_left done (p ∷ []) from.0 from.2, from.3)
+  comes_still q (inr from) = inr (from.0, from.1, Contains-append_left done (p ∷ []) from.0 from.2, from.3)
 
   origin_more : All (ComesOf (done ++ p ∷ [])) (listed ++ added)
   origin_more =
-      All-append (ComesOf (done ++ p ∷ [])) listed added
-      (λ i d h. comes_still (get_or listed i d) (s.origin i d h))
+      All-append (ComesOf (done ++ p ∷ [])) listed added (λ i d h. comes_still (get_or listed i d) (s.origin i d h))
       (λ i d h. let child = are.each i d h in inr (p, child.0, Contains-push done p, child.1))
 
   pub spreads_on : IsSpreading k (done ++ p ∷ []) (rest ++ added)
@@ -111,13 +102,10 @@ reached k done s front [] at placed = subst (Contains done) (sym (append-nil fro
 reached k done s front (i ∷ back) at placed =
     let longer : (front ++ i ∷ []) ++ back ≡ front ++ i ∷ back = append_assoc front (i ∷ []) back in
     let placed_on : IsPlaced k ((front ++ i ∷ []) ++ back) = subst (IsPlaced k) (sym longer) placed in
-    subst (Contains done) longer
-    (reached k done s (front ++ i ∷ []) back
+    subst (Contains done) longer (reached k done s (front ++ i ∷ []) back
     (subst (λ (l : List Place). Contains l (front ++ i ∷ [])) (append-nil done)
-    (s.children front i at (placed_above (front ++ i ∷ []) back k placed_on)))
-    placed_on)
+    (s.children front i at (placed_above (front ++ i ∷ []) back k placed_on))) placed_on)
 
-pub all_reached : (k : Kid) (done : List Place) → IsSpreading k done [] → (place : Place) → IsPlaced k place
-    → Contains done place
+pub all_reached : (k : Kid) (done : List Place) → IsSpreading k done [] → (place : Place) → IsPlaced k place → Contains done place
 all_reached k done s place placed =
     reached k done s [] place (subst (λ (l : List Place). Contains l []) (append-nil done) s.root) placed

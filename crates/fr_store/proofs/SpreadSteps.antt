@@ -1,22 +1,10 @@
 -- The steps of the loop that writes down all stored places.
 use Rattle.std.proofs.Common.{◌≡◌, ◌≢◌, ◌⊎◌, ℕ, zero, suc, ◌+◌, ◌-◌, ◌<◌, ◌≤◌, List, [], ◌∷◌, ◌++◌, length, length-append, get_or, map, slice_get, take, append_assoc, Some, inl, inr, refl, sym, ◌∙◌, ap, subst, arith}
-use Rattle.std.specs.Prelude.{IsSomeAnd}
-use Rattle.std.specs.List.{Contains}
-use Rattle.std.specs.List.Sorted.{IsNonDecreasingBy}
+use Rattle.fr_store.specs.Common.{AreAllStored, Contains, HasOwner, IsKeyOf, IsNonDecreasingBy, IsOpen, IsPlaced, IsSomeAnd, IsSpread, IsStoredChildOf, Kid, Leads, Node, Place, Plan, Slot, SlotId, StoredPlace, cursor_shown, first_key, heap_of, key_of, kid_at, kid_shown, numbers, order_below, slot_at, slot_of, slots_along, slots_between, slots_of, uses}
 use Rattle.std.proofs.lemmas.List.{get_or-take, length-map, length-take-le}
 use Rattle.std.proofs.lemmas.List.Elements.{All-contains}
-use Rattle.fr_model.specs.Places.{Place}
-use Rattle.fr_plan.specs.TypePlan.{Plan}
-use Rattle.fr_frame.specs.declared.places.Slot.{Slot}
-use Rattle.fr_frame.specs.declared.places.SlotId.{SlotId}
-use Rattle.fr_frame.specs.Heap.{Node, heap_of}
-use Rattle.fr_frame.specs.Kids.{Kid}
-use Rattle.fr_store.specs.declared.turning.StoredPlace.{StoredPlace}
-use Rattle.fr_store.specs.Moves.{HasOwner}
-use Rattle.fr_store.specs.Numbers.{number_of, numbers, slot_of, slots_of}
-use Rattle.fr_store.specs.Places.{AreAllStored, IsKeyOf, IsPlaced, IsSpread, IsStoredChildOf, child_of, first_key, key_of, order_below, slot_at, slots_between}
-use Rattle.fr_store.specs.Stands.{IsOpen, cursor_shown, kid_shown}
-use Rattle.fr_store.specs.Ways.{kid_at, slots_along, uses, Leads}
+use Rattle.fr_store.specs.Numbers.{number_of}
+use Rattle.fr_store.specs.Places.{child_of}
 use Rattle.fr_store.proofs.PairLaws.{fits, in_map, of_map}
 use Rattle.fr_store.proofs.PlaceLaws.{along_long, along_nth, open_placed}
 use Rattle.fr_store.proofs.QueueLaws.{IsQueue, OpenAhead, ahead_now, all_written, few_written, head_within, open_next, queue_starts, stored_next}
@@ -125,8 +113,7 @@ module _ (plan : Plan) (slots : List Slot) (stack : List ℕ) (is_open : IsOpen 
           = ap (λ (l : Place). length l) way ∙ length-append (o.above ++ j ∷ []) below in
           let one : length (o.above ++ j ∷ []) ≡ length o.above + 1 = length-append o.above (j ∷ []) in
           let long = stack_long in
-          ap (λ (l : List ℕ). slice_get l (opened + 1)) same
-          ∙ get_there stack (opened + 1) 0 (omega (arith, o.number))
+          ap (λ (l : List ℕ). slice_get l (opened + 1)) same ∙ get_there stack (opened + 1) 0 (omega (arith, o.number))
           ∙ ap (λ (m : ℕ). Some m)
           (ap (λ (l : List ℕ). get_or l (opened + 1) 0) (is_open.stands.along ∙ ap (λ (c : Place). slots_along c k) way)
           ∙ along_nth (o.above ++ j ∷ []) below k (opened + 1) 0 (subst (λ (c : Place). Leads c k) way leads)
@@ -135,8 +122,7 @@ module _ (plan : Plan) (slots : List Slot) (stack : List ℕ) (is_open : IsOpen 
       next_placed : (o : OpenAhead k cursor s.queue.waiting head opened at) (j : ℕ) (below : Place) → o.below ≡ j ∷ below
           → IsPlaced k (o.above ++ j ∷ [])
       next_placed o j below e =
-          open_placed (o.above ++ j ∷ []) below k
-          (subst (λ (c : Place). Leads c k)
+          open_placed (o.above ++ j ∷ []) below k (subst (λ (c : Place). Leads c k)
           (o.on_way ∙ ap (λ (l : Place). o.above ++ l) e ∙ sym (append_assoc o.above (j ∷ []) below)) leads)
 
       pub open_owned : (n : ℕ) → slice_get (numbers on_stack) (opened + 1) ≡ Some n
@@ -150,8 +136,7 @@ module _ (plan : Plan) (slots : List Slot) (stack : List ℕ) (is_open : IsOpen 
               = ap (λ (l : Place). length l) o.on_way ∙ length-append o.above o.below in
               let none = ap (λ (l : Place). length l) e in
               let long = stack_long in
-              absurd
-              (get_past stack (opened + 1) n (omega (arith, o.number))
+              absurd (get_past stack (opened + 1) n (omega (arith, o.number))
               (ap (λ (l : List ℕ). slice_get l (opened + 1)) (sym same) ∙ told))
           go o (j ∷ below) e =
               let both : Some (slot_at k (o.above ++ j ∷ [])) ≡ Some n = sym (next_at o j below e) ∙ told in
@@ -165,21 +150,17 @@ module _ (plan : Plan) (slots : List Slot) (stack : List ℕ) (is_open : IsOpen 
           (none : length on_stack ≤ opened + 1 → middle ≡ first_key n + 4294967296) where
         slot_is : (o : OpenAhead k cursor s.queue.waiting head opened at) → n ≡ slot_at k o.above
         slot_is o =
-            read
-            ∙ ap (λ (l : List ℕ). get_or l opened 0) (is_open.stands.along ∙ ap (λ (c : Place). slots_along c k) o.on_way)
+            read ∙ ap (λ (l : List ℕ). get_or l opened 0) (is_open.stands.along ∙ ap (λ (c : Place). slots_along c k) o.on_way)
             ∙ along_nth o.above o.below k opened 0 (subst (λ (c : Place). Leads c k) o.on_way leads) o.number
 
-        open_then : IsQueue k cursor
-            ((take count order ++ slots_between (first_key n) middle places)
-            ++ slots_between middle (first_key n + 4294967296) places)
-            head (opened + 1)
+        open_then : IsQueue k cursor ((take count order ++ slots_between (first_key n) middle places)
+            ++ slots_between middle (first_key n + 4294967296) places) head (opened + 1)
             (length (take count order) + length (slots_between (first_key n) middle places))
         open_then =
             let o = ahead n middle in
             let long = stack_long in
             open_next k cursor once leads places stored sorted (take count order) head opened at s.queue n middle open_still now o
-            (slot_is o) (λ last. none (omega (arith, stack_same)))
-            (λ j below e.
+            (slot_is o) (λ last. none (omega (arith, stack_same))) (λ j below e.
             let told = child_key plan (heap_of slots) stack cursor k is_open.stands o.above j middle (next_placed o j below e)
             (key (slot_at k (o.above ++ j ∷ [])) (next_at o j below e)) in (
               told.0,
@@ -200,8 +181,7 @@ module _ (plan : Plan) (slots : List Slot) (stack : List ℕ) (is_open : IsOpen 
         open_step first last mid next mid_is first_is next_is last_is = record {
           queue =
               subst (λ (m : ℕ). IsQueue k cursor (take next last) head (opened + 1) m)
-              (ap (λ (m : ℕ). m + length (slots_between (first_key n) middle places)) written_long ∙ sym mid_is)
-              (subst
+              (ap (λ (m : ℕ). m + length (slots_between (first_key n) middle places)) written_long ∙ sym mid_is) (subst
               (λ (l : List ℕ). IsQueue k cursor l head (opened + 1)
               (length (take count order) + length (slots_between (first_key n) middle places)))
               (sym (last_is ∙ ap (λ (l : List ℕ). l ++ slots_between middle (first_key n + 4294967296) places) first_is))

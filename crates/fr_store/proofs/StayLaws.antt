@@ -1,21 +1,10 @@
 -- Laws of places that stay in their slots, for proofs: where what lies at one place is replaced, all beside it stays.
 use Rattle.std.proofs.Common.{◌≡◌, ◌≢◌, ◌⊎◌, ℕ, zero, suc, ◌<◌, Bool, List, [], ◌∷◌, ◌++◌, append-nil, inl, inr, refl, sym, ◌∙◌, ap, subst}
-use Rattle.fr_model.specs.Places.{Place}
-use Rattle.fr_plan.specs.TypePlan.{Plan}
-use Rattle.fr_frame.specs.declared.places.FrameOwner.{FrameOwner}
-use Rattle.fr_frame.specs.declared.places.Slot.{Slot}
-use Rattle.fr_frame.specs.Bodies.{IsClosed, IsUnplaced, AreUnplaced}
-use Rattle.fr_frame.specs.Changes.{Shows}
-use Rattle.fr_frame.specs.Heap.{heap_of}
-use Rattle.fr_frame.specs.Kids.{Kid, gone, there, at, Plot, entered_plot, whole_plot, begun_plot, Kids, no_kids, kid, cell_of, cells_in, body_in}
+use Rattle.fr_store.specs.Common.{AllStayPut, AreUnplaced, FrameOwner, IsClosed, IsHere, IsOpen, IsPlaced, IsUnplaced, Kid, Kids, Place, Plan, Plot, Reaches, Shows, Slot, Stands, StayPutBut, StayPutButBeneath, at, begun_plot, body_in, cell_of, cells_in, cursor_shown, entered_plot, gone, heap_of, kid, kid_at, kid_here, kid_is, kid_nth, no_kids, nth_put, put_at, put_nth, same_or_other, slot_at, slot_here, there, whole_plot}
 use Rattle.fr_store.specs.HoldLaws.{holds_frame}
 use Rattle.fr_store.specs.OffLaws.{nth_other}
-use Rattle.fr_store.specs.Places.{slot_at, slot_here, IsHere, IsPlaced}
-use Rattle.fr_store.specs.StandLaws.{kid_is}
-use Rattle.fr_store.specs.Stands.{Stands, IsOpen, cursor_shown, kid_here}
-use Rattle.fr_store.specs.Staying.{StaysPut, AllStayPut, StayPutBut, StayPutButBeneath}
-use Rattle.fr_store.specs.Ways.{kid_nth, kid_at, put_nth, put_at, Reaches}
-use Rattle.fr_store.specs.WayLaws.{count_put, nth_put, same_or_other}
+use Rattle.fr_store.specs.Staying.{StaysPut}
+use Rattle.fr_store.specs.WayLaws.{count_put}
 
 pub stay_same : (k : Kid) → AllStayPut k k
 stay_same k place placed = (placed, refl)
@@ -24,9 +13,9 @@ stay_same k place placed = (placed, refl)
 pub stay_at : (part : Place) (new k : Kid) → Reaches part k → (place : Place)
     → ((rest : Place) → place ≡ part ++ rest → StaysPut (kid_at part k) new rest) → StaysPut k (put_at part new k) place
 stay_at [] new k reach place within = within place refl
-stay_at (i ∷ part) new (at slot stored (begun_plot form kids)) reach [] within =
+stay_at (i ∷ part) new (at slot stored (begun_plot tracker kids)) reach [] within =
     λ placed. (record { reaches = tt; here = tt }, refl)
-stay_at (i ∷ part) new (at slot stored (begun_plot form kids)) reach (j ∷ place) within =
+stay_at (i ∷ part) new (at slot stored (begun_plot tracker kids)) reach (j ∷ place) within =
     λ placed. go placed (same_or_other i j) (λ e. stay_at part new (kid_nth i kids) reach.1 place (beneath e))
   where
     child : Kid
@@ -36,12 +25,11 @@ stay_at (i ∷ part) new (at slot stored (begun_plot form kids)) reach (j ∷ pl
     beneath e rest is = within rest (ap (λ (m : ℕ). m ∷ place) (sym e) ∙ ap (λ (p : Place). i ∷ p) is)
 
     -- what is there of child j
-    from : (x : Kid) → kid_nth j (put_nth i child kids) ≡ x
-        → IsPlaced (at slot stored (begun_plot form kids)) (j ∷ place)
+    from : (x : Kid) → kid_nth j (put_nth i child kids) ≡ x → IsPlaced (at slot stored (begun_plot tracker kids)) (j ∷ place)
         → IsPlaced x place × (slot_at x place ≡ slot_at (kid_nth j kids) place)
-        → IsPlaced (at slot stored (begun_plot form (put_nth i child kids))) (j ∷ place)
-        × (slot_at (at slot stored (begun_plot form (put_nth i child kids))) (j ∷ place)
-        ≡ slot_at (at slot stored (begun_plot form kids)) (j ∷ place))
+        → IsPlaced (at slot stored (begun_plot tracker (put_nth i child kids))) (j ∷ place)
+        × (slot_at (at slot stored (begun_plot tracker (put_nth i child kids))) (j ∷ place)
+        ≡ slot_at (at slot stored (begun_plot tracker kids)) (j ∷ place))
     from x is placed stays = (
       record {
         reaches = (
@@ -53,14 +41,13 @@ stay_at (i ∷ part) new (at slot stored (begun_plot form kids)) reach (j ∷ pl
       ap (λ (y : Kid). slot_here (kid_at place y)) is ∙ stays.1,
     )
 
-    go : IsPlaced (at slot stored (begun_plot form kids)) (j ∷ place) → (i ≡ j) ⊎ (i ≢ j)
+    go : IsPlaced (at slot stored (begun_plot tracker kids)) (j ∷ place) → (i ≡ j) ⊎ (i ≢ j)
         → (i ≡ j → StaysPut (kid_nth i kids) child place)
-        → IsPlaced (at slot stored (begun_plot form (put_nth i child kids))) (j ∷ place)
-        × (slot_at (at slot stored (begun_plot form (put_nth i child kids))) (j ∷ place)
-        ≡ slot_at (at slot stored (begun_plot form kids)) (j ∷ place))
+        → IsPlaced (at slot stored (begun_plot tracker (put_nth i child kids))) (j ∷ place)
+        × (slot_at (at slot stored (begun_plot tracker (put_nth i child kids))) (j ∷ place)
+        ≡ slot_at (at slot stored (begun_plot tracker kids)) (j ∷ place))
     go placed (inl e) rest =
-        let below : IsPlaced (kid_nth i kids) place
-        = subst (λ (m : ℕ). IsPlaced (kid_nth m kids) place) (sym e)
+        let below : IsPlaced (kid_nth i kids) place = subst (λ (m : ℕ). IsPlaced (kid_nth m kids) place) (sym e)
         (record { reaches = placed.reaches.1; here = placed.here }) in
         let stays = rest e below in
         let now : kid_nth j (put_nth i child kids) ≡ child
@@ -110,13 +97,12 @@ none_below (suc i) (kid (at slot stored plot) ks) place closed placed = absurd c
 
 pub closed_below : (old : Kid) (slot : ℕ) (stored : Bool) (plot : Plot) → old ≡ at slot stored plot → IsClosed (body_in plot)
     → (i : ℕ) (place : Place) → IsPlaced old (i ∷ place) → ⊥
-closed_below old slot stored plot e closed i place placed =
-    go plot closed (subst (λ (x : Kid). IsPlaced x (i ∷ place)) e placed)
+closed_below old slot stored plot e closed i place placed = go plot closed (subst (λ (x : Kid). IsPlaced x (i ∷ place)) e placed)
   where
     go : (plot : Plot) → IsClosed (body_in plot) → IsPlaced (at slot stored plot) (i ∷ place) → ⊥
     go entered_plot closed placed = placed.reaches
     go (whole_plot v) closed placed = placed.reaches
-    go (begun_plot form kids) closed placed =
+    go (begun_plot tracker kids) closed placed =
         none_below i kids place closed (record { reaches = placed.reaches.1; here = placed.here })
 
 -- Something else at one place.
@@ -124,8 +110,7 @@ closed_below old slot stored plot e closed i place placed =
 -- that was none of whose children lay in a slot, and is in none itself: each place but it stays
 pub stay_but : (part : Place) (new k : Kid) (slot : ℕ) (stored : Bool) (plot : Plot) → Reaches part k
     → kid_at part k ≡ at slot stored plot → IsClosed (body_in plot) → StayPutBut part k (put_at part new k)
-stay_but part new k slot stored plot reach is closed place ne =
-    stay_at part new k reach place (λ rest e. go rest e)
+stay_but part new k slot stored plot reach is closed place ne = stay_at part new k reach place (λ rest e. go rest e)
   where
     go : (rest : Place) → place ≡ part ++ rest → StaysPut (kid_at part k) new rest
     go [] e placed = absurd (ne (e ∙ append-nil part))
@@ -164,5 +149,4 @@ stay_refused plan before after stack open_now shows =
       leads = open_now.stands.leads;
       along = open_now.stands.along;
       left = open_now.stands.left;
-    })
-    (stay_same (kid_here before stack))
+    }) (stay_same (kid_here before stack))

@@ -1,51 +1,35 @@
 -- What the slots say of stored places: where they belong.
 use Rattle.std.proofs.Common.{◌≡◌, ◌↔◌, ℕ, ◌+◌, ◌-◌, ◌<◌, ◌≤◌, true, false, List, [], ◌∷◌, ◌++◌, length, get_or, nat_eq, Some, None, Option, IsSome, refl, sym, ◌∙◌, ap, subst, arith}
-use Rattle.std.specs.List.{All, Contains, sum_by}
+use Rattle.fr_store.specs.Common.{All, AreAllStored, AreOnce, BelongsTo, Contains, FrameOwner, HasOwner, Heap, Holds, IsHere, IsKeyOf, IsNarrow, IsNoted, IsPlaced, IsSomeAnd, IsStoredChildOf, IsStoredHere, Kid, Node, NodeId, Place, Plan, Reaches, Stands, StoredPlace, at, begun_plot, below_root, child_owner, counts_if, counts_in, first_key, gone, holds_at, kid_at, marked, node_along, order_below, owner_along, owner_append, owner_below, slot_at, slot_here, slot_of, slots_of, stored_in, there, uses}
+use Rattle.std.specs.List.{sum_by}
 use Rattle.std.specs.List.Sorted.{IsPermutation}
-use Rattle.std.specs.Prelude.{IsSomeAnd}
 use Rattle.std.proofs.lemmas.List.Elements.{Contains-get_or}
 use Rattle.std.proofs.lemmas.List.Sorted.{All-permutation, Contains-permutation, IsPermutation-map, sum_by-IsPermutation}
 use Rattle.std.proofs.lemmas.List.Sums.{sum_by-cons}
-use Rattle.fr_model.specs.Places.{Place}
-use Rattle.fr_plan.specs.declared.nodes.NodeId.{NodeId}
-use Rattle.fr_plan.specs.TypePlan.{Plan}
-use Rattle.fr_frame.specs.declared.places.FrameOwner.{FrameOwner}
-use Rattle.fr_frame.specs.Heap.{Node, Heap, marked, stored_in}
-use Rattle.fr_frame.specs.Kids.{Kid, gone, there, at, begun_plot, Holds, child_owner}
-use Rattle.fr_store.specs.declared.turning.StoredPlace.{StoredPlace}
-use Rattle.fr_store.specs.HoldLaws.{holds_at}
-use Rattle.fr_store.specs.LeaveLaws.{below_root, owner_append}
-use Rattle.fr_store.specs.Moves.{HasOwner}
-use Rattle.fr_store.specs.Numbers.{slot_of, slots_of}
-use Rattle.fr_store.specs.Places.{counts_in, AreOnce, AreAllStored, BelongsTo, IsHere, IsKeyOf, IsNarrow, IsNoted, IsPlaced, IsStoredChildOf, IsStoredHere, first_key, order_at, order_below, slot_at, slot_here}
-use Rattle.fr_store.specs.Stands.{Stands}
-use Rattle.fr_store.specs.Ways.{counts_if, kid_at, node_along, owner_along, owner_below, uses, Reaches}
+use Rattle.fr_store.specs.Places.{order_at}
 use Rattle.fr_store.proofs.PairLaws.{in_map}
 use Rattle.fr_store.proofs.PlaceLaws.{mark_at, open_unstored, place_of, placed_above, placed_child}
 
 -- The owner of a child.
 
 owner_over : (owner : FrameOwner) (i : ℕ) (k : Kid) → Reaches (i ∷ []) k → owner_below owner i k ≡ child_owner (slot_here k) i
-owner_over owner i (at slot stored (begun_plot form kids)) reach = refl
+owner_over owner i (at slot stored (begun_plot tracker kids)) reach = refl
 owner_over owner i _ reach = absurd reach
 
 -- and where it comes among the children there
 order_over : (plan : Plan) (heap : Heap) (node : NodeId) (owner : FrameOwner) (depth i : ℕ) (k : Kid)
     → Holds plan heap node owner depth k → IsHere k → order_at (heap (slot_here k)) i ≡ order_below i k
-order_over plan heap node owner depth i gone holds here = absurd here
-order_over plan heap node owner depth i (there v) holds here = absurd here
 order_over plan heap node owner depth i (at slot stored plot) holds here = ap (λ (x : Option Node). order_at x i) holds.0
+order_over plan heap node owner depth i _ holds here = absurd here
 
 found_in : (plan : Plan) (heap : Heap) (node : NodeId) (owner : FrameOwner) (depth : ℕ) (k : Kid)
-    → Holds plan heap node owner depth k → IsHere k
-    → (found : Node) × (heap (slot_here k) ≡ Some found) × (found.owner ≡ owner)
-found_in plan heap node owner depth gone holds here = absurd here
-found_in plan heap node owner depth (there v) holds here = absurd here
+    → Holds plan heap node owner depth k → IsHere k → (found : Node) × (heap (slot_here k) ≡ Some found) × (found.owner ≡ owner)
 found_in plan heap node owner depth (at slot stored plot) holds here = (
   record { node = node; owner = owner; stored = stored; depth = depth; body = _ },
   holds.0,
   refl,
 )
+found_in plan heap node owner depth _ holds here = absurd here
 
 module _ (plan : Plan) (heap : Heap) (stack : List ℕ) (cursor : Place) (k : Kid) (stands : Stands plan heap stack cursor k) where
   -- what is found in the slot of a child
@@ -83,8 +67,7 @@ module _ (plan : Plan) (heap : Heap) (stack : List ℕ) (cursor : Place) (k : Ki
       let told = child_found above i placed in
       let here : IsKeyOf heap key told.0.owner
       = subst (λ (x : Option Node). IsSomeAnd x (λ (found : Node). IsKeyOf heap key found.owner)) told.1 is in
-      let by : IsKeyOf heap key (child_owner (slot_at k above) i)
-      = subst (λ (o : FrameOwner). IsKeyOf heap key o) told.2 here in
+      let by : IsKeyOf heap key (child_owner (slot_at k above) i) = subst (λ (o : FrameOwner). IsKeyOf heap key o) told.2 here in
       (by.0, by.1 ∙ ap (λ (n : ℕ). first_key (slot_at k above) + (4294967295 - n)) (child_order above i placed))
 
   -- where it belongs
@@ -132,8 +115,7 @@ module _ (plan : Plan) (heap : Heap) (stack : List ℕ) (cursor : Place) (k : Ki
     pub stored_owned : (n : ℕ) → marked heap n ≡ true → IsSomeAnd (heap n) (λ (found : Node). HasOwner found.owner)
     stored_owned n is =
         let lies = stored_place n is in
-        subst (λ (m : ℕ). IsSomeAnd (heap m) (λ (found : Node). HasOwner found.owner)) lies.4
-        (child_owned lies.0 lies.1 lies.2)
+        subst (λ (m : ℕ). IsSomeAnd (heap m) (λ (found : Node). HasOwner found.owner)) lies.4 (child_owned lies.0 lies.1 lies.2)
 
     -- what is noted of it is so
     noted_child : (place : StoredPlace) → marked heap (slot_of place) ≡ true → IsNoted heap place
@@ -165,8 +147,7 @@ module _ (plan : Plan) (heap : Heap) (stack : List ℕ) (cursor : Place) (k : Ki
         (notes : All (IsNoted heap) noted) (narrow : All IsNarrow noted) (moved : IsPermutation noted sorted) where
       is_marked : (place : StoredPlace) → Contains noted place → marked heap (slot_of place) ≡ true
       is_marked place among =
-          (kept (slot_of place)).1
-          (subst (λ (l : List ℕ). Contains l (slot_of place)) same (in_map slot_of noted place among))
+          (kept (slot_of place)).1 (subst (λ (l : List ℕ). Contains l (slot_of place)) same (in_map slot_of noted place among))
 
       pub are_all_stored : AreAllStored k sorted
       are_all_stored = record {
@@ -178,10 +159,7 @@ module _ (plan : Plan) (heap : Heap) (stack : List ℕ) (cursor : Place) (k : Ki
             let before : counts_in n (slots_of noted) ≤ 1 = subst (λ (l : List ℕ). counts_in n l ≤ 1) (sym same) (once n) in
             omega
             (arith, counted_by n noted, counted_by n sorted, sum_by-IsPermutation (λ (p : StoredPlace). counts_if (nat_eq (slot_of p) n)) noted sorted moved);
-        all = λ place placed stored.
-            Contains-permutation (slots_of noted) (slots_of sorted) (slot_at k place)
-            (IsPermutation-map slot_of noted sorted moved)
-            (subst (λ (l : List ℕ). Contains l (slot_at k place)) (sym same)
-            ((kept (slot_at k place)).0
-            (mark_at plan heap plan.root FrameOwner.Root 0 place k stands.holds placed ∙ stored)));
+        all = λ place placed stored. Contains-permutation (slots_of noted) (slots_of sorted) (slot_at k place)
+            (IsPermutation-map slot_of noted sorted moved) (subst (λ (l : List ℕ). Contains l (slot_at k place)) (sym same)
+            ((kept (slot_at k place)).0 (mark_at plan heap plan.root FrameOwner.Root 0 place k stands.holds placed ∙ stored)));
       }

@@ -1,21 +1,10 @@
 -- Tokens and values of one place among all slots.
 use Rattle.std.proofs.Common.{◌≡◌, ℕ, zero, suc, ◌≤◌, List, [], ◌∷◌, Option, Some, None, sym, ◌∙◌, ap, subst, arith}
-use Rattle.std.specs.Prelude.{IsSome, IsSomeAnd, is_some}
-use Rattle.fr_shape.specs.Hooks.{Meanings}
-use Rattle.fr_shape.specs.Look.{Table}
-use Rattle.fr_shape.specs.Released.{Conserved, Room}
-use Rattle.fr_shape.specs.TokenLaws.{Room_fewer, Room_same}
-use Rattle.fr_model.specs.Places.{deferred_column}
-use Rattle.fr_plan.specs.TypePlan.{Plan}
-use Rattle.fr_frame.specs.declared.places.Slot.{Slot}
-use Rattle.fr_frame.specs.Bodies.{body_occurs, value_of}
-use Rattle.fr_frame.specs.Changes.{IfInUse, SameTokens}
+use Rattle.fr_store.specs.Common.{Conserved, IfInUse, IsOpen, IsSome, IsSomeAnd, Meanings, Node, Plan, Room, Room_fewer, Room_same, SameTokens, Slot, Table, body_occurs, deferred_column, heap_of, is_some, slots_occur, tokens_in, value_of}
 use Rattle.fr_frame.specs.Closed.{IsClosedAt}
 use Rattle.fr_frame.specs.Completing.{FillsAt}
-use Rattle.fr_frame.specs.Heap.{Node, heap_of, node_of, slots_occur}
+use Rattle.fr_frame.specs.Heap.{node_of}
 use Rattle.fr_store.specs.MoveLaws.{slots_tokens}
-use Rattle.fr_store.specs.Moves.{tokens_in}
-use Rattle.fr_store.specs.Stands.{IsOpen}
 use Rattle.fr_store.specs.TopLaws.{slot_here}
 use Rattle.fr_store.proofs.ReleasedLaws.{room_left}
 
@@ -25,13 +14,11 @@ pub held_in : (slots : List Slot) (n : ℕ) (found : Node) (t : ℕ) → heap_of
 held_in [] n found t is = absurd (cc)
 held_in (Slot.Used place ∷ slots) zero found t is =
     let same : node_of place ≡ found = cc in
-    let own : body_occurs (node_of place).body t ≡ body_occurs found.body t
-    = ap (λ (x : Node). body_occurs x.body t) same in
+    let own : body_occurs (node_of place).body t ≡ body_occurs found.body t = ap (λ (x : Node). body_occurs x.body t) same in
     omega (arith, own)
 held_in (Slot.List place items ∷ slots) zero found t is =
     let same : node_of place ≡ found = cc in
-    let own : body_occurs (node_of place).body t ≡ body_occurs found.body t
-    = ap (λ (x : Node). body_occurs x.body t) same in
+    let own : body_occurs (node_of place).body t ≡ body_occurs found.body t = ap (λ (x : Node). body_occurs x.body t) same in
     omega (arith, own)
 held_in (slot ∷ slots) (suc n) found t is = let rest = held_in slots n found t is in omega (arith, rest)
 held_in _ zero found t is = absurd (cc)
@@ -44,15 +31,13 @@ found_room slots n ledger found is room =
     (Room_fewer (body_occurs found.body) (slots_occur slots) ledger (λ t. held_in slots n found t is) room)
 
 pub closed_room : (plan : Plan) (before first : List Slot) (stack : List ℕ) (n : ℕ) (ledger now : List ℕ) → IsOpen plan before stack
-    → Room (tokens_in before stack) ledger → SameTokens before first → now ≡ ledger
-    → IfInUse before n (IsClosedAt before first n)
+    → Room (tokens_in before stack) ledger → SameTokens before first → now ≡ ledger → IfInUse before n (IsClosedAt before first n)
     → IfInUse first n (λ (x : Node). Room (body_occurs x.body) now)
 closed_room plan before first stack n ledger now open_now room tokens same closed = go (heap_of before n) closed
   where
     all : Room (slots_occur first) now
     all =
-        subst (Room (slots_occur first)) (sym same)
-        (Room_same (tokens_in before stack) (slots_occur first) ledger
+        subst (Room (slots_occur first)) (sym same) (Room_same (tokens_in before stack) (slots_occur first) ledger
         (λ t. omega (arith, tokens t, slots_tokens plan before stack open_now t)) room)
 
     go : (found : Option Node) → IsSomeAnd found (IsClosedAt before first n)
@@ -81,6 +66,5 @@ filled_valued means table plan before first n fills = go (heap_of before n) fill
         → IfInUse first n (λ (x : Node). IsSome (value_of x.body))
     go (Some at) is =
         subst (λ (o : Option Node). IsSomeAnd o (λ (x : Node). IsSome (value_of x.body)))
-        (sym (is.becomes n ∙ slot_here (heap_of before) n (Some (record at { body = is.body }))))
-        (ap is_some is.filled.held)
+        (sym (is.becomes n ∙ slot_here (heap_of before) n (Some (record at { body = is.body })))) (ap is_some is.filled.held)
     go None is = absurd is

@@ -1,22 +1,13 @@
 -- From the list of all stored places to the walk.
 use Rattle.std.proofs.Common.{◌≡◌, ℕ, true, Bool, List, [], ◌∷◌, map, reverse, sym, ◌∙◌, ap, subst}
-use Rattle.std.specs.List.{All}
+use Rattle.fr_store.specs.Common.{All, AreStoredAt, ComesEarlier, Heap, IsHere, IsPlaced, IsSpread, IsStoredHere, IsWalk, Kid, Place, Plan, Plot, Stands, at, gone, kid_at, slot_at, slot_here, stored_here, there}
 use Rattle.std.proofs.lemmas.List.Elements.{All-head, All-tail}
-use Rattle.fr_model.specs.Places.{Place}
-use Rattle.fr_plan.specs.TypePlan.{Plan}
-use Rattle.fr_frame.specs.Heap.{Heap}
-use Rattle.fr_frame.specs.Kids.{Kid, gone, there, at, Plot}
-use Rattle.fr_store.specs.Places.{ComesEarlier, IsHere, IsPlaced, IsSpread, IsStoredHere, slot_at, slot_here, stored_here}
-use Rattle.fr_store.specs.Stands.{Stands}
-use Rattle.fr_store.specs.Walks.{AreStoredAt, IsWalk}
-use Rattle.fr_store.specs.Ways.{kid_at}
 use Rattle.fr_store.proofs.EarlierLaws.{in_walk_order}
 use Rattle.fr_store.proofs.PairLaws.{all_reverse, in_reverse, map_reverse, pairs_reverse}
 
 stored_plot : (k : Kid) → IsHere k → stored_here k ≡ true → (plot : Plot) × (k ≡ at (slot_here k) true plot)
-stored_plot gone here is = absurd here
-stored_plot (there v) here is = absurd here
 stored_plot (at slot stored plot) here is = (plot, ap (λ (mark : Bool). at slot mark plot) is)
+stored_plot _ here is = absurd here
 
 stored_list : (k : Kid) (places : List Place) → All (IsPlaced k) places → All (λ p. stored_here (kid_at p k) ≡ true) places
     → AreStoredAt k (map (slot_at k) places) places
@@ -42,7 +33,6 @@ walk_of plan heap stack cursor k stands slots s = record {
   order =
       in_walk_order plan heap stack cursor k stands (reverse s.places) (all_reverse (IsPlaced k) s.places s.placed)
       (pairs_reverse (ComesEarlier k) s.places s.order);
-  all = λ slot place st.
-      in_reverse s.places place
+  all = λ slot place st. in_reverse s.places place
       (s.all place (record { reaches = st.reaches; here = subst IsHere (sym st.is) tt }) (ap stored_here st.is));
 }

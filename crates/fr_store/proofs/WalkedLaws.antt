@@ -1,35 +1,13 @@
 -- Laws of a walk, for proofs: it begins, goes on by a turn, is refused, or comes to its end.
 use Rattle.std.proofs.Common.{◌≡◌, ◌⊎◌, ℕ, true, List, [], ◌∷◌, ◌++◌, append-nil, append_assoc, get_or, Some, None, inl, inr, refl, sym, ◌∙◌, ap, subst, arith}
-use Rattle.std.specs.List.{All, Contains}
+use Rattle.fr_store.specs.Common.{All, AreInWalkOrder, AreStoredAt, Contains, EachFailureHasItsPlace, Failure, FinishesOrRefuses, FirstByWalkIs, HasPlace, HasTurned, IsChecked, IsHeldUp, IsLackingAt, IsOpen, IsStoredAt, IsWalk, KeepsTheRest, Kid, LackingFails, Leads, MayTurn, Meanings, Place, Plan, ReflectErrorKind, Slot, StoppedByTurns, Suits, Table, Tree, Val, Walked, change_at, closed_at, cursor_in, deferred_column, failures_off, finished, first_by_walk, kind_of, leads_reach, own_lack, put_at, reach_place, root_shape, shape_in, steps_in, there, tree_at, tree_in_slots, whole}
 use Rattle.std.proofs.lemmas.List.Elements.{All-tail, Contains-get_or}
-use Rattle.fr_shape.specs.declared.error.ReflectErrorKind.{ReflectErrorKind}
-use Rattle.fr_shape.specs.Checked.{IsChecked}
-use Rattle.fr_shape.specs.Hooks.{Meanings}
-use Rattle.fr_shape.specs.Look.{Table}
-use Rattle.fr_shape.specs.Val.{Val}
 use Rattle.fr_model.specs.Complete.{complete}
-use Rattle.fr_model.specs.Failing.{Failure, first_by_walk, own_lack}
-use Rattle.fr_model.specs.FailingLaws.{EachFailureHasItsPlace, FinishesOrRefuses, FirstByWalkIs, LackingFails}
-use Rattle.fr_model.specs.Finish.{failures_off, finish_cause, finished, kind_of}
-use Rattle.fr_model.specs.FinishLaws.{closed_at}
+use Rattle.fr_model.specs.Finish.{finish_cause}
 use Rattle.fr_model.specs.Laws.{CompletingFits}
-use Rattle.fr_model.specs.Paths.{steps_in}
-use Rattle.fr_model.specs.Places.{Place, deferred_column}
-use Rattle.fr_model.specs.Relation.{HasPlace}
-use Rattle.fr_model.specs.Tree.{Tree, whole, change_at, shape_in, tree_at}
-use Rattle.fr_model.specs.Well.{Suits}
-use Rattle.fr_plan.specs.TypePlan.{Plan}
-use Rattle.fr_frame.specs.declared.places.Slot.{Slot}
-use Rattle.fr_frame.specs.Kids.{Kid, there}
 use Rattle.fr_store.specs.ClosingLaws.{steps_kept, suits_at, suits_change}
-use Rattle.fr_store.specs.Moves.{cursor_in, tree_in_slots}
-use Rattle.fr_store.specs.OffLaws.{reach_place}
-use Rattle.fr_store.specs.Stands.{IsOpen}
-use Rattle.fr_store.specs.Turning.{HasTurned, IsLackingAt, KeepsTheRest, MayTurn, StoppedByTurns, Walked, kid_here, next_place}
-use Rattle.fr_store.specs.Turns.{CompletesAsBefore, IsHeldUp, KeepThoseLeft, Turned, root_shape}
-use Rattle.fr_store.specs.Walks.{AreInWalkOrder, AreStoredAt, IsStoredAt, IsWalk}
-use Rattle.fr_store.specs.Ways.{put_at, Leads}
-use Rattle.fr_store.specs.WayLaws.{leads_reach}
+use Rattle.fr_store.specs.Turning.{kid_here, next_place}
+use Rattle.fr_store.specs.Turns.{CompletesAsBefore, KeepThoseLeft, Turned}
 use Rattle.fr_store.proofs.HeadLaws.{Head, contains_cases, head_closed, head_of, one_place, walk_on}
 use Rattle.fr_store.proofs.HeldLaws.{first_fails, held_by_first, leads_deferred}
 
@@ -42,8 +20,7 @@ turned_more : (means : Meanings) (table : Table) (s : ℕ) (before : Tree) (done
     → next ≡ change_at place (λ old. whole v) now → Turned means table s before (done ++ place ∷ []) next
 turned_more means table s before [] now place v next turned makes is = (
   v,
-  subst (λ (t : Tree). complete deferred_column means table (shape_in table s place t) (tree_at place t) ≡ Some v) turned
-      makes,
+  subst (λ (t : Tree). complete deferred_column means table (shape_in table s place t) (tree_at place t) ≡ Some v) turned makes,
   is ∙ ap (λ (t : Tree). change_at place (λ old. whole v) t) turned,
 )
 turned_more means table s before (first ∷ done) now place v next turned makes is = (
@@ -85,8 +62,7 @@ kept_more means table s start before [] left now place v next kept turned makes 
       let value : w ≡ v = cc in
       subst (λ (t : Tree). All (CompletesAsBefore means table s start t) left)
       (is ∙ ap (λ (x : Val). change_at place (λ old. whole x) now) (sym value)
-      ∙ ap (λ (t : Tree). change_at place (λ old. whole w) t) turned)
-      after,
+      ∙ ap (λ (t : Tree). change_at place (λ old. whole w) t) turned) after,
 )
 kept_more means table s start before (first ∷ done) left now place v next kept turned makes is after = (
   subst (λ (l : List Place). All (CompletesAsBefore means table s start before) (first ∷ l))
@@ -94,10 +70,8 @@ kept_more means table s start before (first ∷ done) left now place v next kept
   λ w same.
       let both : Some turned.0 ≡ Some w = sym turned.1 ∙ same in
       let value : turned.0 ≡ w = cc in
-      subst
-      (λ (x : Val). KeepThoseLeft means table s start (change_at first (λ old. whole x) before) (done ++ place ∷ []) left)
-      value
-      (kept_more means table s start (change_at first (λ old. whole turned.0) before) done left now place v next
+      subst (λ (x : Val). KeepThoseLeft means table s start (change_at first (λ old. whole x) before) (done ++ place ∷ []) left)
+      value (kept_more means table s start (change_at first (λ old. whole turned.0) before) done left now place v next
       (kept.1 turned.0 turned.1) turned.2 makes is after),
 )
 
@@ -158,8 +132,7 @@ module _ (means : Meanings) (table : Table) (plan : Plan) (before : List Slot) (
 
     -- it had its turn
     pub walk_goes_on : CompletingFits → IsChecked table → (next : List Slot) → HasTurned means table plan now stack next n
-        → KeepsTheRest means table plan now stack next
-        → Walked means table plan before stack next walk rest
+        → KeepsTheRest means table plan now stack next → Walked means table plan before stack next walk rest
     walk_goes_on fitting checked next turned keeps = record {
       first = walked.first;
       still = turned.stands.open_still;
@@ -173,35 +146,24 @@ module _ (means : Meanings) (table : Table) (plan : Plan) (before : List Slot) (
           ∙ ap (λ (ps : List Place). (walked.done ++ head.place ∷ []) ++ ps) (sym on.1);
       turned =
           turned_more means table (root_shape plan) (tree_in_slots before stack) walked.done (tree_in_slots now stack)
-          head.place turned.value (tree_in_slots next stack) walked.turned
-          makes next_is;
+          head.place turned.value (tree_in_slots next stack) walked.turned makes next_is;
       kept =
-          subst
-          (λ (l : List Place). KeepThoseLeft means table (root_shape plan) (tree_in_slots before stack)
-          (tree_in_slots before stack) (walked.done ++ head.place ∷ []) l)
-          (sym on.1)
+          subst (λ (l : List Place). KeepThoseLeft means table (root_shape plan) (tree_in_slots before stack)
+          (tree_in_slots before stack) (walked.done ++ head.place ∷ []) l) (sym on.1)
           (kept_more means table (root_shape plan) (tree_in_slots before stack) (tree_in_slots before stack) walked.done
           head.places (tree_in_slots now stack) head.place turned.value (tree_in_slots next stack) kept_head walked.turned
           makes next_is as_before);
       here =
           as_before_again means table (root_shape plan) (tree_in_slots before stack) (tree_in_slots now stack)
-          (tree_in_slots next stack) (cursor_in before stack) walked.here
-          (subst
-          (λ (p : Place). CompletesAsBefore means table (root_shape plan) (tree_in_slots now stack)
-          (tree_in_slots next stack) p)
+          (tree_in_slots next stack) (cursor_in before stack) walked.here (subst
+          (λ (p : Place). CompletesAsBefore means table (root_shape plan) (tree_in_slots now stack) (tree_in_slots next stack) p)
           walked.cursor keeps.cursor);
       path = steps_on ∙ walked.path;
       finish =
-          subst
-          (λ (p : Place). finished means table (root_shape plan) p (tree_in_slots next stack)
-          ≡ finished means table (root_shape plan) p (tree_in_slots now stack))
-          walked.cursor keeps.finish
-          ∙ walked.finish;
-      failing = λ path.
-          subst
-          (λ (p : Place). failures_off means table (root_shape plan) path p (tree_in_slots next stack)
-          ≡ failures_off means table (root_shape plan) path p (tree_in_slots now stack))
-          walked.cursor (keeps.failing path)
+          subst (λ (p : Place). finished means table (root_shape plan) p (tree_in_slots next stack)
+          ≡ finished means table (root_shape plan) p (tree_in_slots now stack)) walked.cursor keeps.finish ∙ walked.finish;
+      failing = λ path. subst (λ (p : Place). failures_off means table (root_shape plan) path p (tree_in_slots next stack)
+          ≡ failures_off means table (root_shape plan) path p (tree_in_slots now stack)) walked.cursor (keeps.failing path)
           ∙ walked.failing path;
       marks = λ m is. walked.marks m (turned.marks m is);
     }
@@ -217,30 +179,23 @@ module _ (means : Meanings) (table : Table) (plan : Plan) (before : List Slot) (
             walked.still.stands.once turned.value)
 
         makes : complete deferred_column means table (shape_in table (root_shape plan) head.place (tree_in_slots now stack))
-            (tree_at head.place (tree_in_slots now stack))
-            ≡ Some turned.value
+            (tree_at head.place (tree_in_slots now stack)) ≡ Some turned.value
         makes =
             subst
             (λ (p : Place). complete deferred_column means table (shape_in table (root_shape plan) p (tree_in_slots now stack))
-            (tree_at p (tree_in_slots now stack)) ≡ Some turned.value)
-            same turned.meant
+            (tree_at p (tree_in_slots now stack)) ≡ Some turned.value) same turned.meant
 
         next_is : tree_in_slots next stack ≡ change_at head.place (λ old. whole turned.value) (tree_in_slots now stack)
-        next_is =
-            turned.stands.built
-            ∙ ap (λ (p : Place). change_at p (λ old. whole turned.value) (tree_in_slots now stack)) same
+        next_is = turned.stands.built ∙ ap (λ (p : Place). change_at p (λ old. whole turned.value) (tree_in_slots now stack)) same
 
         kept_head : KeepThoseLeft means table (root_shape plan) (tree_in_slots before stack) (tree_in_slots before stack)
             walked.done (head.place ∷ head.places)
         kept_head =
-            subst
-            (λ (l : List Place). KeepThoseLeft means table (root_shape plan) (tree_in_slots before stack)
-            (tree_in_slots before stack) walked.done l)
-            head.is walked.kept
+            subst (λ (l : List Place). KeepThoseLeft means table (root_shape plan) (tree_in_slots before stack)
+            (tree_in_slots before stack) walked.done l) head.is walked.kept
 
         -- those that are still left complete as before this turn, and so as at the start
-        as_before : All
-            (CompletesAsBefore means table (root_shape plan) (tree_in_slots before stack) (tree_in_slots next stack))
+        as_before : All (CompletesAsBefore means table (root_shape plan) (tree_in_slots before stack) (tree_in_slots next stack))
             head.places
         as_before i d h =
             let place : Place = get_or head.places i d in
@@ -263,8 +218,7 @@ module _ (means : Meanings) (table : Table) (plan : Plan) (before : List Slot) (
         has_cursor =
             subst (λ (t : Tree). HasPlace (cursor_in before stack) t) turned.stands.built
             (reach_place (cursor_in before stack) (kid_here next stack)
-            (leads_reach (cursor_in before stack) [] (kid_here next stack)
-            (subst (λ (p : Place). Leads p (kid_here next stack))
+            (leads_reach (cursor_in before stack) [] (kid_here next stack) (subst (λ (p : Place). Leads p (kid_here next stack))
             (turned.stands.cursor ∙ walked.cursor ∙ sym (append-nil (cursor_in before stack)))
             turned.stands.open_still.stands.leads)))
 
@@ -283,10 +237,8 @@ module _ (means : Meanings) (table : Table) (plan : Plan) (before : List Slot) (
 
     -- it makes no value: it is the first place that fails
     pub walk_held_up : EachFailureHasItsPlace → LackingFails → FirstByWalkIs → FinishesOrRefuses → IsOpen plan before stack
-        → (kind : ReflectErrorKind) → IsLackingAt means table plan now stack n kind
-        → IsHeldUp means table plan before stack kind
-    walk_held_up each lacking first refuses open_first kind lacks =
-        record { unfinished = held.0; cause = held.1 }
+        → (kind : ReflectErrorKind) → IsLackingAt means table plan now stack n kind → IsHeldUp means table plan before stack kind
+    walk_held_up each lacking first refuses open_first kind lacks = record { unfinished = held.0; cause = held.1 }
       where
         same : lacks.place ≡ head.place
         same = same_place lacks.place lacks.stored
@@ -296,12 +248,9 @@ module _ (means : Meanings) (table : Table) (plan : Plan) (before : List Slot) (
         fails =
             ap kind_of
             (first_fails means table (root_shape plan) [] (kid_here now stack) (cursor_in now stack) walked.still.stands.leads n
-            rest walked.left head kind
-            (subst
+            rest walked.left head kind (subst
             (λ (p : Place). own_lack means table (shape_in table (root_shape plan) p (tree_in_slots now stack))
-            (tree_at p (tree_in_slots now stack)) ≡ Some kind)
-            same lacks.lacks)
-            each lacking first)
+            (tree_at p (tree_in_slots now stack)) ≡ Some kind) same lacks.lacks) each lacking first)
 
         as_at_first : failures_off means table (root_shape plan) [] (cursor_in now stack) (tree_in_slots now stack)
             ≡ failures_off means table (root_shape plan) [] (cursor_in before stack) (tree_in_slots before stack)
@@ -323,19 +272,14 @@ module _ (means : Meanings) (table : Table) (plan : Plan) (before : List Slot) (
       done = walked.done;
       left = walked.left.places;
       order = subst (AreInWalkOrder (tree_in_slots before stack)) walked.split walked.first.order;
-      all = λ slot place stored.
-          subst (λ (l : List Place). Contains l place) walked.split (walked.first.all slot place stored);
-      each = λ place found.
-          stored_among (kid_here before stack) walk walked.first.places place walked.first.stored
+      all = λ slot place stored. subst (λ (l : List Place). Contains l place) walked.split (walked.first.all slot place stored);
+      each = λ place found. stored_among (kid_here before stack) walk walked.first.places place walked.first.stored
           (subst (λ (l : List Place). Contains l place) (sym walked.split) found);
       tree = tree_in_slots now stack;
       turned = walked.turned;
       kept = walked.kept;
       lacks =
-          subst
-          (λ (p : Place). own_lack means table (shape_in table (root_shape plan) p (tree_in_slots now stack))
-          (tree_at p (tree_in_slots now stack)) ≡ Some kind)
-          (same_place lacks.place lacks.stored
-          ∙ sym (ap (λ (l : List Place). next_place l (cursor_in before stack)) head.is))
-          lacks.lacks;
+          subst (λ (p : Place). own_lack means table (shape_in table (root_shape plan) p (tree_in_slots now stack))
+          (tree_at p (tree_in_slots now stack)) ≡ Some kind) (same_place lacks.place lacks.stored
+          ∙ sym (ap (λ (l : List Place). next_place l (cursor_in before stack)) head.is)) lacks.lacks;
     }

@@ -1,23 +1,10 @@
 -- Laws of the top that becomes whole where it is, for proofs: nothing is stored.
 use Rattle.std.proofs.Common.{◌≡◌, ℕ, false, List, [], ◌∷◌, Option, option_map, Some, None, refl, sym, ◌∙◌, ap, subst}
-use Rattle.std.specs.Prelude.{IsSome}
-use Rattle.fr_shape.specs.Val.{Val}
-use Rattle.fr_model.specs.Places.{Place}
-use Rattle.fr_model.specs.Tree.{whole, change_at}
-use Rattle.fr_plan.specs.TypePlan.{Plan}
-use Rattle.fr_frame.specs.declared.places.Slot.{Slot}
-use Rattle.fr_frame.specs.Bodies.{whole_body, value_of, IsClosed}
-use Rattle.fr_frame.specs.Changes.{Becomes, IfInUse, Shows}
-use Rattle.fr_frame.specs.Heap.{Node, heap_of, stored_in, with_body, with_slot}
-use Rattle.fr_frame.specs.Kids.{Kid, at, Plot, whole_plot, body_in}
-use Rattle.fr_store.specs.MoveLaws.{closed_open, open_reach, open_top, so_top, top_changed_held, top_found, top_node, top_so, top_stands}
-use Rattle.fr_store.specs.Moves.{AtTop, IsOpenAt, cursor_in, tree_in_slots}
-use Rattle.fr_store.specs.Numbers.{IsLast}
-use Rattle.fr_store.specs.Stands.{IsOpen, kid_here}
-use Rattle.fr_store.specs.Staying.{AllStayPut}
-use Rattle.fr_store.specs.Stored.{NothingStored}
-use Rattle.fr_store.specs.TopLaws.{keeps_closed, loses_none, marked_body}
-use Rattle.fr_store.specs.Ways.{put_at}
+use Rattle.fr_store.specs.Common.{AllStayPut, AtTop, IfInUse, IsClosed, IsLast, IsOpen, IsOpenAt, IsSome, Kid, Node, NothingStored, Place, Plan, Plot, Shows, Slot, Val, at, body_in, change_at, cursor_in, heap_of, keeps_closed, kid_here, marked_body, open_reach, open_top, put_at, so_top, stored_in, top_found, top_stands, tree_in_slots, value_of, whole, whole_body, whole_plot, with_body, with_slot}
+use Rattle.fr_store.specs.MoveLaws.{top_node}
+use Rattle.fr_frame.specs.Changes.{Becomes}
+use Rattle.fr_store.specs.MoveLaws.{closed_open, top_changed_held, top_so}
+use Rattle.fr_store.specs.TopLaws.{loses_none}
 use Rattle.fr_store.proofs.StayLaws.{closed_below, stay_all, stay_shown}
 
 module _ (plan : Plan) (before after : List Slot) (stack : List ℕ) (open_now : IsOpen plan before stack) (n : ℕ)
@@ -79,11 +66,9 @@ module _ (plan : Plan) (before after : List Slot) (stack : List ℕ) (open_now :
       (change_at (cursor_in before stack) (λ old. whole v) (tree_in_slots before stack)))
   unfolding top_node
   whole_now p ends =
-      so_top plan before stack open_now p ends
-      (λ (found : Node). (v : Val) → value_of found.body ≡ Some v
+      so_top plan before stack open_now p ends (λ (found : Node). (v : Val) → value_of found.body ≡ Some v
       → IsOpenAt plan after stack (cursor_in before stack)
-      (change_at (cursor_in before stack) (λ old. whole v) (tree_in_slots before stack)))
-      (λ v is. open_whole v is)
+      (change_at (cursor_in before stack) (λ old. whole v) (tree_in_slots before stack))) (λ v is. open_whole v is)
 
   pub whole_stay : IfInUse before n (λ (found : Node). IsSome (value_of found.body))
       → AllStayPut (kid_here before stack) (kid_here after stack)

@@ -5,7 +5,7 @@ use Rattle.fr_shape.specs.declared.error.ReflectErrorKind.{ReflectErrorKind}
 use Rattle.fr_shape.specs.Hooks.{Meanings}
 use Rattle.fr_shape.specs.Look.{Table}
 use Rattle.fr_path.specs.declared.path_steps.PathStep.{PathStep}
-use Rattle.fr_model.specs.Collections.{is_map_form}
+use Rattle.fr_model.specs.Collections.{is_map_tracker}
 use Rattle.fr_model.specs.Complete.{complete}
 use Rattle.fr_model.specs.Finish.{closed_all}
 use Rattle.fr_model.specs.Places.{deferred_column, entry_of}
@@ -34,7 +34,7 @@ abbrev pub completed_beneath : Meanings → Table → (s : ℕ) → Tree → Opt
 completed_beneath means table s hole = Some hole
 completed_beneath means table s entered = Some entered
 completed_beneath means table s (whole v) = Some (whole v)
-completed_beneath means table s (begun form ts) = option_map (begun form) (closed_all means table s form 0 ts)
+completed_beneath means table s (begun tracker ts) = option_map (begun tracker) (closed_all means table s tracker 0 ts)
 
 -- All that was there beneath that place is completed, and what comes of it stands there. That makes the value that was made
 -- there before, or the same places fail in it, nothing beneath it is in a slot, and all else is as it was.
@@ -91,7 +91,7 @@ slotted of_map cells i = map (λ number. slot_if (slot_at cells number)) (slotte
 abbrev pub is_map_body : Body → Bool
 is_map_body entered_body = false
 is_map_body (whole_body v) = false
-is_map_body (begun_body form cells) = is_map_form form
+is_map_body (begun_body tracker cells) = is_map_tracker tracker
 
 abbrev pub is_map_found : Option Node → Bool
 is_map_found (Some node) = is_map_body node.body

@@ -11,7 +11,8 @@ use Rattle.fr_model.specs.Complete.{complete, complete_all, failing_child, hole_
 use Rattle.fr_model.specs.Failing.{own_lack}
 use Rattle.fr_model.specs.Finish.{begun_with, finished_here}
 use Rattle.fr_model.specs.Places.{Place, entry_of, deferred_column, one_more, vals_nth}
-use Rattle.fr_model.specs.Tree.{Form, as_struct, as_array, as_variant, as_some, as_ok, as_err, as_pointer, as_list, as_slice, as_closed_slice, base_of_form, Tree, hole, whole, begun, Trees, no_trees, branch, change_at, child_as, count_trees, for_hole, shape_in, tree_at, wholes}
+use Rattle.fr_model.specs.Trackers.{Tracker, as_fields, as_elements, as_content, ContentKind, as_items, ItemsKind, base_of_tracker}
+use Rattle.fr_model.specs.Tree.{Tree, hole, whole, begun, Trees, no_trees, branch, change_at, child_as, count_trees, for_hole, shape_in, tree_at, wholes}
 use Rattle.fr_model.specs.Well.{Suits}
 use Rattle.fr_plan.specs.LookupLaws.{LookupsAgree, LookupPathsAgree}
 use Rattle.fr_plan.specs.TypePlan.{Plan}
@@ -20,7 +21,7 @@ use Rattle.fr_frame.specs.Bodies.{Body, entered_body, whole_body, begun_body, ga
 use Rattle.fr_frame.specs.Cells.{Cell, absent, given, placed, values_of}
 use Rattle.fr_frame.specs.Changes.{Becomes, IfInUse, Shows}
 use Rattle.fr_frame.specs.Completing.{shape_of, FillsAt, IsPlanFor, MayComplete}
-use Rattle.fr_frame.specs.Defaults.{KeepGiven, KeepsForm, WhyNotDefault}
+use Rattle.fr_frame.specs.Defaults.{KeepGiven, KeepsTracker, WhyNotDefault}
 use Rattle.fr_frame.specs.Heap.{Node, heap_of, marked, stored_in, with_body, with_slot}
 use Rattle.fr_frame.specs.Kids.{Kid, gone, MayHave, Plot, tree_of, tree_in, trees_in, cells_in, body_in, kids_in, plot_in, begun_plot, entered_plot, whole_plot, AreLeftRightly, AreLeftIn, AreLeftAll}
 use Rattle.fr_store.specs.ValueLaws.{made_of, made_value, more_is, values_count}
@@ -52,7 +53,7 @@ cells_back (placed n ∷ cells) closed = absurd closed.0
 pub body_back : (body : Body) → IsClosed body → body_in (closed_plot body) ≡ body
 body_back entered_body closed = refl
 body_back (whole_body v) closed = refl
-body_back (begun_body form cells) closed = ap (begun_body form) (cells_back cells closed)
+body_back (begun_body tracker cells) closed = ap (begun_body tracker) (cells_back cells closed)
 
 trees_back : (cells : List Cell) → trees_in (kids_in (λ slot. gone) cells) ≡ trees_of cells
 trees_back [] = refl
@@ -63,7 +64,7 @@ trees_back (placed n ∷ cells) = ap (λ (ts : Trees). branch hole ts) (trees_ba
 pub tree_back : (body : Body) → tree_in (closed_plot body) ≡ own_tree body
 tree_back entered_body = refl
 tree_back (whole_body v) = refl
-tree_back (begun_body form cells) = ap (λ (ts : Trees). begun form ts) (trees_back cells)
+tree_back (begun_body tracker cells) = ap (λ (ts : Trees). begun tracker ts) (trees_back cells)
 
 -- Places that have a value.
 
@@ -84,22 +85,20 @@ values_whole (given v ∷ cells) vs e =
     ap (λ (ts : Trees). branch (whole v) ts) (values_whole cells rest.0 rest.1) ∙ ap wholes rest.2
 
 -- what completes has a value for each child
-completed_count : (means : Meanings) (table : Table) (s : ℕ) (form : Form) (i : ℕ) (ts : Trees) (vs : Vals)
-    → complete_all deferred_column means table s form i ts ≡ Some vs → count_vals vs ≡ count_trees ts
-completed_count means table s form i no_trees vs e = let same : no_vals ≡ vs = cc in ap count_vals (sym same)
-completed_count means table s form i (branch t ts) vs e =
-    go
-    (valid_child means table s form i
-    (for_hole t (hole_takes deferred_column table s form i)
-    (complete deferred_column means table (child_as table s form i) t))) e
-    (λ us is. completed_count means table s form (suc i) ts us is)
+completed_count : (means : Meanings) (table : Table) (s : ℕ) (tracker : Tracker) (i : ℕ) (ts : Trees) (vs : Vals)
+    → complete_all deferred_column means table s tracker i ts ≡ Some vs → count_vals vs ≡ count_trees ts
+completed_count means table s tracker i no_trees vs e = let same : no_vals ≡ vs = cc in ap count_vals (sym same)
+completed_count means table s tracker i (branch t ts) vs e =
+    go (valid_child means table s tracker i (for_hole t (hole_takes deferred_column table s tracker i)
+    (complete deferred_column means table (child_as table s tracker i) t))) e
+    (λ us is. completed_count means table s tracker (suc i) ts us is)
   where
-    go : (value : Option Val) → one_more value (complete_all deferred_column means table s form (suc i) ts) ≡ Some vs
-        → ((us : Vals) → complete_all deferred_column means table s form (suc i) ts ≡ Some us → count_vals us ≡ count_trees ts)
+    go : (value : Option Val) → one_more value (complete_all deferred_column means table s tracker (suc i) ts) ≡ Some vs
+        → ((us : Vals) → complete_all deferred_column means table s tracker (suc i) ts ≡ Some us → count_vals us ≡ count_trees ts)
         → count_vals vs ≡ suc (count_trees ts)
     go None e counted = absurd (cc)
     go (Some v) e counted =
-        let rest = more_is v (complete_all deferred_column means table s form (suc i) ts) vs e in
+        let rest = more_is v (complete_all deferred_column means table s tracker (suc i) ts) vs e in
         ap count_vals (sym rest.2) ∙ ap suc (counted rest.0 rest.1)
 
 same_one : (one others : Vals) → count_vals one ≡ count_vals others → count_vals one ≤ 1
@@ -116,29 +115,29 @@ same_list one others e = cc
 
 -- as many values of which the same is made, being so many as there may be, are the same; of those that a set, a map or a dynamic
 -- value is put together of that is known otherwise
-same_made : (form : Form) (one others : Vals) (v : Val) → (gathers form ≡ true → one ≡ others) → count_vals one ≡ count_vals others
-    → MayHave form (count_vals one) → value_as form one ≡ v → value_as form others ≡ v → one ≡ others
-same_made as_struct one others v kept count may e f = let same : product one ≡ product others = e ∙ sym f in cc
-same_made as_array one others v kept count may e f = let same : product one ≡ product others = e ∙ sym f in cc
-same_made (as_variant k) one others v kept count may e f =
+same_made : (tracker : Tracker) (one others : Vals) (v : Val) → (gathers tracker ≡ true → one ≡ others) → count_vals one ≡ count_vals others
+    → MayHave tracker (count_vals one) → value_as tracker one ≡ v → value_as tracker others ≡ v → one ≡ others
+same_made (as_fields None) one others v kept count may e f = let same : product one ≡ product others = e ∙ sym f in cc
+same_made as_elements one others v kept count may e f = let same : product one ≡ product others = e ∙ sym f in cc
+same_made (as_fields (Some k)) one others v kept count may e f =
     let same : variant k one ≡ variant k others = e ∙ sym f in cc
-same_made as_some one others v kept count may e f =
+same_made (as_content ContentKind.Some) one others v kept count may e f =
     let same : some (vals_nth one 0) ≡ some (vals_nth others 0) = e ∙ sym f in
     same_one one others count may (cc)
-same_made as_ok one others v kept count may e f =
+same_made (as_content ContentKind.Ok) one others v kept count may e f =
     let same : ok (vals_nth one 0) ≡ ok (vals_nth others 0) = e ∙ sym f in
     same_one one others count may (cc)
-same_made as_err one others v kept count may e f =
+same_made (as_content ContentKind.Err) one others v kept count may e f =
     let same : err (vals_nth one 0) ≡ err (vals_nth others 0) = e ∙ sym f in
     same_one one others count may (cc)
-same_made as_pointer one others v kept count may e f =
+same_made (as_content ContentKind.Pointer) one others v kept count may e f =
     let same : ptr (vals_nth one 0) ≡ ptr (vals_nth others 0) = e ∙ sym f in
     same_one one others count may (cc)
-same_made as_list one others v kept count may e f = let same : list_of one ≡ list_of others = e ∙ sym f in cc
-same_made as_slice one others v kept count may e f =
+same_made (as_items ItemsKind.List) one others v kept count may e f = let same : list_of one ≡ list_of others = e ∙ sym f in cc
+same_made (as_items ItemsKind.Slice) one others v kept count may e f =
     let same : ptr (list_of one) ≡ ptr (list_of others) = e ∙ sym f in
     same_list one others (cc)
-same_made as_closed_slice one others v kept count may e f =
+same_made (as_items ItemsKind.ClosedSlice) one others v kept count may e f =
     let same : ptr (list_of one) ≡ ptr (list_of others) = e ∙ sym f in
     same_list one others (cc)
 same_made _ one others v kept count may e f = kept refl
@@ -148,136 +147,131 @@ none_valid : (failing : Option ReflectErrorKind) → unless_failing failing None
 none_valid (Some kind) = refl
 none_valid None = refl
 
-kept_values : (means : Meanings) (table : Table) (s : ℕ) (form : Form)
-    → ((i : ℕ) → hole_takes deferred_column table s form i ≡ None) → (i : ℕ) (cells others : List Cell) (vs us : Vals)
-    → complete_all deferred_column means table s form i (trees_of cells) ≡ Some vs → values_of others ≡ Some us
+kept_values : (means : Meanings) (table : Table) (s : ℕ) (tracker : Tracker)
+    → ((i : ℕ) → hole_takes deferred_column table s tracker i ≡ None) → (i : ℕ) (cells others : List Cell) (vs us : Vals)
+    → complete_all deferred_column means table s tracker i (trees_of cells) ≡ Some vs → values_of others ≡ Some us
     → length others ≡ length cells → KeepGiven cells others → vs ≡ us
-kept_values means table s form none i [] [] vs us e f long keep = cc
-kept_values means table s form none i [] (d ∷ ds) vs us e f long keep = absurd (omega (arith, long))
-kept_values means table s form none i (c ∷ cells) [] vs us e f long keep = absurd (omega (arith, long))
-kept_values means table s form none i (absent ∷ cells) (d ∷ ds) vs us e f long keep =
-    let lost : one_more None (complete_all deferred_column means table s form (suc i) (trees_of cells)) ≡ Some vs
-    = sym (ap (λ (value : Option Val). one_more value (complete_all deferred_column means table s form (suc i) (trees_of cells)))
-    (ap (valid_child means table s form i) (none i) ∙ none_valid (failing_child means table s form i None))) ∙ e in
+kept_values means table s tracker none i [] [] vs us e f long keep = cc
+kept_values means table s tracker none i [] (d ∷ ds) vs us e f long keep = absurd (omega (arith, long))
+kept_values means table s tracker none i (c ∷ cells) [] vs us e f long keep = absurd (omega (arith, long))
+kept_values means table s tracker none i (absent ∷ cells) (d ∷ ds) vs us e f long keep =
+    let lost : one_more None (complete_all deferred_column means table s tracker (suc i) (trees_of cells)) ≡ Some vs
+    = sym (ap (λ (value : Option Val). one_more value (complete_all deferred_column means table s tracker (suc i) (trees_of cells)))
+    (ap (valid_child means table s tracker i) (none i) ∙ none_valid (failing_child means table s tracker i None))) ∙ e in
     absurd (cc)
-kept_values means table s form none i (placed n ∷ cells) (d ∷ ds) vs us e f long keep =
-    let lost : one_more None (complete_all deferred_column means table s form (suc i) (trees_of cells)) ≡ Some vs
-    = sym (ap (λ (value : Option Val). one_more value (complete_all deferred_column means table s form (suc i) (trees_of cells)))
-    (ap (valid_child means table s form i) (none i) ∙ none_valid (failing_child means table s form i None))) ∙ e in
+kept_values means table s tracker none i (placed n ∷ cells) (d ∷ ds) vs us e f long keep =
+    let lost : one_more None (complete_all deferred_column means table s tracker (suc i) (trees_of cells)) ≡ Some vs
+    = sym (ap (λ (value : Option Val). one_more value (complete_all deferred_column means table s tracker (suc i) (trees_of cells)))
+    (ap (valid_child means table s tracker i) (none i) ∙ none_valid (failing_child means table s tracker i None))) ∙ e in
     absurd (cc)
-kept_values means table s form none i (given v ∷ cells) (d ∷ ds) vs us e f long keep =
-    go (failing_child means table s form i (Some v)) e
-    (λ ws is. kept_values means table s form none (suc i) cells ds ws rest.0 is rest.1 (omega (arith, long)) keep.1)
+kept_values means table s tracker none i (given v ∷ cells) (d ∷ ds) vs us e f long keep =
+    go (failing_child means table s tracker i (Some v)) e
+    (λ ws is. kept_values means table s tracker none (suc i) cells ds ws rest.0 is rest.1 (omega (arith, long)) keep.1)
   where
     rest : (ws : Vals) × (values_of ds ≡ Some ws) × (first v ws ≡ us)
     rest = more_is v (values_of ds) us (ap (λ (c : Cell). values_of (c ∷ ds)) (sym keep.0) ∙ f)
 
     go : (failing : Option ReflectErrorKind)
-        → one_more (unless_failing failing (Some v)) (complete_all deferred_column means table s form (suc i) (trees_of cells)) ≡ Some vs
-        → ((ws : Vals) → complete_all deferred_column means table s form (suc i) (trees_of cells) ≡ Some ws → ws ≡ rest.0)
+        → one_more (unless_failing failing (Some v)) (complete_all deferred_column means table s tracker (suc i) (trees_of cells)) ≡ Some vs
+        → ((ws : Vals) → complete_all deferred_column means table s tracker (suc i) (trees_of cells) ≡ Some ws → ws ≡ rest.0)
         → vs ≡ us
     go (Some kind) e same = absurd (cc)
     go None e same =
-        let more = more_is v (complete_all deferred_column means table s form (suc i) (trees_of cells)) vs e in
+        let more = more_is v (complete_all deferred_column means table s tracker (suc i) (trees_of cells)) vs e in
         sym more.2 ∙ ap (λ (ws : Vals). first v ws) (same more.0 more.1) ∙ rest.2
 
-none_taken : (table : Table) (s : ℕ) (form : Form) → gathers form ≡ true → (i : ℕ) → hole_takes deferred_column table s form i ≡ None
-none_taken table s as_struct gather i = absurd (cc)
-none_taken table s (as_variant k) gather i = absurd (cc)
+none_taken : (table : Table) (s : ℕ) (tracker : Tracker) → gathers tracker ≡ true → (i : ℕ) → hole_takes deferred_column table s tracker i ≡ None
+none_taken table s (as_fields selected) gather i = absurd (cc)
 none_taken table s _ gather i = refl
 
 pub value_closed : (body : Body) (v : Val) → value_of body ≡ Some v → IsClosed body
 value_closed entered_body v e = tt
 value_closed (whole_body w) v e = tt
-value_closed (begun_body form cells) v e =
-    let values = made_of form (values_of cells) v (made_value form cells v e) in
+value_closed (begun_body tracker cells) v e =
+    let values = made_of tracker (values_of cells) v (made_value tracker cells v e) in
     values_unplaced cells values.0 values.1
 
 -- what has a value has all its children: of a base none is missing, where there are as many as there were
-given_left : (form : Form) (i : ℕ) (cells : List Cell) (vs : Vals) (m : ℕ) → m ≡ i + length cells → base_of_form form ≤ entry_of m
-    → values_of cells ≡ Some vs → AreLeftAll form i (kids_in (λ slot. gone) cells)
-given_left form i [] vs m long past e =
+given_left : (tracker : Tracker) (i : ℕ) (cells : List Cell) (vs : Vals) (m : ℕ) → m ≡ i + length cells → base_of_tracker tracker ≤ entry_of m
+    → values_of cells ≡ Some vs → AreLeftAll tracker i (kids_in (λ slot. gone) cells)
+given_left tracker i [] vs m long past e =
     let same : m ≡ i = omega arith in
-    subst (λ (n : ℕ). base_of_form form ≤ entry_of n) same past
-given_left form i (absent ∷ cells) vs m long past e = absurd (cc)
-given_left form i (placed n ∷ cells) vs m long past e = absurd (cc)
-given_left form i (given v ∷ cells) vs m long past e =
+    subst (λ (n : ℕ). base_of_tracker tracker ≤ entry_of n) same past
+given_left tracker i (absent ∷ cells) vs m long past e = absurd (cc)
+given_left tracker i (placed n ∷ cells) vs m long past e = absurd (cc)
+given_left tracker i (given v ∷ cells) vs m long past e =
     let rest = more_is v (values_of cells) vs e in
-    (left_value form i v, tt, given_left form (suc i) cells rest.0 m (omega arith) past rest.1)
+    (left_value tracker i v, tt, given_left tracker (suc i) cells rest.0 m (omega arith) past rest.1)
 
 -- a place has the children of its base
 abbrev HasBase : Body → Type 0
 HasBase entered_body = Unit {0}
 HasBase (whole_body v) = Unit {0}
-HasBase (begun_body form cells) = base_of_form form ≤ entry_of (length cells)
+HasBase (begun_body tracker cells) = base_of_tracker tracker ≤ entry_of (length cells)
 
 value_left : (body : Body) (v : Val) → HasBase body → value_of body ≡ Some v → AreLeftIn (closed_plot body)
 value_left entered_body v has e = tt
 value_left (whole_body w) v has e = tt
-value_left (begun_body form cells) v has e =
-    let values = made_of form (values_of cells) v (made_value form cells v e) in
-    given_left form 0 cells values.0 (length cells) (omega arith) has values.1
+value_left (begun_body tracker cells) v has e =
+    let values = made_of tracker (values_of cells) v (made_value tracker cells v e) in
+    given_left tracker 0 cells values.0 (length cells) (omega arith) has values.1
 
 left_base : (plot : Plot) → AreLeftIn plot → HasBase (body_in plot)
 left_base entered_plot left = tt
 left_base (whole_plot v) left = tt
-left_base (begun_plot form kids) left =
-    left_end form 0 kids (length (cells_in kids)) (omega (arith, cells_count kids)) left
+left_base (begun_plot tracker kids) left = left_end tracker 0 kids (length (cells_in kids)) (omega (arith, cells_count kids)) left
 
-kept_base : (was now : Body) → becomes_whole was ≡ false → HasBase was → KeepsForm was now → HasBase now
+kept_base : (was now : Body) → becomes_whole was ≡ false → HasBase was → KeepsTracker was now → HasBase now
 kept_base entered_body now e has keeps = absurd (cc)
 kept_base (whole_body v) now e has keeps = subst (λ (b : Body). HasBase b) (sym keeps) tt
-kept_base (begun_body form cells) entered_body e has keeps = absurd keeps
-kept_base (begun_body form cells) (whole_body w) e has keeps = absurd keeps
-kept_base (begun_body form cells) (begun_body other others) e has keeps =
-    subst (λ (n : ℕ). base_of_form other ≤ entry_of n) (sym keeps.1)
-    (subst (λ (f : Form). base_of_form f ≤ entry_of (length cells)) (sym keeps.0) has)
+kept_base (begun_body tracker cells) entered_body e has keeps = absurd keeps
+kept_base (begun_body tracker cells) (whole_body w) e has keeps = absurd keeps
+kept_base (begun_body tracker cells) (begun_body other others) e has keeps =
+    subst (λ (n : ℕ). base_of_tracker other ≤ entry_of n) (sym keeps.1)
+    (subst (λ (f : Tracker). base_of_tracker f ≤ entry_of (length cells)) (sym keeps.0) has)
 
 -- what a place that doesn't become whole becomes, by the place that it was
 finished_as : (means : Meanings) (table : Table) (s : ℕ) (was now : Body) (v : Val) → becomes_whole was ≡ false
-    → MayHaveIts was → KeepsForm was now → complete deferred_column means table s (own_tree was) ≡ Some v → value_of now ≡ Some v
+    → MayHaveIts was → KeepsTracker was now → complete deferred_column means table s (own_tree was) ≡ Some v → value_of now ≡ Some v
     → finished_here means table s (own_tree was) ≡ Some (own_tree now)
-finished_as means table s entered_body now v e may form makes held = absurd (cc)
-finished_as means table s (whole_body w) now v e may form makes held =
-    ap (λ (body : Body). Some (own_tree body)) (sym form)
-finished_as means table s (begun_body form cells) entered_body v e may keeps makes held = absurd keeps
-finished_as means table s (begun_body form cells) (whole_body w) v e may keeps makes held = absurd keeps
-finished_as means table s (begun_body form cells) (begun_body other others) v e may keeps makes held =
-    let was = made_of form (complete_all deferred_column means table s form 0 (trees_of cells)) v makes in
+finished_as means table s entered_body now v e may tracker makes held = absurd (cc)
+finished_as means table s (whole_body w) now v e may tracker makes held = ap (λ (body : Body). Some (own_tree body)) (sym tracker)
+finished_as means table s (begun_body tracker cells) entered_body v e may keeps makes held = absurd keeps
+finished_as means table s (begun_body tracker cells) (whole_body w) v e may keeps makes held = absurd keeps
+finished_as means table s (begun_body tracker cells) (begun_body other others) v e may keeps makes held =
+    let was = made_of tracker (complete_all deferred_column means table s tracker 0 (trees_of cells)) v makes in
     let now = made_of other (values_of others) v (made_value other others v held) in
     let made_count : count_vals was.0 ≡ length cells
-    = completed_count means table s form 0 (trees_of cells) was.0 was.1 ∙ count_of cells in
-    let same : was.0 ≡ now.0
-    = same_made form was.0 now.0 v
-    (λ gather. kept_values means table s form (none_taken table s form gather) 0 cells others was.0 now.0 was.1 now.1 keeps.1 keeps.2)
+    = completed_count means table s tracker 0 (trees_of cells) was.0 was.1 ∙ count_of cells in
+    let same : was.0 ≡ now.0 = same_made tracker was.0 now.0 v
+    (λ gather. kept_values means table s tracker (none_taken table s tracker gather) 0 cells others was.0 now.0 was.1 now.1 keeps.1 keeps.2)
     (made_count ∙ sym keeps.1 ∙ sym (values_count others now.0 now.1))
-    (subst (λ (n : ℕ). MayHave form n) (sym made_count) may) was.2
-    (ap (λ (f : Form). value_as f now.0) (sym keeps.0) ∙ now.2) in
-    ap (option_map (begun_with form)) was.1
-    ∙ ap (λ (b : Bool). Some (if b then whole (value_as form was.0) else begun form (wholes was.0))) e
-    ∙ ap (λ (vs : Vals). Some (begun form (wholes vs))) same
-    ∙ ap (λ (ts : Trees). Some (begun form ts)) (sym (values_whole others now.0 now.1))
-    ∙ ap (λ (f : Form). Some (begun f (trees_of others))) (sym keeps.0)
+    (subst (λ (n : ℕ). MayHave tracker n) (sym made_count) may) was.2
+    (ap (λ (f : Tracker). value_as f now.0) (sym keeps.0) ∙ now.2) in
+    ap (option_map (begun_with tracker)) was.1
+    ∙ ap (λ (b : Bool). Some (if b then whole (value_as tracker was.0) else begun tracker (wholes was.0))) e
+    ∙ ap (λ (vs : Vals). Some (begun tracker (wholes vs))) same
+    ∙ ap (λ (ts : Trees). Some (begun tracker ts)) (sym (values_whole others now.0 now.1))
+    ∙ ap (λ (f : Tracker). Some (begun f (trees_of others))) (sym keeps.0)
 
 -- it has as many children as before
-kept_may_have : (was now : Body) → becomes_whole was ≡ false → MayHaveIts was → KeepsForm was now → MayHaveIts now
+kept_may_have : (was now : Body) → becomes_whole was ≡ false → MayHaveIts was → KeepsTracker was now → MayHaveIts now
 kept_may_have entered_body now e may keeps = absurd (cc)
 kept_may_have (whole_body v) now e may keeps = subst (λ (b : Body). MayHaveIts b) (sym keeps) tt
-kept_may_have (begun_body form cells) entered_body e may keeps = absurd keeps
-kept_may_have (begun_body form cells) (whole_body w) e may keeps = absurd keeps
-kept_may_have (begun_body form cells) (begun_body other others) e may keeps =
-    subst (λ (n : ℕ). MayHave other n) (sym keeps.1) (subst (λ (f : Form). MayHave f (length cells)) (sym keeps.0) may)
+kept_may_have (begun_body tracker cells) entered_body e may keeps = absurd keeps
+kept_may_have (begun_body tracker cells) (whole_body w) e may keeps = absurd keeps
+kept_may_have (begun_body tracker cells) (begun_body other others) e may keeps =
+    subst (λ (n : ℕ). MayHave other n) (sym keeps.1) (subst (λ (f : Tracker). MayHave f (length cells)) (sym keeps.0) may)
 
 -- what becomes whole does so with the value that it makes
 whole_as : (means : Meanings) (table : Table) (s : ℕ) (was : Body) (v : Val) → becomes_whole was ≡ true
-    → complete deferred_column means table s (own_tree was) ≡ Some v
-    → finished_here means table s (own_tree was) ≡ Some (whole v)
+    → complete deferred_column means table s (own_tree was) ≡ Some v → finished_here means table s (own_tree was) ≡ Some (whole v)
 whole_as means table s entered_body v e makes = ap (option_map whole) makes
 whole_as means table s (whole_body w) v e makes = absurd (cc)
-whole_as means table s (begun_body form cells) v e makes =
-    let was = made_of form (complete_all deferred_column means table s form 0 (trees_of cells)) v makes in
-    ap (option_map (begun_with form)) was.1
-    ∙ ap (λ (b : Bool). Some (if b then whole (value_as form was.0) else begun form (wholes was.0))) e
+whole_as means table s (begun_body tracker cells) v e makes =
+    let was = made_of tracker (complete_all deferred_column means table s tracker 0 (trees_of cells)) v makes in
+    ap (option_map (begun_with tracker)) was.1
+    ∙ ap (λ (b : Bool). Some (if b then whole (value_as tracker was.0) else begun tracker (wholes was.0))) e
     ∙ ap (λ (x : Val). Some (whole x)) was.2
 
 -- The top, before it is completed.
@@ -286,13 +280,11 @@ module _ (plan : Plan) (before : List Slot) (stack : List ℕ) (open_now : IsOpe
   closed : IsClosed (body_in (open_top plan before stack open_now).plot)
   closed = closed_open plan before stack open_now strict
 
-  own : own_tree (top_node plan before stack open_now n last).body
-      ≡ tree_at (cursor_in before stack) (tree_in_slots before stack)
+  own : own_tree (top_node plan before stack open_now n last).body ≡ tree_at (cursor_in before stack) (tree_in_slots before stack)
   unfolding top_node
   own =
       let top = open_top plan before stack open_now in
-      sym (closed_tree top.plot closed) ∙ ap tree_of (sym top.is)
-      ∙ tree_of_at (cursor_in before stack) (kid_here before stack)
+      sym (closed_tree top.plot closed) ∙ ap tree_of (sym top.is) ∙ tree_of_at (cursor_in before stack) (kid_here before stack)
 
   its_may_have : MayHaveIts (top_node plan before stack open_now n last).body
   unfolding top_node
@@ -308,8 +300,7 @@ module _ (plan : Plan) (before : List Slot) (stack : List ℕ) (open_now : IsOpe
   reach : Reaches (cursor_in before stack) (kid_here before stack)
   reach =
       leads_reach (cursor_in before stack) [] (kid_here before stack)
-      (subst (λ (p : Place). Leads p (kid_here before stack)) (sym (append-nil (cursor_in before stack)))
-      open_now.stands.leads)
+      (subst (λ (p : Place). Leads p (kid_here before stack)) (sym (append-nil (cursor_in before stack))) open_now.stands.leads)
 
   module _ (agree : LookupsAgree) (paths : LookupPathsAgree) (table : Table) (checked : IsChecked table) (by : IsPlanFor table plan)
       (suits : Suits table (root_shape plan) (tree_in_slots before stack)) where
@@ -321,8 +312,7 @@ module _ (plan : Plan) (before : List Slot) (stack : List ℕ) (open_now : IsOpe
 
     pub top_may_complete : IfInUse before n (MayComplete table plan)
     top_may_complete =
-        so_top plan before stack open_now n last (λ (x : Node). MayComplete table plan x)
-        (may_complete table plan
+        so_top plan before stack open_now n last (λ (x : Node). MayComplete table plan x) (may_complete table plan
         (shape_in table (root_shape plan) (cursor_in before stack) (tree_in_slots before stack))
         (top_node plan before stack open_now n last) (tree_at (cursor_in before stack) (tree_in_slots before stack)) here
         own shut)
@@ -339,8 +329,7 @@ module _ (plan : Plan) (before : List Slot) (stack : List ℕ) (open_now : IsOpe
         → IfInUse before n (λ (x : Node). WhyNotDefault means table (shape_of plan x.node) x.body kind)
         → (kind ≡ ReflectErrorKind.OutOfMemory) ⊎ LacksHere means table plan before stack kind
     top_refused means kind why =
-        go
-        (top_so plan before stack open_now n last
+        go (top_so plan before stack open_now n last
         (λ (x : Node). WhyNotDefault means table (shape_of plan x.node) x.body kind) why)
       where
         go : WhyNotDefault means table (shape_of plan (top_node plan before stack open_now n last).node)
@@ -367,13 +356,10 @@ module _ (plan : Plan) (before : List Slot) (stack : List ℕ) (open_now : IsOpe
 
       makes : complete deferred_column means table
           (shape_in table (root_shape plan) (cursor_in before stack) (tree_in_slots before stack))
-          (tree_at (cursor_in before stack) (tree_in_slots before stack))
-          ≡ Some fills.filled.value
+          (tree_at (cursor_in before stack) (tree_in_slots before stack)) ≡ Some fills.filled.value
       makes =
-          ap
-          (λ (s : ℕ). complete deferred_column means table s (tree_at (cursor_in before stack) (tree_in_slots before stack)))
-          (sym shape)
-          ∙ ap
+          ap (λ (s : ℕ). complete deferred_column means table s (tree_at (cursor_in before stack) (tree_in_slots before stack)))
+          (sym shape) ∙ ap
           (complete deferred_column means table (shape_of plan (top_node plan before stack open_now n last).node)) (sym own)
           ∙ fills.filled.meant
 
@@ -381,10 +367,7 @@ module _ (plan : Plan) (before : List Slot) (stack : List ℕ) (open_now : IsOpe
       module _ (after : List Slot) (body : Body)
           (valued : value_of body ≡ Some fills.filled.value) (may : MayHaveIts body) (has_base : HasBase body)
           (meant : finished_here means table (shape_of plan (top_node plan before stack open_now n last).node)
-          (own_tree (top_node plan before stack open_now n last).body)
-          ≡ Some (own_tree body))
-          (shows : (m : ℕ)
-          → heap_of after m
+          (own_tree (top_node plan before stack open_now n last).body) ≡ Some (own_tree body)) (shows : (m : ℕ) → heap_of after m
           ≡ with_slot (heap_of before) n (Some (record (top_node plan before stack open_now n last) { body = body })) m) where
         changed : Shows after (with_body (heap_of before) n (λ old. body))
         changed m =
@@ -401,17 +384,14 @@ module _ (plan : Plan) (before : List Slot) (stack : List ℕ) (open_now : IsOpe
               ∙ ap (finished_here means table (shape_of plan (top_node plan before stack open_now n last).node)) (sym own)
               ∙ meant;
           stands =
-              subst
-              (λ (t : Tree). IsOpenAt plan after stack (cursor_in before stack)
-              (change_at (cursor_in before stack) (λ old. t) (tree_in_slots before stack)))
-              (tree_back body)
+              subst (λ (t : Tree). IsOpenAt plan after stack (cursor_in before stack)
+              (change_at (cursor_in before stack) (λ old. t) (tree_in_slots before stack))) (tree_back body)
               (top_changed_held plan before after stack open_now n last (λ old. body) (closed_plot body)
               (body_back body (value_closed body fills.filled.value valued))
               (keeps_closed (open_top plan before stack open_now).plot (closed_plot body)
               (subst (λ (b : Body). MayHaveIts b) (sym (body_back body (value_closed body fills.filled.value valued))) may)
               (subst IsClosed (sym (body_back body (value_closed body fills.filled.value valued)))
-              (value_closed body fills.filled.value valued))
-              (λ all. value_left body fills.filled.value has_base valued))
+              (value_closed body fills.filled.value valued)) (λ all. value_left body fills.filled.value has_base valued))
               (loses_none (open_top plan before stack open_now).plot (closed_plot body) closed) changed);
         }
 
@@ -421,34 +401,28 @@ module _ (plan : Plan) (before : List Slot) (stack : List ℕ) (open_now : IsOpe
           where
             go : (m ≡ n) ⊎ (m ≢ n) → marked (heap_of after) m ≡ false
             go (inl e) =
-                ap (marked (heap_of after)) e
-                ∙ ap stored_in
-                (shows n
+                ap (marked (heap_of after)) e ∙ ap stored_in (shows n
                 ∙ slot_here (heap_of before) n (Some (record (top_node plan before stack open_now n last) { body = body })))
             go (inr ne) =
-                ap stored_in
-                (shows m
-                ∙ slot_other (heap_of before) n (Some (record (top_node plan before stack open_now n last) { body = body })) m
-                ne)
+                ap stored_in (shows m
+                ∙ slot_other (heap_of before) n (Some (record (top_node plan before stack open_now n last) { body = body })) m ne)
                 ∙ strict m
 
       -- one that stays as it was
-      module _ (form : IfInUse before n (λ (x : Node). IfInUse first n (λ (y : Node). KeepsForm x.body y.body)))
+      module _ (tracker : IfInUse before n (λ (x : Node). IfInUse first n (λ (y : Node). KeepsTracker x.body y.body)))
           (plain : IfInUse before n (λ (x : Node). false ≡ becomes_whole x.body)) where
-        kept_so : KeepsForm (top_node plan before stack open_now n last).body fills.body
+        kept_so : KeepsTracker (top_node plan before stack open_now n last).body fills.body
         kept_so =
             subst
-            (λ (o : Option Node). IsSomeAnd o (λ (y : Node). KeepsForm (top_node plan before stack open_now n last).body y.body))
-            first_found
-            (top_so plan before stack open_now n last
-            (λ (x : Node). IfInUse first n (λ (y : Node). KeepsForm x.body y.body)) form)
+            (λ (o : Option Node). IsSomeAnd o (λ (y : Node). KeepsTracker (top_node plan before stack open_now n last).body y.body))
+            first_found (top_so plan before stack open_now n last
+            (λ (x : Node). IfInUse first n (λ (y : Node). KeepsTracker x.body y.body)) tracker)
 
         not_whole : becomes_whole (top_node plan before stack open_now n last).body ≡ false
         not_whole = sym (top_so plan before stack open_now n last (λ (x : Node). false ≡ becomes_whole x.body) plain)
 
         it_may_have : MayHaveIts fills.body
-        it_may_have =
-            kept_may_have (top_node plan before stack open_now n last).body fills.body not_whole its_may_have kept_so
+        it_may_have = kept_may_have (top_node plan before stack open_now n last).body fills.body not_whole its_may_have kept_so
 
         it_has_base : HasBase fills.body
         unfolding top_node
@@ -456,20 +430,17 @@ module _ (plan : Plan) (before : List Slot) (stack : List ℕ) (open_now : IsOpe
             kept_base (top_node plan before stack open_now n last).body fills.body not_whole
             (left_base (open_top plan before stack open_now).plot
             (subst (λ (x : Kid). AreLeftRightly x) (open_top plan before stack open_now).is
-            (left_at (cursor_in before stack) (kid_here before stack) open_now.stands.left)))
-            kept_so
+            (left_at (cursor_in before stack) (kid_here before stack) open_now.stands.left))) kept_so
 
         as_it_was : finished_here means table (shape_of plan (top_node plan before stack open_now n last).node)
-            (own_tree (top_node plan before stack open_now n last).body)
-            ≡ Some (own_tree fills.body)
+            (own_tree (top_node plan before stack open_now n last).body) ≡ Some (own_tree fills.body)
         as_it_was =
             finished_as means table (shape_of plan (top_node plan before stack open_now n last).node)
             (top_node plan before stack open_now n last).body fills.body fills.filled.value not_whole its_may_have kept_so
             fills.filled.meant fills.filled.held
 
         pub finished_begun : FinishedHere means table plan before stack first
-        finished_begun =
-            finished_now first fills.body fills.filled.held it_may_have it_has_base as_it_was fills.becomes
+        finished_begun = finished_now first fills.body fills.filled.held it_may_have it_has_base as_it_was fills.becomes
 
         pub nothing_begun : NothingStored first
         nothing_begun = nothing_now first fills.body fills.filled.held it_may_have it_has_base as_it_was fills.becomes
@@ -481,14 +452,11 @@ module _ (plan : Plan) (before : List Slot) (stack : List ℕ) (open_now : IsOpe
         becomes : Becomes first after n (record (top_node plan before stack open_now n last) { body = fills.body })
             (whole_body fills.filled.value)
         becomes =
-            subst
-            (λ (o : Option Node). IsSomeAnd o
+            subst (λ (o : Option Node). IsSomeAnd o
             (λ (x : Node). (v : Val) → value_of x.body ≡ Some v → Becomes first after n x (whole_body v)))
             first_found whole_then fills.filled.value fills.filled.held
 
-        shows_whole : (m : ℕ)
-            → heap_of after m
-            ≡ with_slot (heap_of before) n
+        shows_whole : (m : ℕ) → heap_of after m ≡ with_slot (heap_of before) n
             (Some (record (top_node plan before stack open_now n last) { body = whole_body fills.filled.value })) m
         shows_whole m = go (same_or_other m n)
           where
@@ -498,21 +466,17 @@ module _ (plan : Plan) (before : List Slot) (stack : List ℕ) (open_now : IsOpe
             mid : Node
             mid = record (top_node plan before stack open_now n last) { body = fills.body }
 
-            go : (m ≡ n) ⊎ (m ≢ n)
-                → heap_of after m
-                ≡ with_slot (heap_of before) n
+            go : (m ≡ n) ⊎ (m ≢ n) → heap_of after m ≡ with_slot (heap_of before) n
                 (Some (record (top_node plan before stack open_now n last) { body = whole_body fills.filled.value })) m
             go (inl e) =
                 ap (heap_of after) e ∙ becomes n ∙ slot_here (heap_of first) n (Some new)
-                ∙ sym (slot_here (heap_of before) n (Some new))
-                ∙ ap (with_slot (heap_of before) n (Some new)) (sym e)
+                ∙ sym (slot_here (heap_of before) n (Some new)) ∙ ap (with_slot (heap_of before) n (Some new)) (sym e)
             go (inr ne) =
                 becomes m ∙ slot_other (heap_of first) n (Some new) m ne ∙ fills.becomes m
                 ∙ slot_other (heap_of before) n (Some mid) m ne ∙ sym (slot_other (heap_of before) n (Some new) m ne)
 
         as_whole : finished_here means table (shape_of plan (top_node plan before stack open_now n last).node)
-            (own_tree (top_node plan before stack open_now n last).body)
-            ≡ Some (own_tree (whole_body fills.filled.value))
+            (own_tree (top_node plan before stack open_now n last).body) ≡ Some (own_tree (whole_body fills.filled.value))
         as_whole =
             whole_as means table (shape_of plan (top_node plan before stack open_now n last).node)
             (top_node plan before stack open_now n last).body fills.filled.value

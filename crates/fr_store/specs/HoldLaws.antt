@@ -1,7 +1,7 @@
 -- Laws of what heaps hold, for proofs: other heaps that hold the same, or the same with something else at one place.
 use Rattle.std.proofs.Common.{◌≡◌, ◌≢◌, ◌⊎◌, ℕ, zero, suc, ◌+◌, ◌<◌, Bool, false, List, [], ◌∷◌, ◌++◌, length, nat_eq, Option, Some, None, inl, inr, refl, sym, ◌∙◌, ap, subst, arith}
 use Rattle.fr_model.specs.Places.{Place}
-use Rattle.fr_model.specs.Tree.{Form}
+use Rattle.fr_model.specs.Trackers.{Tracker}
 use Rattle.fr_plan.specs.declared.nodes.NodeId.{NodeId}
 use Rattle.fr_plan.specs.TypePlan.{Plan}
 use Rattle.fr_frame.specs.declared.places.FrameOwner.{FrameOwner}
@@ -34,17 +34,17 @@ mutual
       → HoldsIn plan other node slot depth plot
   holds_frame_in plan heap other node slot depth entered_plot holds agree = tt
   holds_frame_in plan heap other node slot depth (whole_plot v) holds agree = tt
-  holds_frame_in plan heap other node slot depth (begun_plot form kids) holds agree =
-      holds_frame_among plan heap other node slot form 0 depth kids holds agree
+  holds_frame_in plan heap other node slot depth (begun_plot tracker kids) holds agree =
+      holds_frame_among plan heap other node slot tracker 0 depth kids holds agree
 
-  pub holds_frame_among : (plan : Plan) (heap other : Heap) (node : NodeId) (slot : ℕ) (form : Form) (i depth : ℕ) (ks : Kids)
-      → HoldsAll plan heap node slot form i depth ks → ((n : ℕ) → 0 < uses_among ks n → other n ≡ heap n)
-      → HoldsAll plan other node slot form i depth ks
-  holds_frame_among plan heap other node slot form i depth no_kids holds agree = holds
-  holds_frame_among plan heap other node slot form i depth (kid k ks) holds agree = (
-    holds_frame plan heap other (child_node plan node form i) (child_owner slot i) depth k holds.0
+  pub holds_frame_among : (plan : Plan) (heap other : Heap) (node : NodeId) (slot : ℕ) (tracker : Tracker) (i depth : ℕ) (ks : Kids)
+      → HoldsAll plan heap node slot tracker i depth ks → ((n : ℕ) → 0 < uses_among ks n → other n ≡ heap n)
+      → HoldsAll plan other node slot tracker i depth ks
+  holds_frame_among plan heap other node slot tracker i depth no_kids holds agree = holds
+  holds_frame_among plan heap other node slot tracker i depth (kid k ks) holds agree = (
+    holds_frame plan heap other (child_node plan node tracker i) (child_owner slot i) depth k holds.0
         (λ n h. agree n (omega arith)),
-    holds_frame_among plan heap other node slot form (suc i) depth ks holds.1 (λ n h. agree n (omega arith)),
+    holds_frame_among plan heap other node slot tracker (suc i) depth ks holds.1 (λ n h. agree n (omega arith)),
   )
 
 -- a slot that is free doesn't serve
@@ -64,15 +64,15 @@ mutual
       → HoldsIn plan heap node slot depth plot → heap n ≡ None → uses_in plot n ≡ 0
   unused_in plan heap node slot depth entered_plot n holds free = refl
   unused_in plan heap node slot depth (whole_plot v) n holds free = refl
-  unused_in plan heap node slot depth (begun_plot form kids) n holds free =
-      unused_among plan heap node slot form 0 depth kids n holds free
+  unused_in plan heap node slot depth (begun_plot tracker kids) n holds free =
+      unused_among plan heap node slot tracker 0 depth kids n holds free
 
-  unused_among : (plan : Plan) (heap : Heap) (node : NodeId) (slot : ℕ) (form : Form) (i depth : ℕ) (ks : Kids) (n : ℕ)
-      → HoldsAll plan heap node slot form i depth ks → heap n ≡ None → uses_among ks n ≡ 0
-  unused_among plan heap node slot form i depth no_kids n holds free = refl
-  unused_among plan heap node slot form i depth (kid k ks) n holds free =
+  unused_among : (plan : Plan) (heap : Heap) (node : NodeId) (slot : ℕ) (tracker : Tracker) (i depth : ℕ) (ks : Kids) (n : ℕ)
+      → HoldsAll plan heap node slot tracker i depth ks → heap n ≡ None → uses_among ks n ≡ 0
+  unused_among plan heap node slot tracker i depth no_kids n holds free = refl
+  unused_among plan heap node slot tracker i depth (kid k ks) n holds free =
       omega
-      (arith, unused plan heap (child_node plan node form i) (child_owner slot i) depth k n holds.0 free, unused_among plan heap node slot form (suc i) depth ks n holds.1 free)
+      (arith, unused plan heap (child_node plan node tracker i) (child_owner slot i) depth k n holds.0 free, unused_among plan heap node slot tracker (suc i) depth ks n holds.1 free)
 
 -- where nothing that the heap holds is stored
 mutual
@@ -87,28 +87,28 @@ mutual
       → HoldsIn plan heap node slot depth plot → ((n : ℕ) → marked heap n ≡ false) → AllMarkedIn false plot
   none_stored_in plan heap node slot depth entered_plot holds none = tt
   none_stored_in plan heap node slot depth (whole_plot v) holds none = tt
-  none_stored_in plan heap node slot depth (begun_plot form kids) holds none =
-      none_stored_among plan heap node slot form 0 depth kids holds none
+  none_stored_in plan heap node slot depth (begun_plot tracker kids) holds none =
+      none_stored_among plan heap node slot tracker 0 depth kids holds none
 
-  none_stored_among : (plan : Plan) (heap : Heap) (node : NodeId) (slot : ℕ) (form : Form) (i depth : ℕ) (ks : Kids)
-      → HoldsAll plan heap node slot form i depth ks → ((n : ℕ) → marked heap n ≡ false) → AllMarkedAmong false ks
-  none_stored_among plan heap node slot form i depth no_kids holds none = tt
-  none_stored_among plan heap node slot form i depth (kid k ks) holds none = (
-    none_stored plan heap (child_node plan node form i) (child_owner slot i) depth k holds.0 none,
-    none_stored_among plan heap node slot form (suc i) depth ks holds.1 none,
+  none_stored_among : (plan : Plan) (heap : Heap) (node : NodeId) (slot : ℕ) (tracker : Tracker) (i depth : ℕ) (ks : Kids)
+      → HoldsAll plan heap node slot tracker i depth ks → ((n : ℕ) → marked heap n ≡ false) → AllMarkedAmong false ks
+  none_stored_among plan heap node slot tracker i depth no_kids holds none = tt
+  none_stored_among plan heap node slot tracker i depth (kid k ks) holds none = (
+    none_stored plan heap (child_node plan node tracker i) (child_owner slot i) depth k holds.0 none,
+    none_stored_among plan heap node slot tracker (suc i) depth ks holds.1 none,
   )
 
 -- One child of many, and one place.
 
-pub holds_nth : (plan : Plan) (heap : Heap) (node : NodeId) (slot : ℕ) (form : Form) (first depth : ℕ) (ks : Kids) (i m : ℕ)
-    → m ≡ first + i → i < count_kids ks → HoldsAll plan heap node slot form first depth ks
-    → Holds plan heap (child_node plan node form m) (child_owner slot m) depth (kid_nth i ks)
-holds_nth plan heap node slot form first depth no_kids i m e h holds = absurd (omega arith)
-holds_nth plan heap node slot form first depth (kid k ks) zero m e h holds =
+pub holds_nth : (plan : Plan) (heap : Heap) (node : NodeId) (slot : ℕ) (tracker : Tracker) (first depth : ℕ) (ks : Kids) (i m : ℕ)
+    → m ≡ first + i → i < count_kids ks → HoldsAll plan heap node slot tracker first depth ks
+    → Holds plan heap (child_node plan node tracker m) (child_owner slot m) depth (kid_nth i ks)
+holds_nth plan heap node slot tracker first depth no_kids i m e h holds = absurd (omega arith)
+holds_nth plan heap node slot tracker first depth (kid k ks) zero m e h holds =
     let same : first ≡ m = omega arith in
-    subst (λ (j : ℕ). Holds plan heap (child_node plan node form j) (child_owner slot j) depth k) same holds.0
-holds_nth plan heap node slot form first depth (kid k ks) (suc i) m e h holds =
-    holds_nth plan heap node slot form (suc first) depth ks i m (omega arith) (omega arith) holds.1
+    subst (λ (j : ℕ). Holds plan heap (child_node plan node tracker j) (child_owner slot j) depth k) same holds.0
+holds_nth plan heap node slot tracker first depth (kid k ks) (suc i) m e h holds =
+    holds_nth plan heap node slot tracker (suc first) depth ks i m (omega arith) (omega arith) holds.1
 
 -- what lies at a place is held there: by the plan's node along the way, as a child of what lies above
 pub holds_at : (plan : Plan) (heap : Heap) (node : NodeId) (owner : FrameOwner) (depth : ℕ) (place : Place) (k : Kid)
@@ -117,40 +117,37 @@ pub holds_at : (plan : Plan) (heap : Heap) (node : NodeId) (owner : FrameOwner) 
 holds_at plan heap node owner depth [] k holds reach =
     let same : depth ≡ depth + 0 = omega arith in
     subst (λ (d : ℕ). Holds plan heap node owner d k) same holds
-holds_at plan heap node owner depth (i ∷ place) (at slot stored (begun_plot form kids)) holds reach =
+holds_at plan heap node owner depth (i ∷ place) (at slot stored (begun_plot tracker kids)) holds reach =
     let same : suc depth + length place ≡ depth + suc (length place) = omega arith in
-    let child = holds_nth plan heap node slot form 0 (suc depth) kids i i (omega arith) reach.0 holds.2 in
-    subst
-    (λ (d : ℕ). Holds plan heap (node_along plan (child_node plan node form i) place (kid_nth i kids))
-    (owner_along (child_owner slot i) place (kid_nth i kids)) d (kid_at place (kid_nth i kids)))
-    same
-    (holds_at plan heap (child_node plan node form i) (child_owner slot i) (suc depth) place (kid_nth i kids) child
-    reach.1)
+    let child = holds_nth plan heap node slot tracker 0 (suc depth) kids i i (omega arith) reach.0 holds.2 in
+    subst (λ (d : ℕ). Holds plan heap (node_along plan (child_node plan node tracker i) place (kid_nth i kids))
+    (owner_along (child_owner slot i) place (kid_nth i kids)) d (kid_at place (kid_nth i kids))) same
+    (holds_at plan heap (child_node plan node tracker i) (child_owner slot i) (suc depth) place (kid_nth i kids) child reach.1)
 holds_at plan heap node owner depth (i ∷ place) _ holds reach = absurd reach
 
 -- a place that is held has no more children than it may
-pub may_have : (plan : Plan) (heap : Heap) (node : NodeId) (slot : ℕ) (form : Form) (first depth : ℕ) (ks : Kids) (count : ℕ)
-    → count ≡ first + count_kids ks → HoldsAll plan heap node slot form first depth ks → MayHave form count
-may_have plan heap node slot form first depth no_kids count e holds =
+pub may_have : (plan : Plan) (heap : Heap) (node : NodeId) (slot : ℕ) (tracker : Tracker) (first depth : ℕ) (ks : Kids) (count : ℕ)
+    → count ≡ first + count_kids ks → HoldsAll plan heap node slot tracker first depth ks → MayHave tracker count
+may_have plan heap node slot tracker first depth no_kids count e holds =
     let same : first ≡ count = omega arith in
-    subst (λ (n : ℕ). MayHave form n) same holds
-may_have plan heap node slot form first depth (kid k ks) count e holds =
-    may_have plan heap node slot form (suc first) depth ks count (omega arith) holds.1
+    subst (λ (n : ℕ). MayHave tracker n) same holds
+may_have plan heap node slot tracker first depth (kid k ks) count e holds =
+    may_have plan heap node slot tracker (suc first) depth ks count (omega arith) holds.1
 
-pub may_have_all : (plan : Plan) (heap : Heap) (node : NodeId) (slot : ℕ) (form : Form) (depth : ℕ) (ks : Kids)
-    → HoldsAll plan heap node slot form 0 depth ks → MayHave form (count_kids ks)
-may_have_all plan heap node slot form depth ks holds =
-    may_have plan heap node slot form 0 depth ks (count_kids ks) (omega arith) holds
+pub may_have_all : (plan : Plan) (heap : Heap) (node : NodeId) (slot : ℕ) (tracker : Tracker) (depth : ℕ) (ks : Kids)
+    → HoldsAll plan heap node slot tracker 0 depth ks → MayHave tracker (count_kids ks)
+may_have_all plan heap node slot tracker depth ks holds =
+    may_have plan heap node slot tracker 0 depth ks (count_kids ks) (omega arith) holds
 
 -- of a place that is reached
 pub may_have_at : (plan : Plan) (heap : Heap) (node : NodeId) (owner : FrameOwner) (depth : ℕ) (place : Place) (k : Kid)
-    (slot : ℕ) (stored : Bool) (form : Form) (kids : Kids) → Holds plan heap node owner depth k → Reaches place k
-    → kid_at place k ≡ at slot stored (begun_plot form kids) → MayHave form (count_kids kids)
-may_have_at plan heap node owner depth place k slot stored form kids holds reach is =
+    (slot : ℕ) (stored : Bool) (tracker : Tracker) (kids : Kids) → Holds plan heap node owner depth k → Reaches place k
+    → kid_at place k ≡ at slot stored (begun_plot tracker kids) → MayHave tracker (count_kids kids)
+may_have_at plan heap node owner depth place k slot stored tracker kids holds reach is =
     let held = subst
     (λ (x : Kid). Holds plan heap (node_along plan node place k) (owner_along owner place k) (depth + length place) x) is
     (holds_at plan heap node owner depth place k holds reach) in
-    may_have_all plan heap (node_along plan node place k) slot form (suc (depth + length place)) kids held.2
+    may_have_all plan heap (node_along plan node place k) slot tracker (suc (depth + length place)) kids held.2
 
 -- Something else at one place.
 
@@ -164,37 +161,37 @@ Replaces plan heap other old new =
 abbrev pub AgreeBeside : Heap → Heap → Kid → (part : Kid) → Type 0
 AgreeBeside heap other k part = (n : ℕ) → uses part n < uses k n → other n ≡ heap n
 
-pub replaced_nth : (plan : Plan) (heap other : Heap) (node : NodeId) (slot : ℕ) (form : Form) (first depth : ℕ) (ks : Kids)
+pub replaced_nth : (plan : Plan) (heap other : Heap) (node : NodeId) (slot : ℕ) (tracker : Tracker) (first depth : ℕ) (ks : Kids)
     (i : ℕ) (new : Kid) → Replaces plan heap other (kid_nth i ks) new
     → ((n : ℕ) → uses (kid_nth i ks) n < uses_among ks n → other n ≡ heap n)
-    → HoldsAll plan heap node slot form first depth ks → HoldsAll plan other node slot form first depth (put_nth i new ks)
-replaced_nth plan heap other node slot form first depth no_kids i new step agree holds = holds
-replaced_nth plan heap other node slot form first depth (kid k ks) zero new step agree holds = (
-  step (child_node plan node form first) (child_owner slot first) depth holds.0,
-  holds_frame_among plan heap other node slot form (suc first) depth ks holds.1 (λ n h. agree n (omega arith)),
+    → HoldsAll plan heap node slot tracker first depth ks → HoldsAll plan other node slot tracker first depth (put_nth i new ks)
+replaced_nth plan heap other node slot tracker first depth no_kids i new step agree holds = holds
+replaced_nth plan heap other node slot tracker first depth (kid k ks) zero new step agree holds = (
+  step (child_node plan node tracker first) (child_owner slot first) depth holds.0,
+  holds_frame_among plan heap other node slot tracker (suc first) depth ks holds.1 (λ n h. agree n (omega arith)),
 )
-replaced_nth plan heap other node slot form first depth (kid k ks) (suc i) new step agree holds = (
-  holds_frame plan heap other (child_node plan node form first) (child_owner slot first) depth k holds.0
+replaced_nth plan heap other node slot tracker first depth (kid k ks) (suc i) new step agree holds = (
+  holds_frame plan heap other (child_node plan node tracker first) (child_owner slot first) depth k holds.0
       (λ n h. agree n (omega (arith, uses_nth i ks n))),
-  replaced_nth plan heap other node slot form (suc first) depth ks i new step (λ n h. agree n (omega arith)) holds.1,
+  replaced_nth plan heap other node slot tracker (suc first) depth ks i new step (λ n h. agree n (omega arith)) holds.1,
 )
 
 -- another child in the stead of one, the others as they were
-pub holds_put_nth : (plan : Plan) (heap other : Heap) (node : NodeId) (slot : ℕ) (form : Form) (first depth : ℕ) (ks : Kids)
+pub holds_put_nth : (plan : Plan) (heap other : Heap) (node : NodeId) (slot : ℕ) (tracker : Tracker) (first depth : ℕ) (ks : Kids)
     (i m : ℕ) (new : Kid) → m ≡ first + i → ((n : ℕ) → uses (kid_nth i ks) n < uses_among ks n → other n ≡ heap n)
-    → HoldsAll plan heap node slot form first depth ks
-    → Holds plan other (child_node plan node form m) (child_owner slot m) depth new
-    → HoldsAll plan other node slot form first depth (put_nth i new ks)
-holds_put_nth plan heap other node slot form first depth no_kids i m new e agree holds is = holds
-holds_put_nth plan heap other node slot form first depth (kid k ks) zero m new e agree holds is =
+    → HoldsAll plan heap node slot tracker first depth ks
+    → Holds plan other (child_node plan node tracker m) (child_owner slot m) depth new
+    → HoldsAll plan other node slot tracker first depth (put_nth i new ks)
+holds_put_nth plan heap other node slot tracker first depth no_kids i m new e agree holds is = holds
+holds_put_nth plan heap other node slot tracker first depth (kid k ks) zero m new e agree holds is =
     let same : m ≡ first = omega arith in (
-      subst (λ (j : ℕ). Holds plan other (child_node plan node form j) (child_owner slot j) depth new) same is,
-      holds_frame_among plan heap other node slot form (suc first) depth ks holds.1 (λ n h. agree n (omega arith)),
+      subst (λ (j : ℕ). Holds plan other (child_node plan node tracker j) (child_owner slot j) depth new) same is,
+      holds_frame_among plan heap other node slot tracker (suc first) depth ks holds.1 (λ n h. agree n (omega arith)),
     )
-holds_put_nth plan heap other node slot form first depth (kid k ks) (suc i) m new e agree holds is = (
-  holds_frame plan heap other (child_node plan node form first) (child_owner slot first) depth k holds.0
+holds_put_nth plan heap other node slot tracker first depth (kid k ks) (suc i) m new e agree holds is = (
+  holds_frame plan heap other (child_node plan node tracker first) (child_owner slot first) depth k holds.0
       (λ n h. agree n (omega (arith, uses_nth i ks n))),
-  holds_put_nth plan heap other node slot form (suc first) depth ks i m new (omega arith) (λ n h. agree n (omega arith))
+  holds_put_nth plan heap other node slot tracker (suc first) depth ks i m new (omega arith) (λ n h. agree n (omega arith))
       holds.1 is,
 )
 
@@ -223,7 +220,7 @@ replaces_at plan heap other (i ∷ place) new (at slot stored entered_plot) same
 replaces_at plan heap other (i ∷ place) new (at slot stored (whole_plot v)) same agree step node owner depth holds =
     holds_frame plan heap other node owner depth (at slot stored (whole_plot v)) holds
     (λ n h. agree n (omega (arith, uses_at place gone n)))
-replaces_at plan heap other (i ∷ place) new (at slot stored (begun_plot form kids)) same agree step node owner depth holds =
+replaces_at plan heap other (i ∷ place) new (at slot stored (begun_plot tracker kids)) same agree step node owner depth holds =
     let child : Kid = kid_nth i kids in (
       agree slot (omega (arith, counts_same slot, uses_at place child slot, uses_nth i kids slot)) ∙ holds.0
           ∙ ap (λ (cells : List Cell). Some (record {
@@ -231,13 +228,11 @@ replaces_at plan heap other (i ∷ place) new (at slot stored (begun_plot form k
             owner = owner;
             stored = stored;
             depth = depth;
-            body = begun_body form cells;
-          }))
-          (sym (cells_put_nth i (put_at place new child) kids (cell_put_at place new child same))),
+            body = begun_body tracker cells;
+          })) (sym (cells_put_nth i (put_at place new child) kids (cell_put_at place new child same))),
       holds.1,
-      replaced_nth plan heap other node slot form 0 (suc depth) kids i (put_at place new child)
-          (replaces_at plan heap other place new child same
-          (λ n h. agree n (omega (arith, uses_nth i kids n))) step)
+      replaced_nth plan heap other node slot tracker 0 (suc depth) kids i (put_at place new child)
+          (replaces_at plan heap other place new child same (λ n h. agree n (omega (arith, uses_nth i kids n))) step)
           (λ n h. agree n (omega (arith, uses_at place child n))) holds.2,
     )
 
@@ -254,8 +249,7 @@ mutual
   read_back plan heap node owner depth levels gone e holds = refl
   read_back plan heap node owner depth levels (there v) e holds = refl
   read_back plan heap node owner depth levels (at slot stored plot) e holds =
-      go (level_below levels depth e holds.1)
-      (λ less deep. read_back_in plan heap node slot (suc depth) less plot deep holds.2)
+      go (level_below levels depth e holds.1) (λ less deep. read_back_in plan heap node slot (suc depth) less plot deep holds.2)
     where
       go : (less : ℕ) × (levels ≡ suc less)
           → ((less : ℕ) → less + suc depth ≡ depth_limit → plot_in (kid_from less heap) (body_in plot) ≡ plot)
@@ -269,17 +263,17 @@ mutual
       → plot_in (kid_from levels heap) (body_in plot) ≡ plot
   read_back_in plan heap node slot depth levels entered_plot e holds = refl
   read_back_in plan heap node slot depth levels (whole_plot v) e holds = refl
-  read_back_in plan heap node slot depth levels (begun_plot form kids) e holds =
-      ap (λ (ks : Kids). begun_plot form ks) (read_back_among plan heap node slot form 0 depth levels kids e holds)
+  read_back_in plan heap node slot depth levels (begun_plot tracker kids) e holds =
+      ap (λ (ks : Kids). begun_plot tracker ks) (read_back_among plan heap node slot tracker 0 depth levels kids e holds)
 
-  read_back_among : (plan : Plan) (heap : Heap) (node : NodeId) (slot : ℕ) (form : Form) (i depth levels : ℕ) (ks : Kids)
-      → levels + depth ≡ depth_limit → HoldsAll plan heap node slot form i depth ks
+  read_back_among : (plan : Plan) (heap : Heap) (node : NodeId) (slot : ℕ) (tracker : Tracker) (i depth levels : ℕ) (ks : Kids)
+      → levels + depth ≡ depth_limit → HoldsAll plan heap node slot tracker i depth ks
       → kids_in (kid_from levels heap) (cells_in ks) ≡ ks
-  read_back_among plan heap node slot form i depth levels no_kids e holds = refl
-  read_back_among plan heap node slot form i depth levels (kid k ks) e holds =
+  read_back_among plan heap node slot tracker i depth levels no_kids e holds = refl
+  read_back_among plan heap node slot tracker i depth levels (kid k ks) e holds =
       ap (λ (x : Kid). kid x (kids_in (kid_from levels heap) (cells_in ks)))
-      (read_back plan heap (child_node plan node form i) (child_owner slot i) depth levels k e holds.0)
-      ∙ ap (λ (xs : Kids). kid k xs) (read_back_among plan heap node slot form (suc i) depth levels ks e holds.1)
+      (read_back plan heap (child_node plan node tracker i) (child_owner slot i) depth levels k e holds.0)
+      ∙ ap (λ (xs : Kids). kid k xs) (read_back_among plan heap node slot tracker (suc i) depth levels ks e holds.1)
 
 -- the numbers that the owners tell are the place
 pub numbers_read : (plan : Plan) (heap : Heap) (node : NodeId) (owner : FrameOwner) (depth : ℕ) (place : Place) (k : Kid)
@@ -289,13 +283,13 @@ numbers_read plan heap node owner depth [] (at slot stored plot) holds leads =
     ap (λ (found : Option Node). number_to found ++ []) holds.0
 numbers_read plan heap node owner depth [] gone holds leads = absurd leads
 numbers_read plan heap node owner depth [] (there v) holds leads = absurd leads
-numbers_read plan heap node owner depth (i ∷ place) (at slot stored (begun_plot form kids)) holds leads =
-    let reach = leads_reach (i ∷ []) place (at slot stored (begun_plot form kids)) leads in
-    let child = holds_nth plan heap node slot form 0 (suc depth) kids i i (omega arith) reach.0 holds.2 in
+numbers_read plan heap node owner depth (i ∷ place) (at slot stored (begun_plot tracker kids)) holds leads =
+    let reach = leads_reach (i ∷ []) place (at slot stored (begun_plot tracker kids)) leads in
+    let child = holds_nth plan heap node slot tracker 0 (suc depth) kids i i (omega arith) reach.0 holds.2 in
     ap (λ (found : Option Node). number_to found ++ cursor_shown heap (slots_along place (kid_nth i kids))) holds.0
     ∙ ap (λ (more : Place). number_of_owner owner ++ more)
-    (numbers_read plan heap (child_node plan node form i) (child_owner slot i) (suc depth) place (kid_nth i kids) child
-    (leads_at (i ∷ []) place (at slot stored (begun_plot form kids)) leads))
+    (numbers_read plan heap (child_node plan node tracker i) (child_owner slot i) (suc depth) place (kid_nth i kids) child
+    (leads_at (i ∷ []) place (at slot stored (begun_plot tracker kids)) leads))
 numbers_read plan heap node owner depth (i ∷ place) (at slot stored entered_plot) holds leads = absurd leads.1
 numbers_read plan heap node owner depth (i ∷ place) (at slot stored (whole_plot v)) holds leads = absurd leads.1
 numbers_read plan heap node owner depth (i ∷ place) gone holds leads = absurd leads

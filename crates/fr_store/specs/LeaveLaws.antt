@@ -4,7 +4,7 @@ use Rattle.std.specs.Prelude.{if◌then◌else◌}
 use Rattle.std.proofs.lemmas.Grind.{common_steps}
 use Rattle.std.proofs.lemmas.Bool.Decides.{nat_tests}
 use Rattle.fr_model.specs.Places.{Place, is_root, up}
-use Rattle.fr_model.specs.Tree.{Form}
+use Rattle.fr_model.specs.Trackers.{Tracker}
 use Rattle.fr_frame.specs.declared.places.FrameOwner.{FrameOwner}
 use Rattle.fr_frame.specs.Bodies.{begun_body, cell_at, with_cell, unlinked, unlinked_by}
 use Rattle.fr_frame.specs.Cells.{Cell, absent, placed}
@@ -34,10 +34,9 @@ above_append [] i (at slot s p) leads q stored plot e =
     let same : slot ≡ q = cc in ap (λ (n : ℕ). n ∷ []) same
 above_append [] i gone leads q stored plot e = absurd leads
 above_append [] i (there v) leads q stored plot e = absurd leads
-above_append (j ∷ place) i (at slot s (begun_plot form kids)) leads q stored plot e =
-    ap (λ (slots : List ℕ). slot ∷ slots)
-    (above_append place i (kid_nth j kids)
-    (leads_at (j ∷ []) (place ++ i ∷ []) (at slot s (begun_plot form kids)) leads) q stored plot e)
+above_append (j ∷ place) i (at slot s (begun_plot tracker kids)) leads q stored plot e =
+    ap (λ (slots : List ℕ). slot ∷ slots) (above_append place i (kid_nth j kids)
+    (leads_at (j ∷ []) (place ++ i ∷ []) (at slot s (begun_plot tracker kids)) leads) q stored plot e)
 above_append (j ∷ place) i (at slot s entered_plot) leads q stored plot e = absurd leads.1
 above_append (j ∷ place) i (at slot s (whole_plot v)) leads q stored plot e = absurd leads.1
 above_append (j ∷ place) i gone leads q stored plot e = absurd leads
@@ -68,30 +67,27 @@ cells_put i new no_kids = refl
 cells_put zero new (kid k ks) = refl
 cells_put (suc i) new (kid k ks) = ap (λ (cs : List Cell). cell_of k ∷ cs) (cells_put i new ks)
 
-pub cell_of_child : (form : Form) (i : ℕ) (ks : Kids) → MayHave form (count_kids ks) → i < count_kids ks
-    → cell_at (begun_body form (cells_in ks)) i ≡ Some (cell_of (kid_nth i ks))
-cell_of_child form i ks may h = cells_nth i ks h
+pub cell_of_child : (tracker : Tracker) (i : ℕ) (ks : Kids) → MayHave tracker (count_kids ks) → i < count_kids ks
+    → cell_at (begun_body tracker (cells_in ks)) i ≡ Some (cell_of (kid_nth i ks))
+cell_of_child tracker i ks may h = cells_nth i ks h
 
-pub with_child : (form : Form) (i : ℕ) (new : Kid) (ks : Kids) → MayHave form (count_kids ks) → i < count_kids ks
-    → with_cell (begun_body form (cells_in ks)) i (cell_of new) ≡ begun_body form (cells_in (put_nth i new ks))
-with_child form i new ks may h = ap (begun_body form) (cells_put i new ks)
+pub with_child : (tracker : Tracker) (i : ℕ) (new : Kid) (ks : Kids) → MayHave tracker (count_kids ks) → i < count_kids ks
+    → with_cell (begun_body tracker (cells_in ks)) i (cell_of new) ≡ begun_body tracker (cells_in (put_nth i new ks))
+with_child tracker i new ks may h = ap (begun_body tracker) (cells_put i new ks)
 
 -- as many children as before
-pub may_have_put : (form : Form) (i : ℕ) (new : Kid) (ks : Kids) → MayHave form (count_kids ks)
-    → MayHave form (count_kids (put_nth i new ks))
-may_have_put form i new ks may = subst (λ (n : ℕ). MayHave form n) (sym (count_put i new ks)) may
+pub may_have_put : (tracker : Tracker) (i : ℕ) (new : Kid) (ks : Kids) → MayHave tracker (count_kids ks)
+    → MayHave tracker (count_kids (put_nth i new ks))
+may_have_put tracker i new ks may = subst (λ (n : ℕ). MayHave tracker n) (sym (count_put i new ks)) may
 
 pub within_put : (i : ℕ) (new : Kid) (ks : Kids) → i < count_kids ks → i < count_kids (put_nth i new ks)
 within_put i new ks h = subst (λ (n : ℕ). i < n) (sym (count_put i new ks)) h
 
-pub unlinked_child : (form : Form) (i n : ℕ) (ks : Kids) → MayHave form (count_kids ks) → i < count_kids ks
+pub unlinked_child : (tracker : Tracker) (i n : ℕ) (ks : Kids) → MayHave tracker (count_kids ks) → i < count_kids ks
     → cell_of (kid_nth i ks) ≡ placed n
-    → unlinked n i (begun_body form (cells_in ks)) ≡ begun_body form (cells_in (put_nth i gone ks))
-unlinked_child form i n ks may h is =
+    → unlinked n i (begun_body tracker (cells_in ks)) ≡ begun_body tracker (cells_in (put_nth i gone ks))
+unlinked_child tracker i n ks may h is =
     let e : nat_eq n n ≡ true = grind (arith, common_steps, nat_tests) in
-    ap (unlinked_by n i (begun_body form (cells_in ks)))
-    (cell_of_child form i ks may h ∙ ap (λ (c : Cell). Some c) is)
-    ∙ ap
-    (λ (b : Bool). if b then with_cell (begun_body form (cells_in ks)) i absent
-    else begun_body form (cells_in ks)) e
-    ∙ with_child form i gone ks may h
+    ap (unlinked_by n i (begun_body tracker (cells_in ks))) (cell_of_child tracker i ks may h ∙ ap (λ (c : Cell). Some c) is) ∙ ap
+    (λ (b : Bool). if b then with_cell (begun_body tracker (cells_in ks)) i absent
+    else begun_body tracker (cells_in ks)) e ∙ with_child tracker i gone ks may h

@@ -1,9 +1,9 @@
 -- Laws of what is never stored, for proofs: items of a set, parts of a dynamic value, and what a map had when it was begun.
 use Rattle.std.proofs.Common.{◌≡◌, ℕ, zero, suc, ◌+◌, ◌≤◌, Bool, true, false, ◌∷◌, [], refl, sym, subst, arith}
-use Rattle.fr_model.specs.Collections.{is_map_form}
+use Rattle.fr_model.specs.Collections.{is_map_tracker}
 use Rattle.fr_shape.specs.Val.{Val}
 use Rattle.fr_model.specs.Places.{Place, entry_of}
-use Rattle.fr_model.specs.Tree.{Form, as_set, as_map, as_dyn_array, as_dyn_object, base_of_form}
+use Rattle.fr_model.specs.Trackers.{Tracker, as_items, ItemsKind, as_entries, EntriesKind, base_of_tracker}
 use Rattle.fr_frame.specs.Kids.{Kid, gone, there, at, Plot, begun_plot, Kids, no_kids, kid, is_stored, IsThere, IsLeftRightly, AreLeftRightly, AreLeftAll}
 use Rattle.fr_store.specs.Moves.{takes_at_end_as}
 use Rattle.fr_store.specs.Ways.{count_kids, kid_nth, kid_at, put_nth, put_at}
@@ -11,39 +11,39 @@ use Rattle.fr_store.specs.Ways.{count_kids, kid_nth, kid_at, put_nth, put_at}
 -- One child.
 
 -- something else in its stead, by what is asked of it
-pub left_as : (form : Form) (i : ℕ) (old new : Kid) → (takes_at_end_as form ≡ true → is_stored new ≡ false)
-    → (is_map_form form ≡ true → IsThere old → IsThere new) → IsLeftRightly form i old → IsLeftRightly form i new
-left_as as_set i old new unstored stays left = unstored refl
-left_as (as_map base) i old new unstored stays left = λ h. stays refl (left h)
-left_as as_dyn_array i old new unstored stays left = unstored refl
-left_as (as_dyn_object keys) i old new unstored stays left = unstored refl
+pub left_as : (tracker : Tracker) (i : ℕ) (old new : Kid) → (takes_at_end_as tracker ≡ true → is_stored new ≡ false)
+    → (is_map_tracker tracker ≡ true → IsThere old → IsThere new) → IsLeftRightly tracker i old → IsLeftRightly tracker i new
+left_as (as_items ItemsKind.Set) i old new unstored stays left = unstored refl
+left_as (as_entries (EntriesKind.Map base)) i old new unstored stays left = λ h. stays refl (left h)
+left_as (as_items ItemsKind.Array) i old new unstored stays left = unstored refl
+left_as (as_entries (EntriesKind.Object keys)) i old new unstored stays left = unstored refl
 left_as _ i old new unstored stays left = tt
 
 -- past the end there is none
-pub left_nth : (form : Form) (first i m : ℕ) (ks : Kids) → m ≡ first + i → AreLeftAll form first ks → AreLeftRightly (kid_nth i ks)
-left_nth form first i m no_kids e all = tt
-left_nth form first zero m (kid k ks) e all = all.1
-left_nth form first (suc i) m (kid k ks) e all = left_nth form (suc first) i m ks (omega arith) all.2
+pub left_nth : (tracker : Tracker) (first i m : ℕ) (ks : Kids) → m ≡ first + i → AreLeftAll tracker first ks → AreLeftRightly (kid_nth i ks)
+left_nth tracker first i m no_kids e all = tt
+left_nth tracker first zero m (kid k ks) e all = all.1
+left_nth tracker first (suc i) m (kid k ks) e all = left_nth tracker (suc first) i m ks (omega arith) all.2
 
-pub left_put_nth : (form : Form) (first i m : ℕ) (new : Kid) (ks : Kids) → m ≡ first + i
-    → (IsLeftRightly form m (kid_nth i ks) → IsLeftRightly form m new) → AreLeftRightly new → AreLeftAll form first ks
-    → AreLeftAll form first (put_nth i new ks)
-left_put_nth form first i m new no_kids e step is all = all
-left_put_nth form first zero m new (kid k ks) e step is all =
+pub left_put_nth : (tracker : Tracker) (first i m : ℕ) (new : Kid) (ks : Kids) → m ≡ first + i
+    → (IsLeftRightly tracker m (kid_nth i ks) → IsLeftRightly tracker m new) → AreLeftRightly new → AreLeftAll tracker first ks
+    → AreLeftAll tracker first (put_nth i new ks)
+left_put_nth tracker first i m new no_kids e step is all = all
+left_put_nth tracker first zero m new (kid k ks) e step is all =
     let same : m ≡ first = omega arith in (
-      subst (λ (n : ℕ). IsLeftRightly form n new) same (step (subst (λ (n : ℕ). IsLeftRightly form n k) (sym same) all.0)),
+      subst (λ (n : ℕ). IsLeftRightly tracker n new) same (step (subst (λ (n : ℕ). IsLeftRightly tracker n k) (sym same) all.0)),
       is,
       all.2,
     )
-left_put_nth form first (suc i) m new (kid k ks) e step is all =
-    (all.0, all.1, left_put_nth form (suc first) i m new ks (omega arith) step is all.2)
+left_put_nth tracker first (suc i) m new (kid k ks) e step is all =
+    (all.0, all.1, left_put_nth tracker (suc first) i m new ks (omega arith) step is all.2)
 
 -- Ways.
 
 pub left_at : (place : Place) (k : Kid) → AreLeftRightly k → AreLeftRightly (kid_at place k)
 left_at [] k left = left
-left_at (i ∷ place) (at slot stored (begun_plot form kids)) left =
-    left_at place (kid_nth i kids) (left_nth form 0 i i kids (omega arith) left)
+left_at (i ∷ place) (at slot stored (begun_plot tracker kids)) left =
+    left_at place (kid_nth i kids) (left_nth tracker 0 i i kids (omega arith) left)
 left_at (i ∷ place) _ left = left_at place gone tt
 
 -- what comes in the stead of something isn't stored where that wasn't, and is there where that was
@@ -51,11 +51,11 @@ pub record IsLeftAs (old new : Kid) : Type 0 where
   pub stored : is_stored old ≡ false → is_stored new ≡ false
   pub there : IsThere old → IsThere new
 
-pub as_left : (form : Form) (i : ℕ) (old new : Kid) → IsLeftAs old new → IsLeftRightly form i old → IsLeftRightly form i new
-as_left as_set i old new same left = same.stored left
-as_left (as_map base) i old new same left = λ h. same.there (left h)
-as_left as_dyn_array i old new same left = same.stored left
-as_left (as_dyn_object keys) i old new same left = same.stored left
+pub as_left : (tracker : Tracker) (i : ℕ) (old new : Kid) → IsLeftAs old new → IsLeftRightly tracker i old → IsLeftRightly tracker i new
+as_left (as_items ItemsKind.Set) i old new same left = same.stored left
+as_left (as_entries (EntriesKind.Map base)) i old new same left = λ h. same.there (left h)
+as_left (as_items ItemsKind.Array) i old new same left = same.stored left
+as_left (as_entries (EntriesKind.Object keys)) i old new same left = same.stored left
 as_left _ i old new same left = tt
 
 -- above the place itself nothing changes
@@ -68,38 +68,35 @@ as_put_at (i ∷ place) new (at slot stored plot) same = record { stored = λ h.
 pub left_put_at : (place : Place) (new k : Kid) → IsLeftAs (kid_at place k) new → AreLeftRightly new → AreLeftRightly k
     → AreLeftRightly (put_at place new k)
 left_put_at [] new k same is left = is
-left_put_at (i ∷ place) new (at slot stored (begun_plot form kids)) same is left =
-    left_put_nth form 0 i i (put_at place new (kid_nth i kids)) kids (omega arith)
-    (as_left form i (kid_nth i kids) (put_at place new (kid_nth i kids)) (as_put_at place new (kid_nth i kids) same))
-    (left_put_at place new (kid_nth i kids) same is (left_nth form 0 i i kids (omega arith) left)) left
+left_put_at (i ∷ place) new (at slot stored (begun_plot tracker kids)) same is left =
+    left_put_nth tracker 0 i i (put_at place new (kid_nth i kids)) kids (omega arith)
+    (as_left tracker i (kid_nth i kids) (put_at place new (kid_nth i kids)) (as_put_at place new (kid_nth i kids) same))
+    (left_put_at place new (kid_nth i kids) same is (left_nth tracker 0 i i kids (omega arith) left)) left
 left_put_at (i ∷ place) new _ same is left = tt
 
 -- what is in a slot and not stored may come in the stead of anything that is in a slot, and so may a value
 pub at_for_at : (old : Kid) (slot n : ℕ) (stored : Bool) (plot other : Plot) → old ≡ at slot stored plot
     → IsLeftAs old (at n false other)
-at_for_at old slot n stored plot other e = record {
-  stored = λ h. refl;
-  there = λ h. absurd (subst IsThere e h);
-}
+at_for_at old slot n stored plot other e = record { stored = λ h. refl; there = λ h. absurd (subst IsThere e h) }
 
 pub there_for_any : (old : Kid) (new : Kid) → IsThere new → is_stored new ≡ false → IsLeftAs old new
 there_for_any old new is unstored = record { stored = λ h. unstored; there = λ h. is }
 
 -- Children that are there, and children past the base.
 
-pub left_value : (form : Form) (i : ℕ) (v : Val) → IsLeftRightly form i (there v)
-left_value as_set i v = refl
-left_value (as_map base) i v = λ h. tt
-left_value as_dyn_array i v = refl
-left_value (as_dyn_object keys) i v = refl
+pub left_value : (tracker : Tracker) (i : ℕ) (v : Val) → IsLeftRightly tracker i (there v)
+left_value (as_items ItemsKind.Set) i v = refl
+left_value (as_entries (EntriesKind.Map base)) i v = λ h. tt
+left_value (as_items ItemsKind.Array) i v = refl
+left_value (as_entries (EntriesKind.Object keys)) i v = refl
 left_value _ i v = tt
 
 -- what isn't stored may be a child past the base
-pub left_past : (form : Form) (i : ℕ) (k : Kid) → base_of_form form ≤ entry_of i → is_stored k ≡ false → IsLeftRightly form i k
-left_past as_set i k past is = is
-left_past (as_map base) i k past is = λ h. absurd (omega (arith, past, h))
-left_past as_dyn_array i k past is = is
-left_past (as_dyn_object keys) i k past is = is
+pub left_past : (tracker : Tracker) (i : ℕ) (k : Kid) → base_of_tracker tracker ≤ entry_of i → is_stored k ≡ false → IsLeftRightly tracker i k
+left_past (as_items ItemsKind.Set) i k past is = is
+left_past (as_entries (EntriesKind.Map base)) i k past is = λ h. absurd (omega (arith, past, h))
+left_past (as_items ItemsKind.Array) i k past is = is
+left_past (as_entries (EntriesKind.Object keys)) i k past is = is
 left_past _ i k past is = tt
 
 pub entry_next : (i : ℕ) → entry_of i ≤ entry_of (suc i)
@@ -108,13 +105,13 @@ entry_next (suc zero) = omega arith
 entry_next (suc (suc i)) = let rest = entry_next i in omega (arith, rest)
 
 -- a place without a base
-pub no_base : (form : Form) (i : ℕ) → base_of_form form ≡ 0 → base_of_form form ≤ entry_of i
-no_base form i none = omega (arith, none)
+pub no_base : (tracker : Tracker) (i : ℕ) → base_of_tracker tracker ≡ 0 → base_of_tracker tracker ≤ entry_of i
+no_base tracker i none = omega (arith, none)
 
 -- there are at least so many
-pub left_end : (form : Form) (first : ℕ) (ks : Kids) (m : ℕ) → m ≡ first + count_kids ks → AreLeftAll form first ks
-    → base_of_form form ≤ entry_of m
-left_end form first no_kids m e all =
+pub left_end : (tracker : Tracker) (first : ℕ) (ks : Kids) (m : ℕ) → m ≡ first + count_kids ks → AreLeftAll tracker first ks
+    → base_of_tracker tracker ≤ entry_of m
+left_end tracker first no_kids m e all =
     let same : first ≡ m = omega arith in
-    subst (λ (n : ℕ). base_of_form form ≤ entry_of n) same all
-left_end form first (kid k ks) m e all = left_end form (suc first) ks m (omega arith) all.2
+    subst (λ (n : ℕ). base_of_tracker tracker ≤ entry_of n) same all
+left_end tracker first (kid k ks) m e all = left_end tracker (suc first) ks m (omega arith) all.2

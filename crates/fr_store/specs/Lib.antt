@@ -1,5 +1,6 @@
 pub mod Beneath
 pub mod ClosingLaws
+pub mod Common
 pub mod EnterLaws
 pub mod HereLaws
 pub mod HoldLaws

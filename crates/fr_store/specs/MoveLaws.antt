@@ -46,8 +46,7 @@ front_append (y ∷ []) x = refl
 front_append (y ∷ z ∷ xs) x = ap (λ (l : List ℕ). y ∷ l) (front_append (z ∷ xs) x)
 
 pub same_last : (xs ys : List ℕ) (x y : ℕ) → xs ++ x ∷ [] ≡ ys ++ y ∷ [] → x ≡ y
-same_last xs ys x y e =
-    sym (last_or_append xs x 0) ∙ ap (λ (l : List ℕ). last_or l 0) e ∙ last_or_append ys y 0
+same_last xs ys x y e = sym (last_or_append xs x 0) ∙ ap (λ (l : List ℕ). last_or l 0) e ∙ last_or_append ys y 0
 
 pub same_front : (xs ys : List ℕ) (x y : ℕ) → xs ++ x ∷ [] ≡ ys ++ y ∷ [] → xs ≡ ys
 same_front xs ys x y e = sym (front_append xs x) ∙ ap front e ∙ front_append ys y
@@ -83,8 +82,7 @@ module _ (plan : Plan) (slots : List Slot) (stack : List ℕ) (open_now : IsOpen
   pub top_slot : (open_top plan slots stack open_now).slot ≡ n
   top_slot =
       same_last (slots_above (cursor_in slots stack) (kid_shown (heap_of slots) stack)) last.0
-      (open_top plan slots stack open_now).slot n
-      (sym (open_top plan slots stack open_now).last ∙ last.1)
+      (open_top plan slots stack open_now).slot n (sym (open_top plan slots stack open_now).last ∙ last.1)
 
   -- what is in the last slot of the stack
   unfoldable pub top_node : Node
@@ -116,8 +114,7 @@ module _ (plan : Plan) (slots : List Slot) (stack : List ℕ) (open_now : IsOpen
   unfolding top_node
   top_tokens closed t =
       let top = open_top plan slots stack open_now in
-      sym (closed_occur top.plot t closed)
-      ∙ ap (λ (k : Kid). kid_occurs k t) (sym top.is)
+      sym (closed_occur top.plot t closed) ∙ ap (λ (k : Kid). kid_occurs k t) (sym top.is)
       ∙ tree_tokens (kid_at (cursor_in slots stack) (kid_shown (heap_of slots) stack)) t
       ∙ ap (λ (tree : Tree). tree_occurs tree t) (tree_of_at (cursor_in slots stack) (kid_shown (heap_of slots) stack))
 
@@ -153,8 +150,7 @@ tokens_kept before after k now tokens was same t = tokens t ∙ was t ∙ sym (s
 pub top_stands_in : (plan : Plan) (before : List Slot) (other : Heap) (stack : List ℕ) (open_now : IsOpen plan before stack)
     (n : ℕ) → IsLast stack n → (change : Body → Body) (new : Plot)
     → body_in new ≡ change (body_in (open_top plan before stack open_now).plot)
-    → KeepsChildren (open_top plan before stack open_now).plot new
-    → ((m : ℕ) → other m ≡ with_body (heap_of before) n change m)
+    → KeepsChildren (open_top plan before stack open_now).plot new → ((m : ℕ) → other m ≡ with_body (heap_of before) n change m)
     → Stands plan other stack (cursor_in before stack)
     (put_at (cursor_in before stack) (at (open_top plan before stack open_now).slot false new) (kid_here before stack))
 top_stands_in plan before other stack open_now n last change new is keeps shows =
@@ -192,8 +188,7 @@ top_stands_in plan before other stack open_now n last change new is keeps shows 
 pub top_stands : (plan : Plan) (before after : List Slot) (stack : List ℕ) (open_now : IsOpen plan before stack) (n : ℕ)
     → IsLast stack n → (change : Body → Body) (new : Plot)
     → body_in new ≡ change (body_in (open_top plan before stack open_now).plot)
-    → KeepsChildren (open_top plan before stack open_now).plot new
-    → Shows after (with_body (heap_of before) n change)
+    → KeepsChildren (open_top plan before stack open_now).plot new → Shows after (with_body (heap_of before) n change)
     → Stands plan (heap_of after) stack (cursor_in before stack)
     (put_at (cursor_in before stack) (at (open_top plan before stack open_now).slot false new) (kid_here before stack))
 top_stands plan before after stack open_now n last change new is keeps shows =
@@ -203,12 +198,10 @@ top_stands plan before after stack open_now n last change new is keeps shows =
 pub top_changed : (plan : Plan) (before after : List Slot) (stack : List ℕ) (open_now : IsOpen plan before stack) (n : ℕ)
     → IsLast stack n → (change : Body → Body) (new : Plot)
     → body_in new ≡ change (body_in (open_top plan before stack open_now).plot)
-    → KeepsChildren (open_top plan before stack open_now).plot new
-    → LosesNone (open_top plan before stack open_now).plot new
+    → KeepsChildren (open_top plan before stack open_now).plot new → LosesNone (open_top plan before stack open_now).plot new
     → Shows after (with_body (heap_of before) n change)
     → ((t : ℕ) → slots_occur after t + plot_occurs (open_top plan before stack open_now).plot t
-    ≡ slots_occur before t + plot_occurs new t)
-    → IsOpenAt plan after stack (cursor_in before stack)
+    ≡ slots_occur before t + plot_occurs new t) → IsOpenAt plan after stack (cursor_in before stack)
     (change_at (cursor_in before stack) (λ old. tree_in new) (tree_in_slots before stack))
 top_changed plan before after stack open_now n last change new is keeps loses shows tokens =
     let k : Kid = kid_shown (heap_of before) stack in
@@ -217,12 +210,10 @@ top_changed plan before after stack open_now n last change new is keeps loses sh
     let reach = open_reach plan before stack open_now in
     open_at_from plan after stack place (put_at place (at top.slot false new) k)
     (change_at place (λ old. tree_in new) (tree_of k))
-    (top_stands plan before after stack open_now n last change new is keeps shows)
-    (λ t.
+    (top_stands plan before after stack open_now n last change new is keeps shows) (λ t.
     let was : kid_occurs (kid_at place k) t ≡ plot_occurs top.plot t = ap (λ (x : Kid). kid_occurs x t) top.is in
     omega (arith, occurs_put_at place (at top.slot false new) k t reach, open_now.tokens t, tokens t))
-    (all_kept (heap_of before) (heap_of after) place (at top.slot false new) k reach open_now.all
-    (λ m used.
+    (all_kept (heap_of before) (heap_of after) place (at top.slot false new) k reach open_now.all (λ m used.
     used_mapped (heap_of before) n (λ (x : Node). record x { body = change x.body }) m
     (subst (λ (o : Option Node). IsSome o) (shows m) used))
     (λ m. omega (arith, top_uses plan (heap_of before) stack place k open_now.stands top m, loses m)))
@@ -232,10 +223,8 @@ top_changed plan before after stack open_now n last change new is keeps loses sh
 pub top_changed_held : (plan : Plan) (before after : List Slot) (stack : List ℕ) (open_now : IsOpen plan before stack) (n : ℕ)
     → IsLast stack n → (change : Body → Body) (new : Plot)
     → body_in new ≡ change (body_in (open_top plan before stack open_now).plot)
-    → KeepsChildren (open_top plan before stack open_now).plot new
-    → LosesNone (open_top plan before stack open_now).plot new
-    → Shows after (with_body (heap_of before) n change)
-    → IsOpenAt plan after stack (cursor_in before stack)
+    → KeepsChildren (open_top plan before stack open_now).plot new → LosesNone (open_top plan before stack open_now).plot new
+    → Shows after (with_body (heap_of before) n change) → IsOpenAt plan after stack (cursor_in before stack)
     (change_at (cursor_in before stack) (λ old. tree_in new) (tree_in_slots before stack))
 top_changed_held plan before after stack open_now n last change new is keeps loses shows =
     let k : Kid = kid_shown (heap_of before) stack in
@@ -245,9 +234,7 @@ top_changed_held plan before after stack open_now n last change new is keeps los
     (change_at place (λ old. tree_in new) (tree_of k))
     (top_stands plan before after stack open_now n last change new is keeps shows)
     (all_kept (heap_of before) (heap_of after) place (at top.slot false new) k (open_reach plan before stack open_now)
-    open_now.all
-    (λ m used.
-    used_mapped (heap_of before) n (λ (x : Node). record x { body = change x.body }) m
+    open_now.all (λ m used. used_mapped (heap_of before) n (λ (x : Node). record x { body = change x.body }) m
     (subst (λ (o : Option Node). IsSome o) (shows m) used))
     (λ m. omega (arith, top_uses plan (heap_of before) stack place k open_now.stands top m, loses m)))
     (tree_put_at place (at top.slot false new) k)

@@ -1,19 +1,24 @@
 -- What the moves of a builder do, as contracts see it.
-use Rattle.std.specs.Prelude.{◌≡◌, ℕ, ◌<◌, Bool, ◌||◌, List, [], ◌∷◌, ◌++◌, Option, Some, None, unwrap_or}
+use Rattle.std.specs.Prelude.{◌≡◌, ℕ, ◌<◌, Bool, true, ◌||◌, length, List, [], ◌∷◌, ◌++◌, Option, Some, None, unwrap_or}
 use Rattle.fr_shape.specs.declared.shape.Def.{Def}
 use Rattle.fr_shape.specs.Val.{Val}
-use Rattle.fr_model.specs.Collections.{is_set, is_set_form}
+use Rattle.fr_model.specs.Collections.{is_map, is_set, is_set_tracker}
 use Rattle.fr_model.specs.Contents.{around, content_of}
-use Rattle.fr_model.specs.DynamicPlaces.{is_begun_dynamic, is_dynamic_form, kept_array, kept_object, keys_here, entry_found, number_or_last}
+use Rattle.fr_model.specs.Dynamics.{keys_apart}
+use Rattle.fr_model.specs.DynamicPlaces.{is_begun_dynamic, is_begun_object, is_dynamic_tracker, kept_array, kept_object, keys_here, entry_found, number_or_last}
 use Rattle.fr_model.specs.Places.{Place}
 use Rattle.fr_model.specs.Step.{enter}
-use Rattle.fr_model.specs.Tree.{Form, as_struct, as_array, as_variant, as_some, as_ok, as_err, as_pointer, as_list, as_slice, as_closed_slice, as_set, as_map, as_dyn_array, as_dyn_object, keys_of_form, Tree, hole, entered, whole, begun, Trees, and_last, count_below, count_trees, fresh, change_at, change_nth, tree_at, tree_occurs}
+use Rattle.fr_model.specs.Trackers.{Tracker, as_fields, as_elements, as_content, ContentKind, as_items, ItemsKind, as_entries, EntriesKind, keys_of_tracker}
+use Rattle.fr_model.specs.Tree.{child_tree, change_child, Tree, hole, entered, whole, begun, Trees, and_last, count_below, count_trees, fresh, change_at, change_nth, tree_at, tree_occurs}
 use Rattle.fr_plan.specs.declared.nodes.NodeId.{NodeId}
 use Rattle.fr_plan.specs.TypePlan.{Plan}
 use Rattle.fr_frame.specs.declared.places.FrameOwner.{FrameOwner}
 use Rattle.fr_frame.specs.declared.places.Slot.{Slot}
+use Rattle.fr_frame.specs.declared.places.ChildWay.{ChildWay}
+use Rattle.fr_frame.specs.Bodies.{TakesItems}
 use Rattle.fr_frame.specs.Changes.{IfInUse}
 use Rattle.fr_frame.specs.Heap.{Node, heap_of}
+use Rattle.fr_frame.specs.Kids.{child_node}
 use Rattle.fr_store.specs.Numbers.{IsLast}
 use Rattle.fr_store.specs.Stands.{IsOpen, cursor_shown, kid_shown, tree_shown}
 use Rattle.fr_store.specs.Ways.{node_along}
@@ -58,25 +63,16 @@ HasOwner FrameOwner.Root = ⊥
 HasOwner (FrameOwner.Child parent i) = Unit {0}
 
 -- a place that is begun so may have any number of children
-abbrev pub TakesMany : Form → Type 0
-TakesMany as_struct = Unit {0}
-TakesMany as_array = Unit {0}
-TakesMany (as_variant k) = Unit {0}
-TakesMany as_some = ⊥
-TakesMany as_ok = ⊥
-TakesMany as_err = ⊥
-TakesMany as_pointer = ⊥
-TakesMany as_list = Unit {0}
-TakesMany as_slice = Unit {0}
-TakesMany as_closed_slice = Unit {0}
-TakesMany as_set = Unit {0}
-TakesMany (as_map base) = Unit {0}
-TakesMany as_dyn_array = Unit {0}
-TakesMany (as_dyn_object keys) = Unit {0}
+abbrev pub TakesMany : Tracker → Type 0
+TakesMany (as_fields selected) = Unit {0}
+TakesMany as_elements = Unit {0}
+TakesMany (as_content kind) = ⊥
+TakesMany (as_items kind) = Unit {0}
+TakesMany (as_entries kind) = Unit {0}
 
 -- with this content, if it has one, the place is begun as an option around it; else it stays as it was
 abbrev pub around_content : (content : Option Val) → (old : Tree) → Tree
-around_content (Some v) old = around as_some (whole v)
+around_content (Some v) old = around (as_content ContentKind.Some) (whole v)
 around_content None old = old
 
 -- a whole `Some`, begun with its content as it is; any other place stays as it is
@@ -84,21 +80,21 @@ abbrev pub around_some : Tree → Tree
 around_some hole = hole
 around_some entered = entered
 around_some (whole v) = around_content (content_of v) (whole v)
-around_some (begun form ts) = begun form ts
+around_some (begun tracker ts) = begun tracker ts
 
 -- the place is begun so, and has a child of this number
-abbrev pub HasChild : Form → ℕ → Tree → Type 0
-HasChild form i hole = ⊥
-HasChild form i entered = ⊥
-HasChild form i (whole v) = ⊥
-HasChild form i (begun made ts) = (made ≡ form) × (i < count_trees ts)
+abbrev pub HasChild : Tracker → ℕ → Tree → Type 0
+HasChild tracker i hole = ⊥
+HasChild tracker i entered = ⊥
+HasChild tracker i (whole v) = ⊥
+HasChild tracker i (begun made ts) = (made ≡ tracker) × (i < count_trees ts)
 
 -- the place is begun so
-abbrev pub HasForm : Form → Tree → Type 0
-HasForm form hole = ⊥
-HasForm form entered = ⊥
-HasForm form (whole v) = ⊥
-HasForm form (begun made ts) = made ≡ form
+abbrev pub HasTracker : Tracker → Tree → Type 0
+HasTracker tracker hole = ⊥
+HasTracker tracker entered = ⊥
+HasTracker tracker (whole v) = ⊥
+HasTracker tracker (begun made ts) = made ≡ tracker
 
 -- how many children the place has at which it works, as far as it is begun
 abbrev pub count_here : List Slot → List ℕ → ℕ
@@ -109,7 +105,7 @@ abbrev pub with_item_of : Def → Tree → Tree
 with_item_of def hole = hole
 with_item_of def entered = entered
 with_item_of def (whole v) = whole v
-with_item_of def (begun form ts) = begun form (and_last ts (fresh def))
+with_item_of def (begun tracker ts) = begun tracker (and_last ts (fresh def))
 
 -- a begun map with one more entry behind the others: its key, of this definition, is just entered, and its value isn't there yet; any
 -- other place stays as it was
@@ -117,46 +113,41 @@ abbrev pub with_key_of : Def → Tree → Tree
 with_key_of def hole = hole
 with_key_of def entered = entered
 with_key_of def (whole v) = whole v
-with_key_of def (begun form ts) = begun form (and_last (and_last ts (fresh def)) hole)
+with_key_of def (begun tracker ts) = begun tracker (and_last (and_last ts (fresh def)) hole)
 
 -- a place that is begun so is a set or a dynamic value: its children are completed as they are left, and are never stored
-abbrev pub takes_at_end_as : Form → Bool
-takes_at_end_as form = is_set_form form || is_dynamic_form form
+abbrev pub takes_at_end_as : Tracker → Bool
+takes_at_end_as tracker = is_set_tracker tracker || is_dynamic_tracker tracker
 
 -- so it is of what stands here
 abbrev pub takes_at_end : Tree → Bool
 takes_at_end tree = is_set tree || is_begun_dynamic tree
 
 -- a place that is begun so is a pointer to a slice, open or closed
-abbrev pub IsSlice : Form → Type 0
-IsSlice as_slice = Unit {0}
-IsSlice as_closed_slice = Unit {0}
-IsSlice as_struct = ⊥
-IsSlice as_array = ⊥
-IsSlice (as_variant k) = ⊥
-IsSlice as_some = ⊥
-IsSlice as_ok = ⊥
-IsSlice as_err = ⊥
-IsSlice as_pointer = ⊥
-IsSlice as_list = ⊥
-IsSlice as_set = ⊥
-IsSlice (as_map base) = ⊥
-IsSlice as_dyn_array = ⊥
-IsSlice (as_dyn_object keys) = ⊥
+abbrev pub IsSlice : Tracker → Type 0
+IsSlice (as_items ItemsKind.Slice) = Unit {0}
+IsSlice (as_items ItemsKind.ClosedSlice) = Unit {0}
+IsSlice (as_fields selected) = ⊥
+IsSlice as_elements = ⊥
+IsSlice (as_content kind) = ⊥
+IsSlice (as_items ItemsKind.List) = ⊥
+IsSlice (as_items ItemsKind.Set) = ⊥
+IsSlice (as_entries kind) = ⊥
+IsSlice (as_items ItemsKind.Array) = ⊥
 
 -- the place is begun as one
 abbrev pub IsBegunSlice : Tree → Type 0
 IsBegunSlice hole = ⊥
 IsBegunSlice entered = ⊥
 IsBegunSlice (whole v) = ⊥
-IsBegunSlice (begun form ts) = IsSlice form
+IsBegunSlice (begun tracker ts) = IsSlice tracker
 
 -- a begun place, begun so instead, with the children that it has; any other place stays as it was
-abbrev pub begun_as : Form → Tree → Tree
-begun_as form hole = hole
-begun_as form entered = entered
-begun_as form (whole v) = whole v
-begun_as form (begun made ts) = begun form ts
+abbrev pub begun_as : Tracker → Tree → Tree
+begun_as tracker hole = hole
+begun_as tracker entered = entered
+begun_as tracker (whole v) = whole v
+begun_as tracker (begun made ts) = begun tracker ts
 
 -- the plan's node of the place at which it works
 abbrev pub node_here : Plan → List Slot → List ℕ → NodeId
@@ -171,9 +162,9 @@ around_elements old = unwrap_or (kept_array old) old
 abbrev pub around_members : Tree → Tree
 around_members old = unwrap_or (kept_object old) old
 
-abbrev pub with_entry_unless : Def → (key : List ℕ) → Form → Trees → (found : Option ℕ) → Tree
-with_entry_unless def key form ts (Some i) = begun form (change_nth i (enter def) ts)
-with_entry_unless def key form ts None = begun (as_dyn_object (keys_of_form form ++ key ∷ [])) (and_last ts (fresh def))
+abbrev pub with_entry_unless : Def → (key : List ℕ) → Tracker → Trees → (found : Option ℕ) → Tree
+with_entry_unless def key tracker ts (Some i) = begun tracker (change_nth i (enter def) ts)
+with_entry_unless def key tracker ts None = begun (as_entries (EntriesKind.Object (keys_of_tracker tracker ++ key ∷ []))) (and_last ts (fresh def))
 
 -- an object whose entry of this key is entered, a value of this definition: the one that it has, or one more behind the others; any
 -- other place stays as it was
@@ -181,9 +172,39 @@ abbrev pub with_entry_of : Def → (key : List ℕ) → Tree → Tree
 with_entry_of def key hole = hole
 with_entry_of def key entered = entered
 with_entry_of def key (whole v) = whole v
-with_entry_of def key (begun form ts) = with_entry_unless def key form ts (entry_found key (keys_of_form form))
+with_entry_of def key (begun tracker ts) = with_entry_unless def key tracker ts (entry_found key (keys_of_tracker tracker))
 
--- the number of that entry, of the object at which the builder works
-abbrev pub entry_here : (key : List ℕ) → List Slot → List ℕ → ℕ
-entry_here key slots stack =
-    number_or_last (entry_found key (keys_here (tree_here slots stack))) (count_here slots stack)
+-- The ways on.
+
+-- as what a begun place is begun (any other place counts as a struct)
+abbrev pub tracker_in : Tree → Tracker
+tracker_in (begun tracker ts) = tracker
+tracker_in _ = as_fields None
+
+-- A place may be entered in this way: at a child that it has, which of a map isn't there; at a new item, where it takes more of them; at a
+-- new key, if it is a map; at the value under a key, if it is an object with as many children as keys, none of which comes twice.
+abbrev pub MayEnter : ChildWay → Tree → Type 0
+MayEnter (ChildWay.Child i) tree = HasChild (tracker_in tree) i tree × (is_map tree ≡ true → child_tree i tree ≡ hole)
+MayEnter ChildWay.Item tree = HasTracker (tracker_in tree) tree × TakesItems (tracker_in tree)
+MayEnter ChildWay.Key tree = is_map tree ≡ true
+MayEnter (ChildWay.Entry key) tree =
+    (is_begun_object tree ≡ true) × (keys_apart (keys_here tree) ≡ true) × (length (keys_here tree) ≡ count_below tree)
+
+-- the number of the child that is entered
+abbrev pub child_number : ChildWay → Tree → ℕ
+child_number (ChildWay.Child i) tree = i
+child_number ChildWay.Item tree = count_below tree
+child_number ChildWay.Key tree = count_below tree
+child_number (ChildWay.Entry key) tree = number_or_last (entry_found key.now (keys_here tree)) (count_below tree)
+
+-- the place with that child, of this definition, entered
+abbrev pub entered_by : ChildWay → Def → Tree → Tree
+entered_by (ChildWay.Child i) def = change_child i (enter def)
+entered_by ChildWay.Item def = with_item_of def
+entered_by ChildWay.Key def = with_key_of def
+entered_by (ChildWay.Entry key) def = with_entry_of def key.now
+
+-- the plan's node of that child
+abbrev pub node_by : Plan → List Slot → List ℕ → ChildWay → NodeId
+node_by plan slots stack way =
+    child_node plan (node_here plan slots stack) (tracker_in (tree_here slots stack)) (child_number way (tree_here slots stack))

@@ -40,8 +40,7 @@ but_other i j Below new no_kids but ne is = absurd but
 but_other zero zero Below new (kid k ks) but ne is = absurd (ne refl)
 but_other zero (suc j) Below new (kid k ks) but ne is = (is, but.1)
 but_other (suc i) zero Below new (kid k ks) but ne is = (but.0, marked_put_nth true i new ks but.1 is)
-but_other (suc i) (suc j) Below new (kid k ks) but ne is =
-    (but.0, but_other i j Below new ks but.1 (λ e. ne (ap suc e)) is)
+but_other (suc i) (suc j) Below new (kid k ks) but ne is = (but.0, but_other i j Below new ks but.1 (λ e. ne (ap suc e)) is)
 
 -- the child on the way
 but_same : (j : ℕ) (Below : Kid → Type 0) (new : Kid) (ks : Kids) → StoredBut j Below ks → Below new
@@ -56,8 +55,7 @@ off_below : (i : ℕ) (place here : Place) → IsOffTheWay (i ∷ place) (i ∷ 
 off_below i place here off way e = off way (ap (λ (p : Place). i ∷ p) e)
 
 off_same : (i j : ℕ) (place here : Place) → i ≡ j → IsOffTheWay (j ∷ place) (i ∷ here) → IsOffTheWay place here
-off_same i j place here e off =
-    off_below j place here (subst (λ (n : ℕ). IsOffTheWay (j ∷ place) (n ∷ here)) e off)
+off_same i j place here e off = off_below j place here (subst (λ (n : ℕ). IsOffTheWay (j ∷ place) (n ∷ here)) e off)
 
 pub leads_same : (i j : ℕ) (place : Place) (ks : Kids) → i ≡ j → StoredBut j (λ below. Leads place below) ks
     → Leads place (kid_nth i ks)
@@ -68,8 +66,7 @@ leads_same i j place ks e but =
 pub off_stored : (place here : Place) (k : Kid) (slot : ℕ) (plot : Plot) → Leads place k → kid_at here k ≡ at slot true plot
     → IsOffTheWay place here
 off_stored place here k slot plot leads is way e =
-    go way
-    (subst (λ (x : Kid). Leads way x) is (leads_at here way k (subst (λ (p : Place). Leads p k) e leads)))
+    go way (subst (λ (x : Kid). Leads way x) is (leads_at here way k (subst (λ (p : Place). Leads p k) e leads)))
   where
     go : (way : Place) → Leads way (at slot true plot) → ⊥
     go [] l = let apart = l.0 in cc
@@ -79,11 +76,10 @@ off_stored place here k slot plot leads is way e =
 pub marked_off : (place here : Place) (k : Kid) → Leads place k → IsOffTheWay place here → Reaches here k
     → AllMarked true (kid_at here k)
 marked_off place [] k leads off reach = absurd (off place refl)
-marked_off [] (i ∷ here) (at slot stored (begun_plot form kids)) leads off reach =
+marked_off [] (i ∷ here) (at slot stored (begun_plot tracker kids)) leads off reach =
     marked_at true here (kid_nth i kids) (marked_nth true i kids leads.1)
-marked_off (j ∷ place) (i ∷ here) (at slot stored (begun_plot form kids)) leads off reach =
-    go (same_or_other i j)
-    (λ e.
+marked_off (j ∷ place) (i ∷ here) (at slot stored (begun_plot tracker kids)) leads off reach =
+    go (same_or_other i j) (λ e.
     marked_off place here (kid_nth i kids) (leads_same i j place kids e leads.1) (off_same i j place here e off) reach.1)
   where
     go : (i ≡ j) ⊎ (i ≢ j) → (i ≡ j → AllMarked true (kid_at here (kid_nth i kids)))
@@ -96,25 +92,21 @@ marked_off place (i ∷ here) _ leads off reach = absurd reach
 pub leads_off : (place here : Place) (new k : Kid) → Leads place k → IsOffTheWay place here → Reaches here k
     → AllMarked true new → Leads place (put_at here new k)
 leads_off place [] new k leads off reach is = absurd (off place refl)
-leads_off [] (i ∷ here) new (at slot stored (begun_plot form kids)) leads off reach is = (
+leads_off [] (i ∷ here) new (at slot stored (begun_plot tracker kids)) leads off reach is = (
   leads.0,
   marked_put_nth true i (put_at here new (kid_nth i kids)) kids leads.1
       (marked_put_at true here new (kid_nth i kids) (marked_nth true i kids leads.1) is),
 )
-leads_off (j ∷ place) (i ∷ here) new (at slot stored (begun_plot form kids)) leads off reach is = (
+leads_off (j ∷ place) (i ∷ here) new (at slot stored (begun_plot tracker kids)) leads off reach is = (
   leads.0,
-  go (same_or_other i j)
-      (λ e.
-      leads_off place here new (kid_nth i kids) (leads_same i j place kids e leads.1)
+  go (same_or_other i j) (λ e. leads_off place here new (kid_nth i kids) (leads_same i j place kids e leads.1)
       (off_same i j place here e off) reach.1 is),
 )
   where
     go : (i ≡ j) ⊎ (i ≢ j) → (i ≡ j → Leads place (put_at here new (kid_nth i kids)))
         → StoredBut j (λ below. Leads place below) (put_nth i (put_at here new (kid_nth i kids)) kids)
     go (inl e) on =
-        subst
-        (λ (n : ℕ). StoredBut j (λ below. Leads place below) (put_nth n (put_at here new (kid_nth i kids)) kids))
-        (sym e)
+        subst (λ (n : ℕ). StoredBut j (λ below. Leads place below) (put_nth n (put_at here new (kid_nth i kids)) kids)) (sym e)
         (but_same j (λ below. Leads place below) (put_at here new (kid_nth i kids)) kids leads.1 (on e))
     go (inr ne) on =
         but_other i j (λ below. Leads place below) (put_at here new (kid_nth i kids)) kids leads.1 ne
@@ -125,18 +117,13 @@ leads_off place (i ∷ here) new _ leads off reach is = absurd reach
 pub along_off : (place here : Place) (new k : Kid) → Leads place k → IsOffTheWay place here → Reaches here k
     → slots_along place (put_at here new k) ≡ slots_along place k
 along_off place [] new k leads off reach = absurd (off place refl)
-along_off [] (i ∷ here) new (at slot stored (begun_plot form kids)) leads off reach = refl
-along_off (j ∷ place) (i ∷ here) new (at slot stored (begun_plot form kids)) leads off reach =
-    ap (λ (slots : List ℕ). slot ∷ slots)
-    (go (same_or_other i j)
-    (λ e.
-    along_off place here new (kid_nth i kids) (leads_same i j place kids e leads.1) (off_same i j place here e off)
-    reach.1))
+along_off [] (i ∷ here) new (at slot stored (begun_plot tracker kids)) leads off reach = refl
+along_off (j ∷ place) (i ∷ here) new (at slot stored (begun_plot tracker kids)) leads off reach =
+    ap (λ (slots : List ℕ). slot ∷ slots) (go (same_or_other i j) (λ e.
+    along_off place here new (kid_nth i kids) (leads_same i j place kids e leads.1) (off_same i j place here e off) reach.1))
   where
-    go : (i ≡ j) ⊎ (i ≢ j)
-        → (i ≡ j → slots_along place (put_at here new (kid_nth i kids)) ≡ slots_along place (kid_nth i kids))
-        → slots_along place (kid_nth j (put_nth i (put_at here new (kid_nth i kids)) kids))
-        ≡ slots_along place (kid_nth j kids)
+    go : (i ≡ j) ⊎ (i ≢ j) → (i ≡ j → slots_along place (put_at here new (kid_nth i kids)) ≡ slots_along place (kid_nth i kids))
+        → slots_along place (kid_nth j (put_nth i (put_at here new (kid_nth i kids)) kids)) ≡ slots_along place (kid_nth j kids)
     go (inl e) below =
         ap (λ (n : ℕ). slots_along place (kid_nth n (put_nth i (put_at here new (kid_nth i kids)) kids))) (sym e)
         ∙ ap (slots_along place) (nth_put i (put_at here new (kid_nth i kids)) kids reach.0)
@@ -149,7 +136,7 @@ along_off place (i ∷ here) new _ leads off reach = absurd reach
 -- a place that is reached is one of the tree
 pub reach_place : (place : Place) (k : Kid) → Reaches place k → HasPlace place (tree_of k)
 reach_place [] k reach = tt
-reach_place (i ∷ place) (at slot stored (begun_plot form kids)) reach = (
+reach_place (i ∷ place) (at slot stored (begun_plot tracker kids)) reach = (
   omega (arith, count_in kids, reach.0),
   subst (λ (t : Tree). HasPlace place t) (tree_of_nth i kids) (reach_place place (kid_nth i kids) reach.1),
 )
@@ -161,8 +148,7 @@ is_none_at : (place : Place) → ((slot : ℕ) (stored : Bool) (plot : Plot) →
 is_none_at [] slot stored plot e = cc
 is_none_at (i ∷ place) slot stored plot e = is_none_at place slot stored plot e
 
-is_none_in : (place : Place) (v : Val) (slot : ℕ) (stored : Bool) (plot : Plot)
-    → kid_at place (there v) ≡ at slot stored plot → ⊥
+is_none_in : (place : Place) (v : Val) (slot : ℕ) (stored : Bool) (plot : Plot) → kid_at place (there v) ≡ at slot stored plot → ⊥
 is_none_in [] v slot stored plot e = cc
 is_none_in (i ∷ place) v slot stored plot e = is_none_at place slot stored plot e
 
@@ -179,7 +165,7 @@ pub closed_below : (j : ℕ) (way : Place) (own : ℕ) (mark : Bool) (top : Plot
     → IsClosed (body_in top) → kid_at (j ∷ way) (at own mark top) ≡ at slot stored plot → ⊥
 closed_below j way own mark entered_plot slot stored plot closed e = is_none_at way slot stored plot e
 closed_below j way own mark (whole_plot v) slot stored plot closed e = is_none_at way slot stored plot e
-closed_below j way own mark (begun_plot form kids) slot stored plot closed e =
+closed_below j way own mark (begun_plot tracker kids) slot stored plot closed e =
     unplaced_nth j way kids slot stored plot closed e
 
 -- a place is neither this one nor beneath it
@@ -192,26 +178,19 @@ pub stored_beside : (here other : Place) (k : Kid) (n m : ℕ) (plot : Plot) →
 stored_beside here other k n m plot is closed stored ne [] e = ne (e ∙ append-nil here)
 stored_beside here other k n m plot is closed stored ne (j ∷ way) e =
     closed_below j way n true plot m true stored.plot closed
-    (ap (kid_at (j ∷ way)) (sym is) ∙ sym (kid_at_append here (j ∷ way) k) ∙ ap (λ (p : Place). kid_at p k) (sym e)
-    ∙ stored.is)
+    (ap (kid_at (j ∷ way)) (sym is) ∙ sym (kid_at_append here (j ∷ way) k) ∙ ap (λ (p : Place). kid_at p k) (sym e) ∙ stored.is)
 
 -- it is stored still where a value is put there
 pub stored_still : (here other : Place) (k : Kid) (v : Val) (m : ℕ) → Reaches here k → IsNotBeneath here other
     → IsStoredAt k m other → IsStoredAt (put_at here (there v) k) m other
 stored_still [] other k v m reach beside stored = absurd (beside other refl)
-stored_still (i ∷ here) [] (at slot mark (begun_plot form kids)) v m reach beside stored =
+stored_still (i ∷ here) [] (at slot mark (begun_plot tracker kids)) v m reach beside stored =
     let same : slot ≡ m = let is = stored.is in cc in
     let marked : mark ≡ true = let is = stored.is in cc in
-    let rest : Plot = begun_plot form (put_nth i (put_at here (there v) (kid_nth i kids)) kids) in
-    record {
-      plot = rest;
-      reaches = tt;
-      is = ap (λ (n : ℕ). at n mark rest) same ∙ ap (λ (b : Bool). at m b rest) marked;
-    }
-stored_still (i ∷ here) (j ∷ other) (at slot mark (begun_plot form kids)) v m reach beside stored =
-    go (same_or_other i j)
-    (λ e.
-    stored_still here other (kid_nth i kids) v m reach.1
+    let rest : Plot = begun_plot tracker (put_nth i (put_at here (there v) (kid_nth i kids)) kids) in
+    record { plot = rest; reaches = tt; is = ap (λ (n : ℕ). at n mark rest) same ∙ ap (λ (b : Bool). at m b rest) marked }
+stored_still (i ∷ here) (j ∷ other) (at slot mark (begun_plot tracker kids)) v m reach beside stored =
+    go (same_or_other i j) (λ e. stored_still here other (kid_nth i kids) v m reach.1
     (λ way same. beside way (ap (λ (n : ℕ). n ∷ other) (sym e) ∙ ap (λ (p : Place). i ∷ p) same))
     (subst (λ (n : ℕ). IsStoredAt (kid_nth n kids) m other) (sym e)
     (record { plot = stored.plot; reaches = stored.reaches.1; is = stored.is })))
@@ -223,18 +202,16 @@ stored_still (i ∷ here) (j ∷ other) (at slot mark (begun_plot form kids)) v 
     within = subst (λ (n : ℕ). j < n) (sym (count_put i new kids)) stored.reaches.0
 
     from : IsStoredAt (kid_nth j (put_nth i new kids)) m other
-        → IsStoredAt (at slot mark (begun_plot form (put_nth i new kids))) m (j ∷ other)
+        → IsStoredAt (at slot mark (begun_plot tracker (put_nth i new kids))) m (j ∷ other)
     from child = record { plot = child.plot; reaches = (within, child.reaches); is = child.is }
 
     go : (i ≡ j) ⊎ (i ≢ j) → (i ≡ j → IsStoredAt new m other)
-        → IsStoredAt (at slot mark (begun_plot form (put_nth i new kids))) m (j ∷ other)
+        → IsStoredAt (at slot mark (begun_plot tracker (put_nth i new kids))) m (j ∷ other)
     go (inl e) below =
-        from
-        (subst (λ (n : ℕ). IsStoredAt (kid_nth n (put_nth i new kids)) m other) e
+        from (subst (λ (n : ℕ). IsStoredAt (kid_nth n (put_nth i new kids)) m other) e
         (subst (λ (x : Kid). IsStoredAt x m other) (sym (nth_put i new kids reach.0)) (below e)))
     go (inr ne) below =
-        from
-        (subst (λ (x : Kid). IsStoredAt x m other) (sym (nth_other i j new kids ne))
+        from (subst (λ (x : Kid). IsStoredAt x m other) (sym (nth_other i j new kids ne))
         (record { plot = stored.plot; reaches = stored.reaches.1; is = stored.is }))
 stored_still (i ∷ here) other _ v m reach beside stored = absurd reach
 
@@ -242,16 +219,12 @@ stored_still (i ∷ here) other _ v m reach beside stored = absurd reach
 pub stored_before : (here other : Place) (k : Kid) (v : Val) (m : ℕ) → Reaches here k
     → IsStoredAt (put_at here (there v) k) m other → IsStoredAt k m other
 stored_before [] other k v m reach stored = absurd (is_none_in other v m true stored.plot stored.is)
-stored_before (i ∷ here) [] (at slot mark (begun_plot form kids)) v m reach stored =
+stored_before (i ∷ here) [] (at slot mark (begun_plot tracker kids)) v m reach stored =
     let same : slot ≡ m = let is = stored.is in cc in
     let marked : mark ≡ true = let is = stored.is in cc in
-    let rest : Plot = begun_plot form kids in
-    record {
-      plot = rest;
-      reaches = tt;
-      is = ap (λ (n : ℕ). at n mark rest) same ∙ ap (λ (b : Bool). at m b rest) marked;
-    }
-stored_before (i ∷ here) (j ∷ other) (at slot mark (begun_plot form kids)) v m reach stored =
+    let rest : Plot = begun_plot tracker kids in
+    record { plot = rest; reaches = tt; is = ap (λ (n : ℕ). at n mark rest) same ∙ ap (λ (b : Bool). at m b rest) marked }
+stored_before (i ∷ here) (j ∷ other) (at slot mark (begun_plot tracker kids)) v m reach stored =
     go (same_or_other i j) (λ below. stored_before here other (kid_nth i kids) v m reach.1 below)
   where
     new : Kid
@@ -263,23 +236,20 @@ stored_before (i ∷ here) (j ∷ other) (at slot mark (begun_plot form kids)) v
     child : IsStoredAt (kid_nth j (put_nth i new kids)) m other
     child = record { plot = stored.plot; reaches = stored.reaches.1; is = stored.is }
 
-    from : IsStoredAt (kid_nth j kids) m other → IsStoredAt (at slot mark (begun_plot form kids)) m (j ∷ other)
+    from : IsStoredAt (kid_nth j kids) m other → IsStoredAt (at slot mark (begun_plot tracker kids)) m (j ∷ other)
     from below = record { plot = below.plot; reaches = (within, below.reaches); is = below.is }
 
     go : (i ≡ j) ⊎ (i ≢ j) → (IsStoredAt new m other → IsStoredAt (kid_nth i kids) m other)
-        → IsStoredAt (at slot mark (begun_plot form kids)) m (j ∷ other)
+        → IsStoredAt (at slot mark (begun_plot tracker kids)) m (j ∷ other)
     go (inl e) was =
-        from
-        (subst (λ (n : ℕ). IsStoredAt (kid_nth n kids) m other) e
-        (was
+        from (subst (λ (n : ℕ). IsStoredAt (kid_nth n kids) m other) e (was
         (subst (λ (x : Kid). IsStoredAt x m other) (nth_put i new kids reach.0)
         (subst (λ (n : ℕ). IsStoredAt (kid_nth n (put_nth i new kids)) m other) (sym e) child))))
     go (inr ne) was = from (subst (λ (x : Kid). IsStoredAt x m other) (nth_other i j new kids ne) child)
 stored_before (i ∷ here) other _ v m reach stored = absurd reach
 
 -- what was put there is stored no more
-pub stored_no_more : (here : Place) (k : Kid) (v : Val) (m : ℕ) → Reaches here k
-    → IsStoredAt (put_at here (there v) k) m here → ⊥
+pub stored_no_more : (here : Place) (k : Kid) (v : Val) (m : ℕ) → Reaches here k → IsStoredAt (put_at here (there v) k) m here → ⊥
 stored_no_more here k v m reach stored =
     let both : there v ≡ at m true stored.plot = sym (kid_put_at here (there v) k reach) ∙ stored.is in
     cc

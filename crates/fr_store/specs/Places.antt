@@ -2,7 +2,7 @@
 use Rattle.std.specs.Prelude.{◌≡◌, ◌⊎◌, ℕ, ◌+◌, ◌-◌, ◌*◌, ◌<◌, ◌≤◌, Bool, true, false, cond, List, [], ◌∷◌, ◌++◌, filter, length, ltb, map, nat_eq, Option, Some, None, IsSomeAnd, if◌then◌else◌}
 use Rattle.std.specs.List.{All, Contains}
 use Rattle.fr_model.specs.Places.{Place, is_key, entry_of}
-use Rattle.fr_model.specs.Tree.{Form, as_struct, as_array, as_variant, as_some, as_ok, as_err, as_pointer, as_list, as_slice, as_closed_slice, as_set, as_map, as_dyn_array, as_dyn_object}
+use Rattle.fr_model.specs.Trackers.{Tracker, as_fields, as_elements, as_content, ContentKind, as_items, ItemsKind, as_entries, EntriesKind}
 use Rattle.fr_frame.specs.declared.places.FrameOwner.{FrameOwner}
 use Rattle.fr_frame.specs.Bodies.{Body, entered_body, whole_body, begun_body}
 use Rattle.fr_frame.specs.Heap.{Node, Heap}
@@ -30,27 +30,19 @@ AreOnce ms = (n : ℕ) → counts_in n ms ≤ 1
 -- The order of children.
 
 -- where child i comes among the children of a place that is begun so: a map's keys all come before its values
-abbrev pub order_as : Form → ℕ → ℕ
-order_as as_struct i = i
-order_as as_array i = i
-order_as (as_variant k) i = i
-order_as as_some i = i
-order_as as_ok i = i
-order_as as_err i = i
-order_as as_pointer i = i
-order_as as_list i = i
-order_as as_slice i = i
-order_as as_closed_slice i = i
-order_as as_set i = i
-order_as (as_map base) i = if is_key i then entry_of i else entry_of i + 2147483648
-order_as as_dyn_array i = i
-order_as (as_dyn_object keys) i = i
+abbrev pub order_as : Tracker → ℕ → ℕ
+order_as (as_fields selected) i = i
+order_as as_elements i = i
+order_as (as_content kind) i = i
+order_as (as_items kind) i = i
+order_as (as_entries (EntriesKind.Map base)) i = if is_key i then entry_of i else entry_of i + 2147483648
+order_as (as_entries (EntriesKind.Object keys)) i = i
 
 -- the same of what was put at the place
 abbrev pub order_in : Body → ℕ → ℕ
 order_in entered_body i = i
 order_in (whole_body v) i = i
-order_in (begun_body form cells) i = order_as form i
+order_in (begun_body tracker cells) i = order_as tracker i
 
 abbrev pub order_at : Option Node → ℕ → ℕ
 order_at (Some found) i = order_in found.body i
@@ -68,26 +60,18 @@ IsLater true false i j = ⊥
 IsLater true true i j = j < i
 IsLater false false i j = j < i
 
-abbrev pub IsAfter : Form → (i j : ℕ) → Type 0
-IsAfter as_struct i j = j < i
-IsAfter as_array i j = j < i
-IsAfter (as_variant k) i j = j < i
-IsAfter as_some i j = j < i
-IsAfter as_ok i j = j < i
-IsAfter as_err i j = j < i
-IsAfter as_pointer i j = j < i
-IsAfter as_list i j = j < i
-IsAfter as_slice i j = j < i
-IsAfter as_closed_slice i j = j < i
-IsAfter as_set i j = j < i
-IsAfter (as_map base) i j = IsLater (is_key i) (is_key j) i j
-IsAfter as_dyn_array i j = j < i
-IsAfter (as_dyn_object keys) i j = j < i
+abbrev pub IsAfter : Tracker → (i j : ℕ) → Type 0
+IsAfter (as_fields selected) i j = j < i
+IsAfter as_elements i j = j < i
+IsAfter (as_content kind) i j = j < i
+IsAfter (as_items kind) i j = j < i
+IsAfter (as_entries (EntriesKind.Map base)) i j = IsLater (is_key i) (is_key j) i j
+IsAfter (as_entries (EntriesKind.Object keys)) i j = j < i
 
 abbrev pub IsAfterIn : Plot → (i j : ℕ) → Type 0
 IsAfterIn entered_plot i j = j < i
 IsAfterIn (whole_plot v) i j = j < i
-IsAfterIn (begun_plot form kids) i j = IsAfter form i j
+IsAfterIn (begun_plot tracker kids) i j = IsAfter tracker i j
 
 abbrev pub IsAfterBelow : Kid → (i j : ℕ) → Type 0
 IsAfterBelow gone i j = j < i
@@ -124,8 +108,7 @@ slot_at k place = slot_here (kid_at place k)
 abbrev pub IsAbove : Kid → (first second : Place) → Type 0
 IsAbove k [] second = ⊥
 IsAbove k (i ∷ first) [] = ⊥
-IsAbove k (i ∷ first) (j ∷ second) =
-    IsAfterBelow k i j ⊎ ((i ≡ j) × IsAbove (kid_below i k) first second)
+IsAbove k (i ∷ first) (j ∷ second) = IsAfterBelow k i j ⊎ ((i ≡ j) × IsAbove (kid_below i k) first second)
 
 -- the shorter way comes first, and of two of one length that which is above
 abbrev pub ComesEarlier : Kid → (first second : Place) → Type 0

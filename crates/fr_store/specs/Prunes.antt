@@ -12,7 +12,7 @@ use Rattle.fr_store.specs.Ways.{counts_if, uses_in, uses_among, AllMarkedIn}
 abbrev pub kids_in_plot : Plot → Kids
 kids_in_plot entered_plot = no_kids
 kids_in_plot (whole_plot v) = no_kids
-kids_in_plot (begun_plot form kids) = kids
+kids_in_plot (begun_plot tracker kids) = kids
 
 abbrev pub kids_below : Kid → Kids
 kids_below gone = no_kids
@@ -57,7 +57,7 @@ emptied (placed n) = absent
 abbrev pub pruned : Body → Body
 pruned entered_body = entered_body
 pruned (whole_body v) = whole_body v
-pruned (begun_body form cells) = begun_body form (map emptied cells)
+pruned (begun_body tracker cells) = begun_body tracker (map emptied cells)
 
 -- the slots that served in these children are free, the place in slot n is changed so, and all else is as it was
 pub record IsPruned (before after : Heap) (n : ℕ) (change : Body → Body) (kids : Kids) : Type 0 where
@@ -70,7 +70,7 @@ pub record IsPruned (before after : Heap) (n : ℕ) (change : Body → Body) (ki
 abbrev pub cells_in_body : Body → List Cell
 cells_in_body entered_body = []
 cells_in_body (whole_body v) = []
-cells_in_body (begun_body form cells) = cells
+cells_in_body (begun_body tracker cells) = cells
 
 -- the children of the place that was found
 abbrev pub cells_found : Option Node → List Cell

@@ -51,8 +51,7 @@ all_changed heap other place new k reach all from n used = go (from n used)
 pub all_kept_but : (heap other : Heap) (place : Place) (new k : Kid) → Reaches place k → AllServe heap k
     → ((n : ℕ) → IsSome (other n) → IsSome (heap n) × (uses (kid_at place k) n ≤ uses new n))
     → AllServe other (put_at place new k)
-all_kept_but heap other place new k reach all from =
-    all_changed heap other place new k reach all (λ n used. inr (from n used))
+all_kept_but heap other place new k reach all from = all_changed heap other place new k reach all (λ n used. inr (from n used))
 
 -- no slot comes into use, and each that serves in the old serves in the new
 pub all_kept : (heap other : Heap) (place : Place) (new k : Kid) → Reaches place k → AllServe heap k
@@ -85,8 +84,7 @@ module _ (plan : Plan) (heap : Heap) (stack : List ℕ) (place : Place) (k : Kid
   -- the place that the owners tell is the cursor
   pub cursor_is : cursor_shown heap stack ≡ place
   cursor_is =
-      ap (cursor_shown heap) stands.along
-      ∙ numbers_read plan heap plan.root FrameOwner.Root 0 place k stands.holds stands.leads
+      ap (cursor_shown heap) stands.along ∙ numbers_read plan heap plan.root FrameOwner.Root 0 place k stands.holds stands.leads
 
 -- what stands for something stands for what is shown
 pub stands_shown : (plan : Plan) (heap : Heap) (stack : List ℕ) (place : Place) (k : Kid) → Stands plan heap stack place k

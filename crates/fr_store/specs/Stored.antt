@@ -1,6 +1,7 @@
 -- Places that are stored: left half done, off the way to the place at which a builder works.
 use Rattle.std.specs.Prelude.{◌≡◌, ◌↔◌, ℕ, true, false, List, Some}
 use Rattle.std.specs.List.{Contains}
+use Rattle.fr_frame.specs.declared.places.ChildWay.{ChildWay}
 use Rattle.fr_frame.specs.declared.places.Slot.{Slot}
 pub use Rattle.fr_frame.specs.Heap.{child_slot}
 use Rattle.fr_frame.specs.Heap.{Heap, heap_of, marked}
@@ -21,3 +22,8 @@ StoresNoMore before after = (n : ℕ) → marked (heap_of before) n ≡ false �
 pub record IsStoredChild (heap : Heap) (parent : ℕ) (i : ℕ) (child : ℕ) : Type 0 where
   pub slot : child_slot heap parent i ≡ Some child
   pub stored : marked heap child ≡ true
+
+-- the child to which this way leads from the place in a slot is in this slot, and is stored
+abbrev pub IsStoredBy : ChildWay → Heap → (parent : ℕ) → (child : ℕ) → Type 0
+IsStoredBy (ChildWay.Child i) heap parent child = IsStoredChild heap parent i child
+IsStoredBy _ heap parent child = ⊥

@@ -2,7 +2,7 @@
 use Rattle.std.proofs.Common.{◌≡◌, ◌≢◌, ◌⊎◌, ℕ, zero, suc, ◌+◌, ◌<◌, List, [], ◌∷◌, length, nat_eq, Option, Some, None, inl, inr, refl, sym, ◌∙◌, ap, subst, arith}
 use Rattle.std.specs.Prelude.{IsSome}
 use Rattle.fr_model.specs.Places.{Place}
-use Rattle.fr_model.specs.Tree.{Form}
+use Rattle.fr_model.specs.Trackers.{Tracker}
 use Rattle.fr_plan.specs.declared.nodes.NodeId.{NodeId}
 use Rattle.fr_plan.specs.TypePlan.{Plan}
 use Rattle.fr_frame.specs.declared.places.FrameOwner.{FrameOwner}
@@ -59,8 +59,7 @@ weighed_same v w f (suc count) same =
 weighed_sum : (v w f : ℕ → ℕ) (count : ℕ) → weighed (λ n. v n + w n) f count ≡ weighed v f count + weighed w f count
 weighed_sum v w f zero = refl
 weighed_sum v w f (suc count) =
-    omega
-    (arith, scaled_sum (v 0) (w 0) (f 0), weighed_sum (λ n. v (suc n)) (λ n. w (suc n)) (λ n. f (suc n)) count)
+    omega (arith, scaled_sum (v 0) (w 0) (f 0), weighed_sum (λ n. v (suc n)) (λ n. w (suc n)) (λ n. f (suc n)) count)
 
 counts_next : (slot n : ℕ) → counts_if (nat_eq (suc slot) (suc n)) ≡ counts_if (nat_eq slot n)
 counts_next slot n = go (same_or_other slot n)
@@ -111,19 +110,18 @@ module _ (plan : Plan) (heap : Heap) (count : ℕ) (within : (n : ℕ) → IsSom
     plot_tokens : (node : NodeId) (slot depth : ℕ) (plot : Plot) → HoldsIn plan heap node slot depth plot
         → plot_occurs plot t ≡ body_occurs (body_in plot) t + weighed (uses_in plot) f count
     plot_tokens node slot depth entered_plot holds = omega (arith, weighed_none (uses_in entered_plot) f count (λ n. refl))
-    plot_tokens node slot depth (whole_plot v) holds =
-        omega (arith, weighed_none (uses_in (whole_plot v)) f count (λ n. refl))
-    plot_tokens node slot depth (begun_plot form kids) holds =
+    plot_tokens node slot depth (whole_plot v) holds = omega (arith, weighed_none (uses_in (whole_plot v)) f count (λ n. refl))
+    plot_tokens node slot depth (begun_plot tracker kids) holds =
         omega
-        (arith, weighed_same (uses_in (begun_plot form kids)) (uses_among kids) f count (λ n. refl), among_tokens node slot form 0 depth kids holds)
+        (arith, weighed_same (uses_in (begun_plot tracker kids)) (uses_among kids) f count (λ n. refl), among_tokens node slot tracker 0 depth kids holds)
 
-    among_tokens : (node : NodeId) (slot : ℕ) (form : Form) (i depth : ℕ) (ks : Kids)
-        → HoldsAll plan heap node slot form i depth ks
+    among_tokens : (node : NodeId) (slot : ℕ) (tracker : Tracker) (i depth : ℕ) (ks : Kids)
+        → HoldsAll plan heap node slot tracker i depth ks
         → kids_occur ks t ≡ cells_occur (cells_in ks) t + weighed (uses_among ks) f count
-    among_tokens node slot form i depth no_kids holds = omega (arith, weighed_none (uses_among no_kids) f count (λ n. refl))
-    among_tokens node slot form i depth (kid k ks) holds =
+    among_tokens node slot tracker i depth no_kids holds = omega (arith, weighed_none (uses_among no_kids) f count (λ n. refl))
+    among_tokens node slot tracker i depth (kid k ks) holds =
         omega
-        (arith, weighed_sum (uses k) (uses_among ks) f count, weighed_same (uses_among (kid k ks)) (λ n. uses k n + uses_among ks n) f count (λ n. refl), held_tokens (child_node plan node form i) (child_owner slot i) depth k holds.0, among_tokens node slot form (suc i) depth ks holds.1)
+        (arith, weighed_sum (uses k) (uses_among ks) f count, weighed_same (uses_among (kid k ks)) (λ n. uses k n + uses_among ks n) f count (λ n. refl), held_tokens (child_node plan node tracker i) (child_owner slot i) depth k holds.0, among_tokens node slot tracker (suc i) depth ks holds.1)
 
 -- All slots.
 

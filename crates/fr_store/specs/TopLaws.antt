@@ -5,7 +5,8 @@ use Rattle.std.proofs.lemmas.Grind.{common_steps}
 use Rattle.std.proofs.lemmas.Bool.Decides.{nat_tests}
 use Rattle.fr_shape.specs.declared.shape.Def.{Def}
 use Rattle.fr_model.specs.Places.{Place}
-use Rattle.fr_model.specs.Tree.{Form, Trees, begun, branch}
+use Rattle.fr_model.specs.Trackers.{Tracker}
+use Rattle.fr_model.specs.Tree.{Trees, begun, branch}
 use Rattle.fr_plan.specs.declared.nodes.NodeId.{NodeId}
 use Rattle.fr_plan.specs.TypePlan.{Plan}
 use Rattle.fr_frame.specs.declared.places.FrameOwner.{FrameOwner}
@@ -57,8 +58,7 @@ used_mapped heap n change m used = go (same_or_other m n)
 
     go : (m ≡ n) ⊎ (m ≢ n) → IsSome (heap m)
     go (inl e) =
-        subst (λ (x : ℕ). IsSome (heap x)) (sym e)
-        (was (heap n)
+        subst (λ (x : ℕ). IsSome (heap x)) (sym e) (was (heap n)
         (subst (λ (o : Option Node). IsSome o) (slot_here heap n (option_map change (heap n)))
         (subst (λ (x : ℕ). IsSome (with_slot heap n (option_map change (heap n)) x)) e used)))
     go (inr ne) = subst (λ (o : Option Node). IsSome o) (slot_other heap n (option_map change (heap n)) m ne) used
@@ -74,8 +74,7 @@ used_entered def heap node p step n m used = go (same_or_other m n)
     go : (m ≡ n) ⊎ (m ≢ n) → (m ≡ n) ⊎ IsSome (heap m)
     go (inl e) = inl e
     go (inr ne) =
-        inr
-        (used_mapped heap p.0 (λ (x : Node). record x { body = linked n step x.body }) m
+        inr (used_mapped heap p.0 (λ (x : Node). record x { body = linked n step x.body }) m
         (subst (λ (o : Option Node). IsSome o)
         (slot_other (links owner n heap) n (Some (entered_node def heap node owner)) m ne) used))
 
@@ -125,7 +124,7 @@ unplaced_uses (kid (at slot stored plot) ks) n closed = absurd closed.0
 pub closed_uses : (plot : Plot) (n : ℕ) → IsClosed (body_in plot) → uses_in plot n ≡ 0
 closed_uses entered_plot n closed = refl
 closed_uses (whole_plot v) n closed = refl
-closed_uses (begun_plot form kids) n closed = unplaced_uses kids n closed
+closed_uses (begun_plot tracker kids) n closed = unplaced_uses kids n closed
 
 pub unplaced_occur : (ks : Kids) (t : ℕ) → AreUnplaced (cells_in ks) → kids_occur ks t ≡ cells_occur (cells_in ks) t
 unplaced_occur no_kids t closed = refl
@@ -137,7 +136,7 @@ unplaced_occur (kid (at slot stored plot) ks) t closed = absurd closed.0
 pub closed_occur : (plot : Plot) (t : ℕ) → IsClosed (body_in plot) → plot_occurs plot t ≡ body_occurs (body_in plot) t
 closed_occur entered_plot t closed = refl
 closed_occur (whole_plot v) t closed = refl
-closed_occur (begun_plot form kids) t closed = unplaced_occur kids t closed
+closed_occur (begun_plot tracker kids) t closed = unplaced_occur kids t closed
 
 unplaced_trees : (ks : Kids) → AreUnplaced (cells_in ks) → trees_in ks ≡ trees_of (cells_in ks)
 unplaced_trees no_kids closed = refl
@@ -149,7 +148,7 @@ unplaced_trees (kid (at slot stored plot) ks) closed = absurd closed.0
 pub closed_tree : (plot : Plot) → IsClosed (body_in plot) → tree_in plot ≡ own_tree (body_in plot)
 closed_tree entered_plot closed = refl
 closed_tree (whole_plot v) closed = refl
-closed_tree (begun_plot form kids) closed = ap (λ (ts : Trees). begun form ts) (unplaced_trees kids closed)
+closed_tree (begun_plot tracker kids) closed = ap (λ (ts : Trees). begun tracker ts) (unplaced_trees kids closed)
 
 pub unplaced_marked : (mark : Bool) (ks : Kids) → AreUnplaced (cells_in ks) → AllMarkedAmong mark ks
 unplaced_marked mark no_kids closed = tt
@@ -160,24 +159,24 @@ unplaced_marked mark (kid (at slot stored plot) ks) closed = absurd closed.0
 pub closed_marked : (mark : Bool) (plot : Plot) → IsClosed (body_in plot) → AllMarkedIn mark plot
 closed_marked mark entered_plot closed = tt
 closed_marked mark (whole_plot v) closed = tt
-closed_marked mark (begun_plot form kids) closed = unplaced_marked mark kids closed
+closed_marked mark (begun_plot tracker kids) closed = unplaced_marked mark kids closed
 
-pub unplaced_holds : (plan : Plan) (heap : Heap) (node : NodeId) (slot : ℕ) (form : Form) (i depth : ℕ) (ks : Kids) (count : ℕ)
-    → count ≡ i + count_kids ks → MayHave form count → AreUnplaced (cells_in ks) → HoldsAll plan heap node slot form i depth ks
-unplaced_holds plan heap node slot form i depth no_kids count e may closed =
+pub unplaced_holds : (plan : Plan) (heap : Heap) (node : NodeId) (slot : ℕ) (tracker : Tracker) (i depth : ℕ) (ks : Kids) (count : ℕ)
+    → count ≡ i + count_kids ks → MayHave tracker count → AreUnplaced (cells_in ks) → HoldsAll plan heap node slot tracker i depth ks
+unplaced_holds plan heap node slot tracker i depth no_kids count e may closed =
     let same : count ≡ i = omega arith in
-    subst (λ (n : ℕ). MayHave form n) same may
-unplaced_holds plan heap node slot form i depth (kid gone ks) count e may closed =
-    (tt, unplaced_holds plan heap node slot form (suc i) depth ks count (omega arith) may closed.1)
-unplaced_holds plan heap node slot form i depth (kid (there v) ks) count e may closed =
-    (tt, unplaced_holds plan heap node slot form (suc i) depth ks count (omega arith) may closed.1)
-unplaced_holds plan heap node slot form i depth (kid (at m stored plot) ks) count e may closed = absurd closed.0
+    subst (λ (n : ℕ). MayHave tracker n) same may
+unplaced_holds plan heap node slot tracker i depth (kid gone ks) count e may closed =
+    (tt, unplaced_holds plan heap node slot tracker (suc i) depth ks count (omega arith) may closed.1)
+unplaced_holds plan heap node slot tracker i depth (kid (there v) ks) count e may closed =
+    (tt, unplaced_holds plan heap node slot tracker (suc i) depth ks count (omega arith) may closed.1)
+unplaced_holds plan heap node slot tracker i depth (kid (at m stored plot) ks) count e may closed = absurd closed.0
 
 -- it has no more children than it may
 abbrev pub MayHaveIts : Body → Type 0
 MayHaveIts entered_body = Unit {0}
 MayHaveIts (whole_body v) = Unit {0}
-MayHaveIts (begun_body form cells) = MayHave form (length cells)
+MayHaveIts (begun_body tracker cells) = MayHave tracker (length cells)
 
 pub cells_count : (ks : Kids) → length (cells_in ks) ≡ count_kids ks
 cells_count no_kids = refl
@@ -187,16 +186,16 @@ pub closed_holds : (plan : Plan) (heap : Heap) (node : NodeId) (slot depth : ℕ
     → IsClosed (body_in plot) → HoldsIn plan heap node slot depth plot
 closed_holds plan heap node slot depth entered_plot may closed = tt
 closed_holds plan heap node slot depth (whole_plot v) may closed = tt
-closed_holds plan heap node slot depth (begun_plot form kids) may closed =
-    unplaced_holds plan heap node slot form 0 depth kids (length (cells_in kids)) (omega (arith, cells_count kids)) may closed
+closed_holds plan heap node slot depth (begun_plot tracker kids) may closed =
+    unplaced_holds plan heap node slot tracker 0 depth kids (length (cells_in kids)) (omega (arith, cells_count kids)) may closed
 
 -- what is held has no more than it may
 pub held_may_have : (plan : Plan) (heap : Heap) (node : NodeId) (slot depth : ℕ) (plot : Plot)
     → HoldsIn plan heap node slot depth plot → MayHaveIts (body_in plot)
 held_may_have plan heap node slot depth entered_plot holds = tt
 held_may_have plan heap node slot depth (whole_plot v) holds = tt
-held_may_have plan heap node slot depth (begun_plot form kids) holds =
-    may_have plan heap node slot form 0 depth kids (length (cells_in kids)) (omega (arith, cells_count kids)) holds
+held_may_have plan heap node slot depth (begun_plot tracker kids) holds =
+    may_have plan heap node slot tracker 0 depth kids (length (cells_in kids)) (omega (arith, cells_count kids)) holds
 
 -- nothing is both stored and not stored
 pub unplaced_by_marks : (ks : Kids) → AllMarkedAmong true ks → AllMarkedAmong false ks → AreUnplaced (cells_in ks)
@@ -210,7 +209,7 @@ unplaced_by_marks (kid (at slot stored plot) ks) marked unmarked =
 pub closed_by_marks : (plot : Plot) → AllMarkedIn true plot → AllMarkedIn false plot → IsClosed (body_in plot)
 closed_by_marks entered_plot marked unmarked = tt
 closed_by_marks (whole_plot v) marked unmarked = tt
-closed_by_marks (begun_plot form kids) marked unmarked = unplaced_by_marks kids marked unmarked
+closed_by_marks (begun_plot tracker kids) marked unmarked = unplaced_by_marks kids marked unmarked
 
 -- The top.
 
@@ -251,11 +250,8 @@ top_of plan heap stack place k stands =
         let same : 0 + length place ≡ length place = omega arith in
         let found : Holds plan heap (node_along plan plan.root place k) (owner_along FrameOwner.Root place k) (length place)
         (at slot false plot)
-        = subst
-        (λ (x : Kid). Holds plan heap (node_along plan plan.root place k) (owner_along FrameOwner.Root place k)
-        (length place) x)
-        (e ∙ ap (λ (b : Bool). at slot b plot) l.0)
-        (subst
+        = subst (λ (x : Kid). Holds plan heap (node_along plan plan.root place k) (owner_along FrameOwner.Root place k)
+        (length place) x) (e ∙ ap (λ (b : Bool). at slot b plot) l.0) (subst
         (λ (d : ℕ). Holds plan heap (node_along plan plan.root place k) (owner_along FrameOwner.Root place k) d
         (kid_at place k)) same holds) in
         record {
@@ -304,12 +300,7 @@ pub loses_none : (old new : Plot) → IsClosed (body_in old) → LosesNone old n
 loses_none old new closed n = omega (arith, closed_uses old n closed)
 
 pub keeps_same : (plot : Plot) → KeepsChildren plot plot
-keeps_same plot = record {
-  marked = λ h. h;
-  once = λ n. omega arith;
-  holds = λ plan heap node slot depth h. h;
-  left = λ h. h;
-}
+keeps_same plot = record { marked = λ h. h; once = λ n. omega arith; holds = λ plan heap node slot depth h. h; left = λ h. h }
 
 module _ (plan : Plan) (heap : Heap) (stack : List ℕ) (place : Place) (k : Kid) (stands : Stands plan heap stack place k)
     (top : Top plan heap stack place k) where
@@ -323,8 +314,7 @@ module _ (plan : Plan) (heap : Heap) (stack : List ℕ) (place : Place) (k : Kid
 
   pub not_beside : (n : ℕ) → uses (kid_at place k) n < uses k n → n ≢ top.slot
   not_beside n h e =
-      let one : counts_if (nat_eq top.slot n) ≡ 1
-      = ap (λ (m : ℕ). counts_if (nat_eq top.slot m)) e ∙ counts_same top.slot in
+      let one : counts_if (nat_eq top.slot n) ≡ 1 = ap (λ (m : ℕ). counts_if (nat_eq top.slot m)) e ∙ counts_same top.slot in
       absurd (omega (arith, top_uses n, stands.once n))
 
   pub not_beneath : (n : ℕ) → 0 < uses_in top.plot n → n ≢ top.slot
@@ -334,13 +324,7 @@ module _ (plan : Plan) (heap : Heap) (stack : List ℕ) (place : Place) (k : Kid
 
   -- of whatever owner and depth it is held, these are they
   pub top_held : (node : NodeId) (owner : FrameOwner) (depth : ℕ) → Holds plan heap node owner depth (kid_at place k)
-      → ◌≡◌ {A = Node} (record {
-        node = node;
-        owner = owner;
-        stored = false;
-        depth = depth;
-        body = body_in top.plot;
-      }) (record {
+      → ◌≡◌ {A = Node} (record { node = node; owner = owner; stored = false; depth = depth; body = body_in top.plot }) (record {
         node = node_along plan plan.root place k;
         owner = owner_along FrameOwner.Root place k;
         stored = false;
@@ -361,9 +345,7 @@ pub top_replaced : (plan : Plan) (heap other : Heap) (stack : List ℕ) (place :
       stored = false;
       depth = length place;
       body = body_in new;
-    })
-    → ((m : ℕ) → m ≢ top.slot → other m ≡ heap m)
-    → Stands plan other stack place (put_at place (at top.slot false new) k)
+    }) → ((m : ℕ) → m ≢ top.slot → other m ≡ heap m) → Stands plan other stack place (put_at place (at top.slot false new) k)
 top_replaced plan heap other stack place k new stands top keeps here beside =
     let longer : Stands plan heap stack (place ++ []) k
     = subst (λ (p : Place). Stands plan heap stack p k) (sym (append-nil place)) stands in

@@ -4,7 +4,7 @@ use Rattle.std.specs.Prelude.{is_some}
 use Rattle.fr_shape.specs.Val.{Val}
 use Rattle.fr_model.specs.Finishing.{IsOffTheWay}
 use Rattle.fr_model.specs.Places.{Place}
-use Rattle.fr_model.specs.Tree.{Form}
+use Rattle.fr_model.specs.Trackers.{Tracker}
 use Rattle.fr_plan.specs.declared.nodes.NodeId.{NodeId}
 use Rattle.fr_plan.specs.TypePlan.{Plan}
 use Rattle.fr_frame.specs.declared.places.FrameOwner.{FrameOwner}
@@ -24,9 +24,9 @@ use Rattle.fr_store.specs.WayLaws.{counts_same, same_or_other, uses_at, uses_nth
 -- One slot after another.
 
 -- a place's slot n is taken out of slot q, of which it is child i, once something else was put at it, and then a value is put there
-module _ (heap first mid last : Heap) (n q i : ℕ) (below above : Node) (body : Body) (form : Form) (kids : Kids) (v : Val)
+module _ (heap first mid last : Heap) (n q i : ℕ) (below above : Node) (body : Body) (tracker : Tracker) (kids : Kids) (v : Val)
     (apart : n ≢ q) (here : heap n ≡ Some below) (over : heap q ≡ Some above)
-    (begun : above.body ≡ begun_body form (cells_in kids)) (may : MayHave form (count_kids kids)) (within : i < count_kids kids)
+    (begun : above.body ≡ begun_body tracker (cells_in kids)) (may : MayHave tracker (count_kids kids)) (within : i < count_kids kids)
     (child : cell_of (kid_nth i kids) ≡ placed n) (owner : below.owner ≡ child_owner q i)
     (puts : (m : ℕ) → first m ≡ with_slot heap n (Some (record below { body = body })) m)
     (leaves : (m : ℕ) → mid m ≡ without first n below.owner m) where
@@ -36,17 +36,14 @@ module _ (heap first mid last : Heap) (n q i : ℕ) (below above : Node) (body :
   left : (m : ℕ) → mid m ≡ with_body (with_slot first n None) q (unlinked n i) m
   left m = leaves m ∙ ap (λ (o : FrameOwner). without first n o m) owner
 
-  mid_over : mid q ≡ Some (record above { body = begun_body form (cells_in (put_nth i gone kids)) })
+  mid_over : mid q ≡ Some (record above { body = begun_body tracker (cells_in (put_nth i gone kids)) })
   mid_over =
-      left q
-      ∙ body_here (with_slot first n None) q (unlinked n i) above
-      (slot_other first n None q (λ e. apart (sym e)) ∙ first_over)
-      ∙ ap (λ (b : Body). Some (record above { body = b }))
-      (ap (unlinked n i) begun ∙ unlinked_child form i n kids may within child)
+      left q ∙ body_here (with_slot first n None) q (unlinked n i) above
+      (slot_other first n None q (λ e. apart (sym e)) ∙ first_over) ∙ ap (λ (b : Body). Some (record above { body = b }))
+      (ap (unlinked n i) begun ∙ unlinked_child tracker i n kids may within child)
 
   mid_here : mid n ≡ None
-  mid_here =
-      left n ∙ body_other (with_slot first n None) q (unlinked n i) n apart ∙ slot_here first n None
+  mid_here = left n ∙ body_other (with_slot first n None) q (unlinked n i) n apart ∙ slot_here first n None
 
   mid_other : (m : ℕ) → m ≢ q → m ≢ n → mid m ≡ heap m
   mid_other m a b =
@@ -54,15 +51,13 @@ module _ (heap first mid last : Heap) (n q i : ℕ) (below above : Node) (body :
       ∙ puts m ∙ slot_other heap n (Some (record below { body = body })) m b
 
   module _ (ends : (m : ℕ) → last m ≡ with_body mid q (λ old. with_cell old i (given v)) m) where
-    pub last_over : last q ≡ Some (record above { body = begun_body form (cells_in (put_nth i (there v) kids)) })
+    pub last_over : last q ≡ Some (record above { body = begun_body tracker (cells_in (put_nth i (there v) kids)) })
     last_over =
-        ends q
-        ∙ body_here mid q (λ old. with_cell old i (given v))
-        (record above { body = begun_body form (cells_in (put_nth i gone kids)) }) mid_over
+        ends q ∙ body_here mid q (λ old. with_cell old i (given v))
+        (record above { body = begun_body tracker (cells_in (put_nth i gone kids)) }) mid_over
         ∙ ap (λ (b : Body). Some (record above { body = b }))
-        (with_child form i (there v) (put_nth i gone kids) (may_have_put form i gone kids may)
-        (within_put i gone kids within)
-        ∙ ap (λ (ks : Kids). begun_body form (cells_in ks)) (twice i kids))
+        (with_child tracker i (there v) (put_nth i gone kids) (may_have_put tracker i gone kids may)
+        (within_put i gone kids within) ∙ ap (λ (ks : Kids). begun_body tracker (cells_in ks)) (twice i kids))
       where
         twice : (j : ℕ) (ks : Kids) → put_nth j (there v) (put_nth j gone ks) ≡ put_nth j (there v) ks
         twice j no_kids = refl
@@ -73,8 +68,7 @@ module _ (heap first mid last : Heap) (n q i : ℕ) (below above : Node) (body :
     last_here = ends n ∙ body_other mid q (λ old. with_cell old i (given v)) n apart ∙ mid_here
 
     pub last_other : (m : ℕ) → m ≢ q → m ≢ n → last m ≡ heap m
-    last_other m a b =
-        ends m ∙ body_other mid q (λ old. with_cell old i (given v)) m a ∙ mid_other m a b
+    last_other m a b = ends m ∙ body_other mid q (λ old. with_cell old i (given v)) m a ∙ mid_other m a b
 
     -- all others are in use as before
     pub in_use_last : (m : ℕ) → m ≢ n → is_some (last m) ≡ is_some (heap m)
@@ -92,15 +86,14 @@ module _ (heap first mid last : Heap) (n q i : ℕ) (below above : Node) (body :
         go (inl e) b =
             let none : false ≡ true = ap stored_in (sym last_here) ∙ ap (marked last) (sym e) ∙ is in
             cc
-        go (inr a) (inl e) =
-            ap (marked heap) e ∙ ap stored_in over ∙ ap stored_in (sym last_over) ∙ ap (marked last) (sym e) ∙ is
+        go (inr a) (inl e) = ap (marked heap) e ∙ ap stored_in over ∙ ap stored_in (sym last_over) ∙ ap (marked last) (sym e) ∙ is
         go (inr a) (inr b) = ap stored_in (sym (last_other m b a)) ∙ is
 
 -- The place above a stored one.
 
 reaches_append : (place below : Place) (k : Kid) → Reaches (place ++ below) k → Reaches place k × Reaches below (kid_at place k)
 reaches_append [] below k reach = (tt, reach)
-reaches_append (i ∷ place) below (at slot stored (begun_plot form kids)) reach =
+reaches_append (i ∷ place) below (at slot stored (begun_plot tracker kids)) reach =
     let rest = reaches_append place below (kid_nth i kids) reach.1 in
     ((reach.0, rest.0), rest.1)
 reaches_append (i ∷ place) below _ reach = absurd reach
@@ -111,11 +104,11 @@ pub record Over (here : Place) (k : Kid) (n : ℕ) (plot : Plot) : Type 0 where
   pub i : ℕ
   pub slot : ℕ
   pub mark : Bool
-  pub form : Form
+  pub tracker : Tracker
   pub kids : Kids
   pub is_below : here ≡ above ++ i ∷ []
   pub reach : Reaches above k
-  pub is : kid_at above k ≡ at slot mark (begun_plot form kids)
+  pub is : kid_at above k ≡ at slot mark (begun_plot tracker kids)
   pub within : i < count_kids kids
   pub child : kid_nth i kids ≡ at n true plot
   pub owner : owner_along FrameOwner.Root here k ≡ child_owner slot i
@@ -130,12 +123,12 @@ over_of here k n plot low reach is = split here refl
     find above i e (there v) of top reach child = absurd reach
     find above i e (at slot mark entered_plot) of top reach child = absurd reach
     find above i e (at slot mark (whole_plot v)) of top reach child = absurd reach
-    find above i e (at slot mark (begun_plot form kids)) of top reach child = record {
+    find above i e (at slot mark (begun_plot tracker kids)) of top reach child = record {
       above = above;
       i = i;
       slot = slot;
       mark = mark;
-      form = form;
+      tracker = tracker;
       kids = kids;
       is_below = e;
       reach = top;
@@ -158,28 +151,28 @@ over_of here k n plot low reach is = split here refl
 
 -- What is held.
 
-frame_all : (plan : Plan) (heap other : Heap) (node : NodeId) (slot : ℕ) (form : Form) (i depth : ℕ) (ks : Kids)
-    → HoldsAll plan heap node slot form i depth ks → ((m : ℕ) → 0 < uses_among ks m → other m ≡ heap m)
-    → HoldsAll plan other node slot form i depth ks
-frame_all plan heap other node slot form i depth no_kids holds agree = holds
-frame_all plan heap other node slot form i depth (kid k ks) holds agree = (
-  holds_frame plan heap other (child_node plan node form i) (child_owner slot i) depth k holds.0
+frame_all : (plan : Plan) (heap other : Heap) (node : NodeId) (slot : ℕ) (tracker : Tracker) (i depth : ℕ) (ks : Kids)
+    → HoldsAll plan heap node slot tracker i depth ks → ((m : ℕ) → 0 < uses_among ks m → other m ≡ heap m)
+    → HoldsAll plan other node slot tracker i depth ks
+frame_all plan heap other node slot tracker i depth no_kids holds agree = holds
+frame_all plan heap other node slot tracker i depth (kid k ks) holds agree = (
+  holds_frame plan heap other (child_node plan node tracker i) (child_owner slot i) depth k holds.0
       (λ m h. agree m (omega arith)),
-  frame_all plan heap other node slot form (suc i) depth ks holds.1 (λ m h. agree m (omega arith)),
+  frame_all plan heap other node slot tracker (suc i) depth ks holds.1 (λ m h. agree m (omega arith)),
 )
 
 -- a value is put in the stead of a child
-holds_value : (plan : Plan) (heap other : Heap) (node : NodeId) (slot : ℕ) (form : Form) (first depth i : ℕ) (ks : Kids)
-    (v : Val) → HoldsAll plan heap node slot form first depth ks
+holds_value : (plan : Plan) (heap other : Heap) (node : NodeId) (slot : ℕ) (tracker : Tracker) (first depth i : ℕ) (ks : Kids)
+    (v : Val) → HoldsAll plan heap node slot tracker first depth ks
     → ((m : ℕ) → uses (kid_nth i ks) m < uses_among ks m → other m ≡ heap m)
-    → HoldsAll plan other node slot form first depth (put_nth i (there v) ks)
-holds_value plan heap other node slot form first depth i no_kids v holds agree = holds
-holds_value plan heap other node slot form first depth zero (kid k ks) v holds agree =
-    (tt, frame_all plan heap other node slot form (suc first) depth ks holds.1 (λ m h. agree m (omega arith)))
-holds_value plan heap other node slot form first depth (suc i) (kid k ks) v holds agree = (
-  holds_frame plan heap other (child_node plan node form first) (child_owner slot first) depth k holds.0
+    → HoldsAll plan other node slot tracker first depth (put_nth i (there v) ks)
+holds_value plan heap other node slot tracker first depth i no_kids v holds agree = holds
+holds_value plan heap other node slot tracker first depth zero (kid k ks) v holds agree =
+    (tt, frame_all plan heap other node slot tracker (suc first) depth ks holds.1 (λ m h. agree m (omega arith)))
+holds_value plan heap other node slot tracker first depth (suc i) (kid k ks) v holds agree = (
+  holds_frame plan heap other (child_node plan node tracker first) (child_owner slot first) depth k holds.0
       (λ m h. agree m (omega (arith, uses_nth i ks m))),
-  holds_value plan heap other node slot form (suc first) depth i ks v holds.1 (λ m h. agree m (omega arith)),
+  holds_value plan heap other node slot tracker (suc first) depth i ks v holds.1 (λ m h. agree m (omega arith)),
 )
 
 -- what is in the slot of a stored place
@@ -199,7 +192,7 @@ over_node plan here k n plot over = record {
   owner = owner_along FrameOwner.Root over.above k;
   stored = over.mark;
   depth = 0 + length over.above;
-  body = begun_body over.form (cells_in over.kids);
+  body = begun_body over.tracker (cells_in over.kids);
 }
 
 module _ (plan : Plan) (heap : Heap) (stack : List ℕ) (cursor here : Place) (k : Kid) (n : ℕ) (plot : Plot)
@@ -225,19 +218,17 @@ module _ (plan : Plan) (heap : Heap) (stack : List ℕ) (cursor here : Place) (k
 
   module _ (over : Over here k n plot) where
     over_holds : Holds plan heap (node_along plan plan.root over.above k) (owner_along FrameOwner.Root over.above k)
-        (0 + length over.above) (at over.slot over.mark (begun_plot over.form over.kids))
+        (0 + length over.above) (at over.slot over.mark (begun_plot over.tracker over.kids))
     over_holds =
-        subst
-        (λ (x : Kid). Holds plan heap (node_along plan plan.root over.above k) (owner_along FrameOwner.Root over.above k)
-        (0 + length over.above) x)
-        over.is (holds_at plan heap plan.root FrameOwner.Root 0 over.above k stands.holds over.reach)
+        subst (λ (x : Kid). Holds plan heap (node_along plan plan.root over.above k) (owner_along FrameOwner.Root over.above k)
+        (0 + length over.above) x) over.is (holds_at plan heap plan.root FrameOwner.Root 0 over.above k stands.holds over.reach)
 
     pub over_found : heap over.slot ≡ Some (over_node plan here k n plot over)
     over_found = over_holds.0
 
-    pub over_may_have : MayHave over.form (count_kids over.kids)
+    pub over_may_have : MayHave over.tracker (count_kids over.kids)
     over_may_have =
-        may_have_all plan heap (node_along plan plan.root over.above k) over.slot over.form
+        may_have_all plan heap (node_along plan plan.root over.above k) over.slot over.tracker
         (suc (0 + length over.above)) over.kids over_holds.2
 
     over_uses : (m : ℕ) → uses (kid_at over.above k) m ≡ counts_if (nat_eq over.slot m) + uses_among over.kids m
@@ -251,19 +242,14 @@ module _ (plan : Plan) (heap : Heap) (stack : List ℕ) (cursor here : Place) (k
 
     pub due_apart : n ≢ over.slot
     due_apart e =
-        let one : counts_if (nat_eq over.slot n) ≡ 1
-        = ap (λ (x : ℕ). counts_if (nat_eq x n)) (sym e) ∙ counts_same n in
-        absurd
-        (omega (arith, one, counts_same n, child_uses n, uses_nth over.i over.kids n, once_above n))
+        let one : counts_if (nat_eq over.slot n) ≡ 1 = ap (λ (x : ℕ). counts_if (nat_eq x n)) (sym e) ∙ counts_same n in
+        absurd (omega (arith, one, counts_same n, child_uses n, uses_nth over.i over.kids n, once_above n))
 
     -- a value in the stead of the place
-    pub stands_turned : (other : Heap) (v : Val) → IsClosed (body_in plot)
-        → other over.slot
+    pub stands_turned : (other : Heap) (v : Val) → IsClosed (body_in plot) → other over.slot
         ≡ Some (record (over_node plan here k n plot over) {
-          body = begun_body over.form (cells_in (put_nth over.i (there v) over.kids));
-        })
-        → ((m : ℕ) → m ≢ over.slot → m ≢ n → other m ≡ heap m)
-        → Stands plan other stack cursor (put_at here (there v) k)
+          body = begun_body over.tracker (cells_in (put_nth over.i (there v) over.kids));
+        }) → ((m : ℕ) → m ≢ over.slot → m ≢ n → other m ≡ heap m) → Stands plan other stack cursor (put_at here (there v) k)
     stands_turned other v closed found beside = record {
       holds =
           subst (λ (x : Kid). Holds plan other plan.root FrameOwner.Root 0 x) (sym put)
@@ -276,7 +262,7 @@ module _ (plan : Plan) (heap : Heap) (stack : List ℕ) (cursor here : Place) (k
     }
       where
         new : Kid
-        new = at over.slot over.mark (begun_plot over.form (put_nth over.i (there v) over.kids))
+        new = at over.slot over.mark (begun_plot over.tracker (put_nth over.i (there v) over.kids))
 
         put : put_at here (there v) k ≡ put_at over.above new k
         put =
@@ -311,18 +297,14 @@ module _ (plan : Plan) (heap : Heap) (stack : List ℕ) (cursor here : Place) (k
               owner = by;
               stored = over.mark;
               depth = depth;
-              body = begun_body over.form (cells_in over.kids);
+              body = begun_body over.tracker (cells_in over.kids);
             }) ≡ Some (over_node plan here k n plot over) = sym was.0 ∙ over_found in (
-              found
-                  ∙ sym (ap
-                  (λ (x : Option Node). with_kids x) same),
+              found ∙ sym (ap (λ (x : Option Node). with_kids x) same),
               was.1,
-              holds_value plan heap other node over.slot over.form 0 (suc depth) over.i over.kids v was.2
-                  (λ m h.
-                  elsewhere m (omega (arith, once_above m, child_uses m))
-                  (omega (arith, once_above m, child_uses m))),
+              holds_value plan heap other node over.slot over.tracker 0 (suc depth) over.i over.kids v was.2 (λ m h.
+                  elsewhere m (omega (arith, once_above m, child_uses m)) (omega (arith, once_above m, child_uses m))),
             )
           where
             with_kids : Option Node → Option Node
-            with_kids (Some x) = Some (record x { body = begun_body over.form (cells_in (put_nth over.i (there v) over.kids)) })
+            with_kids (Some x) = Some (record x { body = begun_body over.tracker (cells_in (put_nth over.i (there v) over.kids)) })
             with_kids None = None

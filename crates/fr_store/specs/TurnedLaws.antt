@@ -49,8 +49,7 @@ use Rattle.fr_store.specs.WayLaws.{counts_other, leads_reach, same_or_other, tre
 
 pub shape_found : (plan : Plan) (node : NodeId) (s : ℕ) → IsOfShape plan node s → shape_of plan node ≡ s
 shape_found plan node s is =
-    ap
-    (λ (found : Option TypePlanNode). (unwrap_or (option_map (λ (x : TypePlanNode). x.shape) found) (record { 0 = 0 })).0)
+    ap (λ (found : Option TypePlanNode). (unwrap_or (option_map (λ (x : TypePlanNode). x.shape) found) (record { 0 = 0 })).0)
     is.there ∙ is.shape
 
 pub is_there : {A : Type 0} (xs : List A) (i : ℕ) (x : A) → slice_get xs i ≡ Some x → i < length xs
@@ -66,8 +65,8 @@ count_of (c ∷ cells) = ap suc (count_of cells)
 full_by : (table : Table) (s : ℕ) (body : Body) → Suits table s (own_tree body) → IsFull table s body
 full_by table s entered_body suits = tt
 full_by table s (whole_body v) suits = tt
-full_by table s (begun_body form cells) suits =
-    subst (λ (count : ℕ). IsFullAs (def_of table s) form count) (count_of cells) suits.0.0
+full_by table s (begun_body tracker cells) suits =
+    subst (λ (count : ℕ). IsFullAs (def_of table s) tracker count) (count_of cells) suits.0.0
 
 -- the plan's node of a place that is reached has the shape that the table has there, which the tree there suits
 pub along_open : LookupsAgree → LookupPathsAgree → (table : Table) (plan : Plan) → IsChecked table → IsPlanFor table plan
@@ -102,8 +101,7 @@ pub open_shown : (plan : Plan) (slots : List Slot) (stack : List ℕ) (place : P
 open_shown plan slots stack place k tree stands tokens all is = record {
   open_still = record {
     stands = stands_shown plan (heap_of slots) stack place k stands;
-    tokens = λ t.
-        tokens t ∙ ap (λ (x : Kid). kid_occurs x t) (sym (kid_is plan (heap_of slots) stack place k stands));
+    tokens = λ t. tokens t ∙ ap (λ (x : Kid). kid_occurs x t) (sym (kid_is plan (heap_of slots) stack place k stands));
     all = λ n used. subst (λ (x : Kid). 0 < uses x n) (sym (kid_is plan (heap_of slots) stack place k stands)) (all n used);
   };
   cursor = cursor_is plan (heap_of slots) stack place k stands;
@@ -142,8 +140,7 @@ module _ (plan : Plan) (before : List Slot) (stack : List ℕ) (n : ℕ) (open_n
 
   own : own_tree below.body ≡ tree_at due.place (tree_in_slots before stack)
   unfolding below
-  own =
-      sym (closed_tree due.plot due.closed) ∙ ap tree_of (sym due.is) ∙ tree_of_at due.place (kid_here before stack)
+  own = sym (closed_tree due.plot due.closed) ∙ ap tree_of (sym due.is) ∙ tree_of_at due.place (kid_here before stack)
 
   shut : IsClosed below.body
   unfolding below
@@ -174,8 +171,7 @@ module _ (plan : Plan) (before : List Slot) (stack : List ℕ) (n : ℕ) (open_n
     pub refused : (means : Meanings) (kind : ReflectErrorKind)
         → IfInUse before n (λ (x : Node). WhyNotDefault means table (shape_of plan x.node) x.body kind)
         → (kind ≡ ReflectErrorKind.OutOfMemory) ⊎ IsLackingAt means table plan before stack n kind
-    refused means kind why =
-        go (said (λ (x : Node). WhyNotDefault means table (shape_of plan x.node) x.body kind) why)
+    refused means kind why = go (said (λ (x : Node). WhyNotDefault means table (shape_of plan x.node) x.body kind) why)
       where
         go : WhyNotDefault means table (shape_of plan below.node) below.body kind
             → (kind ≡ ReflectErrorKind.OutOfMemory) ⊎ IsLackingAt means table plan before stack n kind
@@ -183,8 +179,7 @@ module _ (plan : Plan) (before : List Slot) (stack : List ℕ) (n : ℕ) (open_n
           place = due.place;
           stored = stored;
           incomplete =
-              ap (λ (s : ℕ). complete deferred_column means table s (tree_at due.place (tree_in_slots before stack)))
-              (sym shape)
+              ap (λ (s : ℕ). complete deferred_column means table s (tree_at due.place (tree_in_slots before stack))) (sym shape)
               ∙ ap (complete deferred_column means table (shape_of plan below.node)) (sym own) ∙ lacking.incomplete;
           lacks =
               ap (λ (s : ℕ). own_lack means table s (tree_at due.place (tree_in_slots before stack))) (sym shape)
@@ -212,11 +207,11 @@ module _ (plan : Plan) (before : List Slot) (stack : List ℕ) (n : ℕ) (open_n
           over_found plan (heap_of before) stack (cursor_in before stack) due.place (kid_here before stack) n due.plot
           open_now.stands due.reaches due.is over
 
-      above_begun : above.body ≡ begun_body over.form (cells_in over.kids)
+      above_begun : above.body ≡ begun_body over.tracker (cells_in over.kids)
       unfolding above
       above_begun = refl
 
-      may : MayHave over.form (count_kids over.kids)
+      may : MayHave over.tracker (count_kids over.kids)
       may =
           over_may_have plan (heap_of before) stack (cursor_in before stack) due.place (kid_here before stack) n due.plot
           open_now.stands due.reaches due.is over
@@ -236,10 +231,8 @@ module _ (plan : Plan) (before : List Slot) (stack : List ℕ) (n : ℕ) (open_n
       mid = without (heap_of first) n below.owner
 
       makes :
-          complete deferred_column means table
-          (shape_in table (root_shape plan) due.place (tree_in_slots before stack))
-          (tree_at due.place (tree_in_slots before stack))
-          ≡ Some v
+          complete deferred_column means table (shape_in table (root_shape plan) due.place (tree_in_slots before stack))
+          (tree_at due.place (tree_in_slots before stack)) ≡ Some v
       makes =
           ap (λ (s : ℕ). complete deferred_column means table s (tree_at due.place (tree_in_slots before stack))) (sym shape)
           ∙ ap (complete deferred_column means table (shape_of plan below.node)) (sym own) ∙ fills.filled.meant
@@ -248,11 +241,10 @@ module _ (plan : Plan) (before : List Slot) (stack : List ℕ) (n : ℕ) (open_n
       pub owned_first : IfInUse first n (λ (x : Node). held_by (heap_of first) x.owner ≡ Some (placed n))
       owned_first =
           subst (λ (o : Option Node). IsSomeAnd o (λ (x : Node). held_by (heap_of first) x.owner ≡ Some (placed n)))
-          (sym first_found)
-          (ap (held_by (heap_of first)) owner
+          (sym first_found) (ap (held_by (heap_of first)) owner
           ∙ ap (option_and_then (λ (x : Node). cell_at x.body over.i)) first_over
           ∙ ap (λ (b : Body). cell_at b over.i) above_begun
-          ∙ cell_of_child over.form over.i over.kids may over.within ∙ ap (λ (c : Cell). Some c) child)
+          ∙ cell_of_child over.tracker over.i over.kids may over.within ∙ ap (λ (c : Cell). Some c) child)
         where
           first_over : heap_of first over.slot ≡ Some above
           first_over =
@@ -262,13 +254,10 @@ module _ (plan : Plan) (before : List Slot) (stack : List ℕ) (n : ℕ) (open_n
 
       module _ (handed : IfInUse first n (λ (x : Node). (w : Val) → value_of x.body ≡ Some w
           → Shows last (gives x.owner w (without (heap_of first) n x.owner)))) where
-        ends : (m : ℕ)
-            → heap_of last m ≡ with_body mid over.slot (λ old. with_cell old over.i (given v)) m
+        ends : (m : ℕ) → heap_of last m ≡ with_body mid over.slot (λ old. with_cell old over.i (given v)) m
         ends m =
-            subst
-            (λ (o : Option Node). IsSomeAnd o (λ (x : Node). (w : Val) → value_of x.body ≡ Some w
-            → Shows last (gives x.owner w (without (heap_of first) n x.owner))))
-            first_found handed v fills.filled.held m
+            subst (λ (o : Option Node). IsSomeAnd o (λ (x : Node). (w : Val) → value_of x.body ≡ Some w
+            → Shows last (gives x.owner w (without (heap_of first) n x.owner)))) first_found handed v fills.filled.held m
             ∙ ap (λ (o : FrameOwner). gives o v mid m) owner
 
         kid_after : Kid
@@ -280,9 +269,9 @@ module _ (plan : Plan) (before : List Slot) (stack : List ℕ) (n : ℕ) (open_n
             stands_turned plan (heap_of before) stack (cursor_in before stack) due.place (kid_here before stack) n due.plot
             open_now.stands due.reaches due.is over (heap_of last) v due.closed
             (last_over (heap_of before) (heap_of first) mid (heap_of last) n over.slot over.i below above fills.body
-            over.form over.kids v apart found above_found above_begun may over.within child owner fills.becomes (λ m. refl) ends)
+            over.tracker over.kids v apart found above_found above_begun may over.within child owner fills.becomes (λ m. refl) ends)
             (last_other (heap_of before) (heap_of first) mid (heap_of last) n over.slot over.i below above
-            fills.body over.form over.kids v apart found above_found above_begun may over.within child owner fills.becomes (λ m. refl)
+            fills.body over.tracker over.kids v apart found above_found above_begun may over.within child owner fills.becomes (λ m. refl)
             ends)
 
         -- each slot in use is that of a place
@@ -293,12 +282,12 @@ module _ (plan : Plan) (before : List Slot) (stack : List ℕ) (n : ℕ) (open_n
             free : heap_of last n ≡ None
             free =
                 last_here (heap_of before) (heap_of first) mid (heap_of last) n over.slot over.i below above fills.body
-                over.form over.kids v apart found above_found above_begun may over.within child owner fills.becomes (λ m. refl) ends
+                over.tracker over.kids v apart found above_found above_begun may over.within child owner fills.becomes (λ m. refl) ends
 
             as_before : m ≢ n → is_some (heap_of last m) ≡ is_some (heap_of before m)
             as_before =
                 in_use_last (heap_of before) (heap_of first) mid (heap_of last) n over.slot over.i below above
-                fills.body over.form over.kids v apart found above_found above_begun may over.within child owner fills.becomes
+                fills.body over.tracker over.kids v apart found above_found above_begun may over.within child owner fills.becomes
                 (λ m. refl) ends m
 
             go : (m ≡ n) ⊎ (m ≢ n) → 0 < uses (put_at due.place (there v) (kid_here before stack)) m
@@ -336,14 +325,14 @@ module _ (plan : Plan) (before : List Slot) (stack : List ℕ) (n : ℕ) (open_n
           here = kid_is_after;
           free =
               last_here (heap_of before) (heap_of first) mid (heap_of last) n over.slot over.i below above fills.body
-              over.form over.kids v apart found above_found above_begun may over.within child owner fills.becomes (λ m. refl) ends;
+              over.tracker over.kids v apart found above_found above_begun may over.within child owner fills.becomes (λ m. refl) ends;
           others =
               in_use_last (heap_of before) (heap_of first) mid (heap_of last) n over.slot over.i below above
-              fills.body over.form over.kids v apart found above_found above_begun may over.within child owner fills.becomes
+              fills.body over.tracker over.kids v apart found above_found above_begun may over.within child owner fills.becomes
               (λ m. refl) ends;
           marks =
               marked_last (heap_of before) (heap_of first) mid (heap_of last) n over.slot over.i below above
-              fills.body over.form over.kids v apart found above_found above_begun may over.within child owner fills.becomes
+              fills.body over.tracker over.kids v apart found above_found above_begun may over.within child owner fills.becomes
               (λ m. refl) ends;
         }
 
@@ -357,22 +346,19 @@ module _ (plan : Plan) (before : List Slot) (stack : List ℕ) (n : ℕ) (open_n
         keeps_the_rest completion failing finish failing_off = record {
           still = λ slot place lies. as_before place lies.reaches;
           cursor =
-              as_before (cursor_in before stack)
-              (leads_reach (cursor_in before stack) [] (kid_here last stack)
+              as_before (cursor_in before stack) (leads_reach (cursor_in before stack) [] (kid_here last stack)
               (subst (λ (p : Place). Leads p (kid_here last stack)) (sym (append-nil (cursor_in before stack))) on_the_way));
           finish =
               ap (finished means table (root_shape plan) (cursor_in before stack)) open_after.built
               ∙ finish means table (root_shape plan) (cursor_in before stack) due.place v (tree_in_slots before stack) closing
               off;
-          failing = λ path.
-              ap (failures_off means table (root_shape plan) path (cursor_in before stack)) open_after.built
+          failing = λ path. ap (failures_off means table (root_shape plan) path (cursor_in before stack)) open_after.built
               ∙ failing_off means table (root_shape plan) path (cursor_in before stack) due.place v
               (tree_in_slots before stack) closing off;
         }
           where
             on_the_way : Leads (cursor_in before stack) (kid_here last stack)
-            on_the_way =
-                subst (λ (p : Place). Leads p (kid_here last stack)) open_after.cursor open_after.open_still.stands.leads
+            on_the_way = subst (λ (p : Place). Leads p (kid_here last stack)) open_after.cursor open_after.open_still.stands.leads
 
             as_before : (place : Place) → Reaches place (kid_here last stack)
                 → CompletesAsBefore means table (root_shape plan) (tree_in_slots before stack) (tree_in_slots last stack) place
@@ -382,10 +368,8 @@ module _ (plan : Plan) (before : List Slot) (stack : List ℕ) (n : ℕ) (open_n
                 let has : HasPlace place (closed_at due.place v (tree_in_slots before stack))
                 = subst (λ (t : Tree). HasPlace place t) (tree_put_at due.place (there v) (kid_here before stack))
                 (reach_place place (put_at due.place (there v) (kid_here before stack)) reaches) in
-                subst
-                (λ (t : Tree). CompletesAsBefore means table (root_shape plan) (tree_in_slots before stack) t place)
-                (sym open_after.built)
-                (completes_still completion failing means table (root_shape plan) due.place place v
+                subst (λ (t : Tree). CompletesAsBefore means table (root_shape plan) (tree_in_slots before stack) t place)
+                (sym open_after.built) (completes_still completion failing means table (root_shape plan) due.place place v
                 (tree_in_slots before stack) closing has)
 
             off : IsOffTheWay (cursor_in before stack) due.place

@@ -30,7 +30,7 @@ use Rattle.fr_store.specs.Ways.{kid_at, put_at, Reaches}
 abbrev pub becomes_whole : Body → Bool
 becomes_whole entered_body = true
 becomes_whole (whole_body v) = false
-becomes_whole (begun_body form cells) = is_closed_slice form
+becomes_whole (begun_body tracker cells) = is_closed_slice tracker
 
 -- it is a place's turn: the place in this slot is stored, and nothing beneath it is in a slot
 pub record MayTurn (slots : List Slot) (stack : List ℕ) (slot : ℕ) : Type 0 where
@@ -48,11 +48,9 @@ pub record HasTurned (means : Meanings) (table : Table) (plan : Plan) (before : 
   pub value : Val
   pub meant :
       complete deferred_column means table (shape_in table (root_shape plan) place (tree_in_slots before stack))
-      (tree_at place (tree_in_slots before stack))
-      ≡ Some value
+      (tree_at place (tree_in_slots before stack)) ≡ Some value
   pub stands :
-      IsOpenAt plan after stack (cursor_in before stack)
-      (change_at place (λ old. whole value) (tree_in_slots before stack))
+      IsOpenAt plan after stack (cursor_in before stack) (change_at place (λ old. whole value) (tree_in_slots before stack))
   pub here : kid_here after stack ≡ put_at place (there value) (kid_here before stack)
   pub free : heap_of after slot ≡ None
   pub others : (n : ℕ) → n ≢ slot → is_some (heap_of after n) ≡ is_some (heap_of before n)
@@ -79,12 +77,10 @@ pub record IsLackingAt (means : Meanings) (table : Table) (plan : Plan) (slots :
   pub stored : IsStoredAt (kid_here slots stack) slot place
   pub incomplete :
       complete deferred_column means table (shape_in table (root_shape plan) place (tree_in_slots slots stack))
-      (tree_at place (tree_in_slots slots stack))
-      ≡ None
+      (tree_at place (tree_in_slots slots stack)) ≡ None
   pub lacks :
       own_lack means table (shape_in table (root_shape plan) place (tree_in_slots slots stack))
-      (tree_at place (tree_in_slots slots stack))
-      ≡ Some kind
+      (tree_at place (tree_in_slots slots stack)) ≡ Some kind
 
 -- Some places of a walk had their turn, each at its own turn, and these are left: the builder works where it did, and what becomes
 -- of the tree, or fails, is as at the start.
@@ -116,10 +112,8 @@ pub record Walked (means : Meanings) (table : Table) (plan : Plan) (before : Lis
 pub record FinishedHere (means : Meanings) (table : Table) (plan : Plan) (before : List Slot) (stack : List ℕ) (after : List Slot) : Type 0 where
   pub tree : Tree
   pub meant :
-      finished_here means table
-      (shape_in table (root_shape plan) (cursor_in before stack) (tree_in_slots before stack))
-      (tree_at (cursor_in before stack) (tree_in_slots before stack))
-      ≡ Some tree
+      finished_here means table (shape_in table (root_shape plan) (cursor_in before stack) (tree_in_slots before stack))
+      (tree_at (cursor_in before stack) (tree_in_slots before stack)) ≡ Some tree
   pub stands :
       IsOpenAt plan after stack (cursor_in before stack)
       (change_at (cursor_in before stack) (λ old. tree) (tree_in_slots before stack))
@@ -128,8 +122,7 @@ pub record FinishedHere (means : Meanings) (table : Table) (plan : Plan) (before
 abbrev pub LacksHere : Meanings → Table → Plan → List Slot → List ℕ → ReflectErrorKind → Type 0
 LacksHere means table plan slots stack kind =
     own_lack means table (shape_in table (root_shape plan) (cursor_in slots stack) (tree_in_slots slots stack))
-    (tree_at (cursor_in slots stack) (tree_in_slots slots stack))
-    ≡ Some kind
+    (tree_at (cursor_in slots stack) (tree_in_slots slots stack)) ≡ Some kind
 
 -- The end of deferred mode came about turn by turn: just the places that were stored had their turn, in the order of the walk, at
 -- every turn those still to come completed as at the start, and then the place at which the builder works was finished.
@@ -144,8 +137,7 @@ pub record CameByTurns (means : Meanings) (table : Table) (plan : Plan) (before 
   pub here : Tree
   pub finishes :
       finished_here means table (shape_in table (root_shape plan) (cursor_in before stack) tree)
-      (tree_at (cursor_in before stack) tree)
-      ≡ Some here
+      (tree_at (cursor_in before stack) tree) ≡ Some here
   pub last : tree_in_slots after stack_after ≡ change_at (cursor_in before stack) (λ old. here) tree
 
 -- the first of the places that are left; the one at which the builder works if none is
@@ -166,8 +158,7 @@ pub record StoppedByTurns (means : Meanings) (table : Table) (plan : Plan) (befo
   pub kept : KeepThoseLeft means table (root_shape plan) (tree_in_slots before stack) (tree_in_slots before stack) done left
   pub lacks :
       own_lack means table (shape_in table (root_shape plan) (next_place left (cursor_in before stack)) tree)
-      (tree_at (next_place left (cursor_in before stack)) tree)
-      ≡ Some kind
+      (tree_at (next_place left (cursor_in before stack)) tree) ≡ Some kind
 
 -- each place on the way to the one at which the builder works stays in its slot
 abbrev pub OpenStayPut : (before after : Kid) → (cursor : Place) → Type 0

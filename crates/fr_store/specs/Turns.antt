@@ -29,8 +29,7 @@ pub record CompletesAsBefore (means : Meanings) (table : Table) (s : ℕ) (befor
   pub value :
       complete deferred_column means table (shape_in table s place after) (tree_at place after)
       ≡ complete deferred_column means table (shape_in table s place before) (tree_at place before)
-  pub failing : (path : List PathStep)
-      → failures means table (shape_in table s place after) path (tree_at place after)
+  pub failing : (path : List PathStep) → failures means table (shape_in table s place after) path (tree_at place after)
       ≡ failures means table (shape_in table s place before) path (tree_at place before)
 
 -- Of the places whose turn is still to come each completes as at the start: at every one of these turns, and after the last of them.

@@ -5,24 +5,24 @@ use Rattle.fr_shape.specs.Fits.{count_vals}
 use Rattle.fr_shape.specs.Val.{Val, Vals, no_vals, first}
 use Rattle.fr_model.specs.Complete.{made, value_as}
 use Rattle.fr_model.specs.Places.{one_more}
-use Rattle.fr_model.specs.Tree.{Form}
+use Rattle.fr_model.specs.Trackers.{Tracker}
 use Rattle.fr_frame.specs.Bodies.{begun_body, can_make, value_of}
 use Rattle.fr_frame.specs.Cells.{Cell, absent, given, placed, values_of}
 
 -- what is begun and has a value makes it of its children's
-pub made_value : (form : Form) (cells : List Cell) (v : Val) → value_of (begun_body form cells) ≡ Some v
-    → made form (values_of cells) ≡ Some v
-made_value form cells v e = go (can_make form cells) e
+pub made_value : (tracker : Tracker) (cells : List Cell) (v : Val) → value_of (begun_body tracker cells) ≡ Some v
+    → made tracker (values_of cells) ≡ Some v
+made_value tracker cells v e = go (can_make tracker cells) e
   where
-    go : (can : Bool) → (if can then made form (values_of cells) else None) ≡ Some v → made form (values_of cells) ≡ Some v
+    go : (can : Bool) → (if can then made tracker (values_of cells) else None) ≡ Some v → made tracker (values_of cells) ≡ Some v
     go true e = e
     go false e = absurd (cc)
 
 -- it has a value of each child
-pub made_of : (form : Form) (values : Option Vals) (v : Val) → made form values ≡ Some v
-    → (vs : Vals) × (values ≡ Some vs) × (value_as form vs ≡ v)
-made_of form (Some vs) v e = (vs, refl, cc)
-made_of form None v e = absurd (cc)
+pub made_of : (tracker : Tracker) (values : Option Vals) (v : Val) → made tracker values ≡ Some v
+    → (vs : Vals) × (values ≡ Some vs) × (value_as tracker vs ≡ v)
+made_of tracker (Some vs) v e = (vs, refl, cc)
+made_of tracker None v e = absurd (cc)
 
 pub more_is : (v : Val) (rest : Option Vals) (vs : Vals) → one_more (Some v) rest ≡ Some vs
     → (us : Vals) × (rest ≡ Some us) × (first v us ≡ vs)

@@ -30,7 +30,7 @@ reaches_among (suc i) Below (kid k ks) leads =
 -- the way to a place, and each part of it, leads through places in slots
 pub leads_reach : (place below : Place) (k : Kid) → Leads (place ++ below) k → Reaches place k
 leads_reach [] below k leads = tt
-leads_reach (i ∷ place) below (at slot stored (begun_plot form kids)) leads =
+leads_reach (i ∷ place) below (at slot stored (begun_plot tracker kids)) leads =
     let child = reaches_among i (λ k. Leads (place ++ below) k) kids leads.1 in
     (child.0, leads_reach place below (kid_nth i kids) child.1)
 leads_reach (i ∷ place) below (at slot stored entered_plot) leads = absurd leads.1
@@ -40,7 +40,7 @@ leads_reach (i ∷ place) below (there v) leads = absurd leads
 
 pub leads_at : (place below : Place) (k : Kid) → Leads (place ++ below) k → Leads below (kid_at place k)
 leads_at [] below k leads = leads
-leads_at (i ∷ place) below (at slot stored (begun_plot form kids)) leads =
+leads_at (i ∷ place) below (at slot stored (begun_plot tracker kids)) leads =
     let child = reaches_among i (λ k. Leads (place ++ below) k) kids leads.1 in
     leads_at place below (kid_nth i kids) child.1
 leads_at (i ∷ place) below (at slot stored entered_plot) leads = absurd leads.1
@@ -58,7 +58,7 @@ leads_among (suc i) Below After new (kid k ks) leads is = (leads.0, leads_among 
 pub leads_put_at : (place old below : Place) (new k : Kid) → Leads (place ++ old) k → Leads below new
     → Leads (place ++ below) (put_at place new k)
 leads_put_at [] old below new k leads on = on
-leads_put_at (i ∷ place) old below new (at slot stored (begun_plot form kids)) leads on =
+leads_put_at (i ∷ place) old below new (at slot stored (begun_plot tracker kids)) leads on =
     let child = reaches_among i (λ k. Leads (place ++ old) k) kids leads.1 in (
       leads.0,
       leads_among i (λ k. Leads (place ++ old) k) (λ k. Leads (place ++ below) k) (put_at place new (kid_nth i kids)) kids
@@ -84,24 +84,22 @@ count_put (suc i) new (kid k ks) = ap suc (count_put i new ks)
 -- what was put at a place lies there
 pub kid_put_at : (place : Place) (new k : Kid) → Reaches place k → kid_at place (put_at place new k) ≡ new
 kid_put_at [] new k reach = refl
-kid_put_at (i ∷ place) new (at slot stored (begun_plot form kids)) reach =
-    ap (kid_at place) (nth_put i (put_at place new (kid_nth i kids)) kids reach.0)
-    ∙ kid_put_at place new (kid_nth i kids) reach.1
+kid_put_at (i ∷ place) new (at slot stored (begun_plot tracker kids)) reach =
+    ap (kid_at place) (nth_put i (put_at place new (kid_nth i kids)) kids reach.0) ∙ kid_put_at place new (kid_nth i kids) reach.1
 kid_put_at (i ∷ place) new _ reach = absurd reach
 
 pub along_put_at : (place below : Place) (new k : Kid) → Reaches place k
     → slots_along (place ++ below) (put_at place new k) ≡ slots_above place k ++ slots_along below new
 along_put_at [] below new k reach = refl
-along_put_at (i ∷ place) below new (at slot stored (begun_plot form kids)) reach =
-    ap (λ (child : Kid). slot ∷ slots_along (place ++ below) child)
-    (nth_put i (put_at place new (kid_nth i kids)) kids reach.0)
+along_put_at (i ∷ place) below new (at slot stored (begun_plot tracker kids)) reach =
+    ap (λ (child : Kid). slot ∷ slots_along (place ++ below) child) (nth_put i (put_at place new (kid_nth i kids)) kids reach.0)
     ∙ ap (λ (slots : List ℕ). slot ∷ slots) (along_put_at place below new (kid_nth i kids) reach.1)
 along_put_at (i ∷ place) below new _ reach = absurd reach
 
 pub along_at : (place below : Place) (k : Kid) → Reaches place k
     → slots_along (place ++ below) k ≡ slots_above place k ++ slots_along below (kid_at place k)
 along_at [] below k reach = refl
-along_at (i ∷ place) below (at slot stored (begun_plot form kids)) reach =
+along_at (i ∷ place) below (at slot stored (begun_plot tracker kids)) reach =
     ap (λ (slots : List ℕ). slot ∷ slots) (along_at place below (kid_nth i kids) reach.1)
 along_at (i ∷ place) below _ reach = absurd reach
 
@@ -119,7 +117,7 @@ uses_put_nth (suc i) new (kid k ks) n h =
 pub uses_put_at : (place : Place) (new k : Kid) (n : ℕ) → Reaches place k
     → uses (put_at place new k) n + uses (kid_at place k) n ≡ uses k n + uses new n
 uses_put_at [] new k n reach = omega arith
-uses_put_at (i ∷ place) new (at slot stored (begun_plot form kids)) n reach =
+uses_put_at (i ∷ place) new (at slot stored (begun_plot tracker kids)) n reach =
     let here = uses_put_nth i (put_at place new (kid_nth i kids)) kids n reach.0 in
     let rest = uses_put_at place new (kid_nth i kids) n reach.1 in
     omega arith
@@ -131,7 +129,7 @@ uses_nth zero (kid k ks) n = omega arith
 uses_nth (suc i) (kid k ks) n = let rest = uses_nth i ks n in omega arith
 
 pub uses_below : (i : ℕ) (k : Kid) (n : ℕ) → uses (kid_below i k) n ≤ uses k n
-uses_below i (at slot stored (begun_plot form kids)) n = let rest = uses_nth i kids n in omega arith
+uses_below i (at slot stored (begun_plot tracker kids)) n = let rest = uses_nth i kids n in omega arith
 uses_below i _ n = omega arith
 
 -- a part uses no slot oftener than the whole
@@ -156,7 +154,7 @@ occurs_put_nth (suc i) new (kid k ks) t h =
 pub occurs_put_at : (place : Place) (new k : Kid) (t : ℕ) → Reaches place k
     → kid_occurs (put_at place new k) t + kid_occurs (kid_at place k) t ≡ kid_occurs k t + kid_occurs new t
 occurs_put_at [] new k t reach = omega arith
-occurs_put_at (i ∷ place) new (at slot stored (begun_plot form kids)) t reach =
+occurs_put_at (i ∷ place) new (at slot stored (begun_plot tracker kids)) t reach =
     let here = occurs_put_nth i (put_at place new (kid_nth i kids)) kids t reach.0 in
     let rest = occurs_put_at place new (kid_nth i kids) t reach.1 in
     omega arith
@@ -168,7 +166,7 @@ occurs_nth zero (kid k ks) t = omega arith
 occurs_nth (suc i) (kid k ks) t = let rest = occurs_nth i ks t in omega arith
 
 occurs_below : (i : ℕ) (k : Kid) (t : ℕ) → kid_occurs (kid_below i k) t ≤ kid_occurs k t
-occurs_below i (at slot stored (begun_plot form kids)) t = occurs_nth i kids t
+occurs_below i (at slot stored (begun_plot tracker kids)) t = occurs_nth i kids t
 occurs_below i _ t = omega arith
 
 -- a part holds no token oftener than the whole
@@ -189,7 +187,7 @@ mutual
   plot_tokens : (plot : Plot) (t : ℕ) → plot_occurs plot t ≡ tree_occurs (tree_in plot) t
   plot_tokens entered_plot t = refl
   plot_tokens (whole_plot v) t = refl
-  plot_tokens (begun_plot form kids) t = kids_tokens kids t
+  plot_tokens (begun_plot tracker kids) t = kids_tokens kids t
 
   kids_tokens : (ks : Kids) (t : ℕ) → kids_occur ks t ≡ trees_occur (trees_in ks) t
   kids_tokens no_kids t = refl
@@ -209,7 +207,7 @@ marked_nth mark zero (kid k ks) all = all.0
 marked_nth mark (suc i) (kid k ks) all = marked_nth mark i ks all.1
 
 pub marked_below : (mark : Bool) (i : ℕ) (k : Kid) → AllMarked mark k → AllMarked mark (kid_below i k)
-marked_below mark i (at slot stored (begun_plot form kids)) all = marked_nth mark i kids all.1
+marked_below mark i (at slot stored (begun_plot tracker kids)) all = marked_nth mark i kids all.1
 marked_below mark i _ all = tt
 
 pub marked_at : (mark : Bool) (place : Place) (k : Kid) → AllMarked mark k → AllMarked mark (kid_at place k)
@@ -223,7 +221,7 @@ marked_put_at mark (i ∷ place) new gone all is = tt
 marked_put_at mark (i ∷ place) new (there v) all is = tt
 marked_put_at mark (i ∷ place) new (at slot stored entered_plot) all is = all
 marked_put_at mark (i ∷ place) new (at slot stored (whole_plot v)) all is = all
-marked_put_at mark (i ∷ place) new (at slot stored (begun_plot form kids)) all is = (
+marked_put_at mark (i ∷ place) new (at slot stored (begun_plot tracker kids)) all is = (
   all.0,
   marked_put_nth mark i (put_at place new (kid_nth i kids)) kids all.1
       (marked_put_at mark place new (kid_nth i kids) (marked_nth mark i kids all.1) is),
@@ -244,7 +242,7 @@ tree_of_nth zero (kid k ks) = refl
 tree_of_nth (suc i) (kid k ks) = tree_of_nth i ks
 
 pub tree_of_below : (i : ℕ) (k : Kid) → tree_of (kid_below i k) ≡ child_tree i (tree_of k)
-tree_of_below i (at slot stored (begun_plot form kids)) = tree_of_nth i kids
+tree_of_below i (at slot stored (begun_plot tracker kids)) = tree_of_nth i kids
 tree_of_below i _ = refl
 
 -- what lies at a place is the tree there
@@ -256,23 +254,21 @@ pub tree_put_nth : (i : ℕ) (new : Kid) (change : Tree → Tree) (ks : Kids) �
     → trees_in (put_nth i new ks) ≡ change_nth i change (trees_in ks)
 tree_put_nth i new change no_kids is = refl
 tree_put_nth zero new change (kid k ks) is = ap (λ (tree : Tree). branch tree (trees_in ks)) is
-tree_put_nth (suc i) new change (kid k ks) is =
-    ap (λ (trees : Trees). branch (tree_of k) trees) (tree_put_nth i new change ks is)
+tree_put_nth (suc i) new change (kid k ks) is = ap (λ (trees : Trees). branch (tree_of k) trees) (tree_put_nth i new change ks is)
 
 -- what is put at a place changes the tree there
 pub tree_change_at : (place : Place) (change : Tree → Tree) (new k : Kid) → tree_of new ≡ change (tree_at place (tree_of k))
     → tree_of (put_at place new k) ≡ change_at place change (tree_of k)
 tree_change_at [] change new k is = is
-tree_change_at (i ∷ place) change new (at slot stored (begun_plot form kids)) is =
+tree_change_at (i ∷ place) change new (at slot stored (begun_plot tracker kids)) is =
     let nth = tree_of_nth i kids in
-    ap (λ (trees : Trees). begun form trees)
+    ap (λ (trees : Trees). begun tracker trees)
     (tree_put_nth i (put_at place new (kid_nth i kids)) (λ child. change_at place change child) kids
     (tree_change_at place change new (kid_nth i kids) (is ∙ ap (λ (t : Tree). change (tree_at place t)) (sym nth))
     ∙ ap (λ (t : Tree). change_at place change t) nth))
 tree_change_at (i ∷ place) change new _ is = refl
 
-pub tree_put_at : (place : Place) (new k : Kid)
-    → tree_of (put_at place new k) ≡ change_at place (λ old. tree_of new) (tree_of k)
+pub tree_put_at : (place : Place) (new k : Kid) → tree_of (put_at place new k) ≡ change_at place (λ old. tree_of new) (tree_of k)
 tree_put_at place new k = tree_change_at place (λ old. tree_of new) new k refl
 
 -- Something put twice at one place.
@@ -283,18 +279,17 @@ put_nth_twice zero old new (kid k ks) = refl
 put_nth_twice (suc i) old new (kid k ks) = ap (λ (xs : Kids). kid k xs) (put_nth_twice i old new ks)
 
 pub put_below_twice : (i : ℕ) (old new k : Kid) → put_below i new (put_below i old k) ≡ put_below i new k
-put_below_twice i old new (at slot stored (begun_plot form kids)) =
-    ap (λ (xs : Kids). at slot stored (begun_plot form xs)) (put_nth_twice i old new kids)
+put_below_twice i old new (at slot stored (begun_plot tracker kids)) =
+    ap (λ (xs : Kids). at slot stored (begun_plot tracker xs)) (put_nth_twice i old new kids)
 put_below_twice i old new _ = refl
 
 pub put_at_twice : (place : Place) (old new k : Kid) → Reaches place k → put_at place new (put_at place old k) ≡ put_at place new k
 put_at_twice [] old new k reach = refl
-put_at_twice (i ∷ place) old new (at slot stored (begun_plot form kids)) reach =
-    ap (λ (x : Kid). put_below i (put_at place new x) (at slot stored (begun_plot form (put_nth i (put_at place old (kid_nth i kids)) kids))))
+put_at_twice (i ∷ place) old new (at slot stored (begun_plot tracker kids)) reach =
+    ap (λ (x : Kid). put_below i (put_at place new x) (at slot stored (begun_plot tracker (put_nth i (put_at place old (kid_nth i kids)) kids))))
     (nth_put i (put_at place old (kid_nth i kids)) kids reach.0)
     ∙ put_below_twice i (put_at place old (kid_nth i kids)) (put_at place new (put_at place old (kid_nth i kids)))
-    (at slot stored (begun_plot form kids))
-    ∙ ap (λ (x : Kid). put_below i x (at slot stored (begun_plot form kids)))
+    (at slot stored (begun_plot tracker kids)) ∙ ap (λ (x : Kid). put_below i x (at slot stored (begun_plot tracker kids)))
     (put_at_twice place old new (kid_nth i kids) reach.1)
 put_at_twice (i ∷ place) old new _ reach = absurd reach
 

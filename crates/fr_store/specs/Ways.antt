@@ -21,7 +21,7 @@ kid_nth (suc i) (kid k ks) = kid_nth i ks
 abbrev pub kid_in_plot : ℕ → Plot → Kid
 kid_in_plot i entered_plot = gone
 kid_in_plot i (whole_plot v) = gone
-kid_in_plot i (begun_plot form kids) = kid_nth i kids
+kid_in_plot i (begun_plot tracker kids) = kid_nth i kids
 
 abbrev pub kid_below : ℕ → Kid → Kid
 kid_below i gone = gone
@@ -43,7 +43,7 @@ put_nth (suc i) new (kid k ks) = kid k (put_nth i new ks)
 abbrev pub put_in_plot : ℕ → Kid → Plot → Plot
 put_in_plot i new entered_plot = entered_plot
 put_in_plot i new (whole_plot v) = whole_plot v
-put_in_plot i new (begun_plot form kids) = begun_plot form (put_nth i new kids)
+put_in_plot i new (begun_plot tracker kids) = begun_plot tracker (put_nth i new kids)
 
 abbrev pub put_below : ℕ → Kid → Kid → Kid
 put_below i new gone = gone
@@ -86,7 +86,7 @@ abbrev mutual
   pub uses_in : Plot → ℕ → ℕ
   uses_in entered_plot n = 0
   uses_in (whole_plot v) n = 0
-  uses_in (begun_plot form kids) n = uses_among kids n
+  uses_in (begun_plot tracker kids) n = uses_among kids n
 
   pub uses_among : Kids → ℕ → ℕ
   uses_among no_kids n = 0
@@ -104,7 +104,7 @@ abbrev mutual
   pub AllMarkedIn : Bool → Plot → Type 0
   AllMarkedIn mark entered_plot = Unit {0}
   AllMarkedIn mark (whole_plot v) = Unit {0}
-  AllMarkedIn mark (begun_plot form kids) = AllMarkedAmong mark kids
+  AllMarkedIn mark (begun_plot tracker kids) = AllMarkedAmong mark kids
 
   pub AllMarkedAmong : Bool → Kids → Type 0
   AllMarkedAmong mark no_kids = Unit {0}
@@ -123,7 +123,7 @@ StoredBut (suc i) Below (kid k ks) = AllMarked true k × StoredBut i Below ks
 abbrev pub StoredButIn : ℕ → (Kid → Type 0) → Plot → Type 0
 StoredButIn i Below entered_plot = ⊥
 StoredButIn i Below (whole_plot v) = ⊥
-StoredButIn i Below (begun_plot form kids) = StoredBut i Below kids
+StoredButIn i Below (begun_plot tracker kids) = StoredBut i Below kids
 
 -- The way leads to a place in a slot. No place on it is stored, and every other place in a slot is.
 abbrev pub Leads : Place → Kid → Type 0
@@ -138,7 +138,7 @@ Leads (i ∷ place) (at slot stored plot) = (stored ≡ false) × StoredButIn i 
 abbrev pub ReachesIn : ℕ → (Kid → Type 0) → Plot → Type 0
 ReachesIn i Below entered_plot = ⊥
 ReachesIn i Below (whole_plot v) = ⊥
-ReachesIn i Below (begun_plot form kids) = (i < count_kids kids) × Below (kid_nth i kids)
+ReachesIn i Below (begun_plot tracker kids) = (i < count_kids kids) × Below (kid_nth i kids)
 
 abbrev pub Reaches : Place → Kid → Type 0
 Reaches [] k = Unit {0}
@@ -151,7 +151,7 @@ Reaches (i ∷ place) (at slot stored plot) = ReachesIn i (λ below. Reaches pla
 abbrev pub node_in_plot : Plan → NodeId → ℕ → Plot → NodeId
 node_in_plot plan node i entered_plot = node
 node_in_plot plan node i (whole_plot v) = node
-node_in_plot plan node i (begun_plot form kids) = child_node plan node form i
+node_in_plot plan node i (begun_plot tracker kids) = child_node plan node tracker i
 
 abbrev pub node_below : Plan → NodeId → ℕ → Kid → NodeId
 node_below plan node i gone = node
@@ -166,7 +166,7 @@ node_along plan node (i ∷ place) k = node_along plan (node_below plan node i k
 abbrev pub owner_in_plot : FrameOwner → (slot : ℕ) → ℕ → Plot → FrameOwner
 owner_in_plot owner slot i entered_plot = owner
 owner_in_plot owner slot i (whole_plot v) = owner
-owner_in_plot owner slot i (begun_plot form kids) = child_owner slot i
+owner_in_plot owner slot i (begun_plot tracker kids) = child_owner slot i
 
 abbrev pub owner_below : FrameOwner → ℕ → Kid → FrameOwner
 owner_below owner i gone = owner

@@ -1,18 +1,9 @@
 //! Completing what lies beneath the place on top of the stack.
-ghost use Rattle.std.specs.Prelude.{◌≡◌, ◌⊎◌, IfErr, OnOk};
-ghost use Rattle.fr_shape.specs.Checked.{IsChecked};
-ghost use Rattle.fr_shape.specs.Released.{Conserved, Room};
+ghost use Rattle.fr_store.specs.Common.{Conserved, IsChecked, IsHeldUpHere, IsKept, IsOpen, IsWalk, OnOk, Room, StayPutButBeneath, Suits, cursor_in, kid_here, kid_on_top, root_shape, slots_occur, tokens_in, tree_in_slots};
+ghost use Rattle.std.specs.Prelude.{IfErr, ◌≡◌, ◌⊎◌};
 ghost use Rattle.fr_shape.specs.declared.error.ReflectErrorKind.{ReflectErrorKind as Kind};
-ghost use Rattle.fr_model.specs.Well.{Suits};
 ghost use Rattle.fr_frame.specs.Completing.{IsPlanFor};
-ghost use Rattle.fr_frame.specs.Heap.{slots_occur};
-ghost use Rattle.fr_store.specs.Beneath.{kid_on_top, IsCompleteBeneath, IsHeldUpHere};
-ghost use Rattle.fr_store.specs.Moves.{cursor_in, tokens_in, tree_in_slots};
-ghost use Rattle.fr_store.specs.Stands.{kid_here, IsOpen};
-ghost use Rattle.fr_store.specs.Staying.{StayPutButBeneath};
-ghost use Rattle.fr_store.specs.Stored.{IsKept};
-ghost use Rattle.fr_store.specs.Turns.{root_shape};
-ghost use Rattle.fr_store.specs.Walks.{IsWalk};
+ghost use Rattle.fr_store.specs.Beneath.{IsCompleteBeneath};
 
 use crate::finishing::turn;
 use crate::listing::walk_beneath;

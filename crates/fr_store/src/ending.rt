@@ -1,17 +1,9 @@
 //! Going back from the place at which a builder works to the one above.
-ghost use Rattle.std.specs.Prelude.{◌≡◌, IsOk, IsSome, OnErr, OnOk, Some, true, false};
-ghost use Rattle.fr_shape.specs.Released.{Conserved, Room};
-ghost use Rattle.fr_shape.specs.Val.{Val};
+ghost use Rattle.fr_store.specs.Common.{AllStayPut, AtTop, Conserved, IsKept, IsOpen, IsOpenAt, IsSome, OnErr, OnOk, Room, SameMarks, SameTokens, Some, StayPutBut, Val, change_at, changed_here, cursor_in, false, is_root, kid_here, slots_occur, tokens_here, tree_at, tree_in_slots, true, up, value_of, whole};
+ghost use Rattle.std.specs.Prelude.{IsOk, ◌≡◌};
 ghost use Rattle.fr_model.specs.Collections.{is_set, number_in, with_ended_item};
-ghost use Rattle.fr_model.specs.Places.{is_root, up};
-ghost use Rattle.fr_model.specs.Tree.{change_at, tree_at, whole};
-ghost use Rattle.fr_frame.specs.Bodies.{takes_memory, value_of};
-ghost use Rattle.fr_frame.specs.Changes.{SameMarks, SameTokens};
-ghost use Rattle.fr_frame.specs.Heap.{slots_occur};
-ghost use Rattle.fr_store.specs.Moves.{changed_here, cursor_in, takes_at_end, tokens_here, tree_in_slots, AtTop, IsOpenAt};
-ghost use Rattle.fr_store.specs.Stands.{kid_here, IsOpen};
-ghost use Rattle.fr_store.specs.Staying.{AllStayPut, StayPutBut};
-ghost use Rattle.fr_store.specs.Stored.{IsKept};
+ghost use Rattle.fr_frame.specs.Bodies.{takes_memory};
+ghost use Rattle.fr_store.specs.Moves.{takes_at_end};
 
 use crate::{FrameStore, Stack};
 use fr_frame::Slots;

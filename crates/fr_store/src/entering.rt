@@ -1,23 +1,41 @@
 //! Going on to a child of the place at which a builder works.
-ghost use Rattle.std.specs.Prelude.{◌≡◌, ◌∷◌, ◌++◌, [], ◌<◌, length, true, OnOk, OnErr};
-ghost use Rattle.fr_shape.specs.Look.{def_of};
-ghost use Rattle.fr_model.specs.Collections.{is_map};
-ghost use Rattle.fr_model.specs.Step.{enter, opened_as};
-ghost use Rattle.fr_model.specs.Tree.{base_of_form, change_child, child_tree, hole};
+ghost use Rattle.fr_store.specs.Common.{AllStayPut, AtTop, IsKept, IsOpen, IsOpenAt, OnErr, OnOk, SameMarks, SameTokens, Shows, StoresNoMore, [], around_some, as_tracker, base_of_tracker, changed_here, cursor_in, def_of, false, heap_of, kid_here, length, opened_as, shape_of, tree_here, ℕ};
 ghost use Rattle.fr_frame.specs.Bodies.{HoldsSome, MayOpen};
-ghost use Rattle.fr_frame.specs.Changes.{SameMarks, SameTokens, Shows};
-ghost use Rattle.fr_frame.specs.Completing.{shape_of};
-ghost use Rattle.fr_frame.specs.Heap.{as_form, heap_of};
-ghost use Rattle.fr_frame.specs.Kids.{child_node};
-ghost use Rattle.fr_store.specs.Moves.{around_some, changed_here, cursor_in, node_here, tree_here, AtTop, HasChild, IsOpenAt, TakesMany};
-ghost use Rattle.fr_store.specs.Stands.{kid_here, IsOpen};
-ghost use Rattle.fr_store.specs.Staying.{AllStayPut};
-ghost use Rattle.fr_store.specs.Stored.{IsKept, StoresNoMore};
+ghost use Rattle.std.specs.Prelude.{IfSome, IsNone, ◌++◌, ◌<◌, ◌∷◌, ◌≡◌};
+ghost use Rattle.fr_frame.specs.Heap.{with_mark};
+ghost use Rattle.fr_store.specs.Moves.{child_number, entered_by, node_by, MayEnter, TakesMany};
+ghost use Rattle.fr_store.specs.Stored.{IsStoredBy};
 
 use crate::{FrameStore, Stack};
-use fr_frame::{Form, FrameOwner, Slots};
+use fr_frame::{ChildWay, SlotId, Slots, Tracker};
 use fr_plan::{NodeId, TypePlanCore};
 use fr_shape::{OutOfMemory, ShapeTable};
+
+/// Takes the child to which a way leads from a place out of the store, where it is stored. Takes no
+/// memory.
+fn take_stored(
+    store: &mut FrameStore,
+    slots: &mut Slots,
+    above: SlotId,
+    way: ChildWay,
+) -> Option<SlotId>
+    requires kept { IsKept store.old slots.old }
+    ensures taken { IfSome result (λ child.
+        IsStoredBy way.entry (heap_of slots.old) above.0 child.0) }
+    ensures unmarked { IfSome result (λ child.
+        Shows slots.new (with_mark (heap_of slots.old) child.0 false)) }
+    ensures none { IsNone result → (child : ℕ)
+        → IsStoredBy way.entry (heap_of slots.old) above.0 child → ⊥ }
+    ensures slots_kept { IsNone result → slots.new ≡ slots.old }
+    ensures store_kept { IsNone result → store.new ≡ store.old }
+    ensures kept { IsKept store.new slots.new }
+    ensures tokens { SameTokens slots.old slots.new }
+{
+    match way {
+        ChildWay::Child(i) => store.take(slots, above, i),
+        ChildWay::Item | ChildWay::Key | ChildWay::Entry(_) => None,
+    }
+}
 
 impl Stack {
     /// Begins the place on top, so that its children can be entered: an entered one has none of so
@@ -28,16 +46,16 @@ impl Stack {
         &self,
         slots: &mut Slots,
         plan: &TypePlanCore,
-        form: Form,
+        tracker: Tracker,
         count: usize,
     ) -> Result<(), OutOfMemory>
         requires is_open { IsOpen plan.now slots.old self.now }
-        requires may_open { AtTop slots.old self.now (λ at. MayOpen (as_form form) at.body) }
-        requires many { TakesMany (as_form form) }
-        requires base { base_of_form (as_form form) ≡ 0 }
+        requires may_open { AtTop slots.old self.now (λ at. MayOpen (as_tracker tracker) at.body) }
+        requires many { TakesMany (as_tracker tracker) }
+        requires base { base_of_tracker (as_tracker tracker) ≡ 0 }
         ensures begun { OnOk result (IsOpenAt plan.now slots.new self.now
             (cursor_in slots.old self.now)
-            (changed_here (opened_as (as_form form) count) slots.old self.now)) }
+            (changed_here (opened_as (as_tracker tracker) count) slots.old self.now)) }
         ensures places { AllStayPut (kid_here slots.old self.now) (kid_here slots.new self.now) }
         ensures refused { OnErr result (Shows slots.new (heap_of slots.old)) }
         ensures tokens { SameTokens slots.old slots.new }
@@ -45,7 +63,7 @@ impl Stack {
     {
         let _plan = plan;
         match self.top() {
-            Some(place) => place.begin(slots, form, count),
+            Some(place) => place.begin(slots, tracker, count),
             None => unreachable!(),
         }
     }
@@ -70,9 +88,9 @@ impl Stack {
         }
     }
 
-    /// Enters child `i` of the place on top, which is begun: the child is on top then. One that
-    /// holds something keeps it, and one that was stored is taken out of the store as it is. Of a
-    /// map only a child that isn't there is entered.
+    /// Enters a child of the place on top, which is begun, by the way in which it is entered: the
+    /// child is on top then. One that holds something keeps it, and one that was stored is taken
+    /// out of the store as it is. A place with 4,294,967,295 children gets no new one.
     #[inline(always)]
     pub fn enter(
         &mut self,
@@ -81,26 +99,24 @@ impl Stack {
         table: &ShapeTable,
         plan: &TypePlanCore,
         node: NodeId,
-        form: Form,
-        i: u32,
+        way: ChildWay,
     ) -> Result<(), OutOfMemory>
         requires is_open { IsOpen plan.now slots.old self.old }
         requires kept { IsKept store.old slots.old }
-        requires child { HasChild (as_form form) i (tree_here slots.old self.old) }
-        requires node { node
-            ≡ child_node plan.now (node_here plan.now slots.old self.old) (as_form form) i }
+        requires may { MayEnter way (tree_here slots.old self.old) }
+        requires node { node ≡ node_by plan.now slots.old self.old way }
         requires planned { node.0 < length plan.now.nodes }
-        requires map_hole { is_map (tree_here slots.old self.old) ≡ true
-            → child_tree i (tree_here slots.old self.old) ≡ hole }
         ensures entered { OnOk result (IsOpenAt plan.now slots.new self.new
-            (cursor_in slots.old self.old ++ i ∷ [])
-            (changed_here (change_child i (enter (def_of table.now (shape_of plan.now node))))
+            (cursor_in slots.old self.old
+            ++ child_number way.entry (tree_here slots.old self.old) ∷ [])
+            (changed_here (entered_by way.entry (def_of table.now (shape_of plan.now node)))
             slots.old self.old)) }
-        ensures places { AllStayPut (kid_here slots.old self.old) (kid_here slots.new self.new) }
+        ensures places { OnOk result
+            (AllStayPut (kid_here slots.old self.old) (kid_here slots.new self.new)) }
         ensures tokens { SameTokens slots.old slots.new }
         ensures kept { IsKept store.new slots.new }
         ensures marks { StoresNoMore slots.old slots.new }
-        ensures slots_kept { OnErr result (slots.new ≡ slots.old) }
+        ensures slots_kept { OnErr result (Shows slots.new (heap_of slots.old)) }
         ensures store_kept { OnErr result (store.new ≡ store.old) }
         ensures refused { OnErr result (self.new ≡ self.old) }
     {
@@ -108,12 +124,11 @@ impl Stack {
             unreachable!()
         };
         self.push(above)?;
-        let _form = form;
-        if let Some(child) = store.take(slots, above, i) {
+        if let Some(child) = take_stored(store, slots, above, way) {
             self.put_top(child);
             return Ok(());
         }
-        match slots.enter(table, plan, node, FrameOwner::Child(above, i)) {
+        match slots.enter_child(table, plan, node, above, way) {
             Ok(child) => {
                 self.put_top(child);
                 Ok(())

@@ -1,21 +1,13 @@
 //! The end of deferred mode: all that was left is completed, the deepest places first.
-ghost use Rattle.std.specs.Prelude.{◌≡◌, ◌⊎◌, ℕ, [], IfErr, OnErr, OnOk};
-ghost use Rattle.fr_shape.specs.Checked.{IsChecked};
-ghost use Rattle.fr_shape.specs.Released.{Conserved, Room, RoseBy};
+ghost use Rattle.fr_store.specs.Common.{Conserved, HasTurned, IfInUse, IsChecked, IsHeldUp, IsInUse, IsKept, IsLackingAt, IsOpen, IsWalk, KeepsTheRest, LacksHere, MayTurn, NothingStored, OnErr, OnOk, Room, RoseBy, StoppedByTurns, Suits, Walked, [], body_of, cursor_in, root_shape, slots_occur, tokens_in, tree_in_slots, ℕ};
+ghost use Rattle.std.specs.Prelude.{IfErr, ◌≡◌, ◌⊎◌};
 ghost use Rattle.fr_shape.specs.declared.error.ReflectErrorKind.{ReflectErrorKind as Kind};
-ghost use Rattle.fr_model.specs.Well.{Suits};
-ghost use Rattle.fr_frame.specs.Changes.{IfInUse, IsInUse};
 ghost use Rattle.fr_frame.specs.Completing.{IsPlanFor};
-ghost use Rattle.fr_frame.specs.Heap.{body_of, slots_occur};
-ghost use Rattle.fr_store.specs.Moves.{cursor_in, tokens_in, tree_in_slots};
-ghost use Rattle.fr_store.specs.Stands.{IsOpen};
-ghost use Rattle.fr_store.specs.Stored.{IsKept, NothingStored};
-ghost use Rattle.fr_store.specs.Turning.{becomes_whole, kid_here, CameByTurns, FinishedHere, HasTurned, IsLackingAt, KeepsTheRest, LacksHere, MayTurn, OpenStayPut, StoppedByTurns, Walked};
-ghost use Rattle.fr_store.specs.Turns.{root_shape, IsFinished, IsHeldUp};
-ghost use Rattle.fr_store.specs.Walks.{IsWalk};
+ghost use Rattle.fr_store.specs.Turning.{becomes_whole, kid_here, CameByTurns, FinishedHere, OpenStayPut};
+ghost use Rattle.fr_store.specs.Turns.{IsFinished};
 
 use crate::{FrameStore, Stack};
-use fr_frame::{Form, Piece, SlotId, Slots};
+use fr_frame::{ItemsKind, Piece, SlotId, Slots, Tracker};
 use fr_model::{law_closing, law_completes, law_failing};
 use fr_plan::{TypePlanCore, law_plan_lookups};
 use fr_shape::{Hooks, Ledger, OutOfMemory, ReflectErrorKind, ShapeTable};
@@ -102,23 +94,8 @@ fn becomes_whole_by(piece: &Piece) -> bool
     ensures { result ≡ becomes_whole (body_of piece.now) }
 {
     match piece {
-        Piece::Entered | Piece::Begun(Form::ClosedSlice, _) => true,
-        Piece::Whole(_) | Piece::Object(_, _) => false,
-        Piece::Begun(
-            Form::Struct
-            | Form::Array
-            | Form::Variant(_)
-            | Form::Some
-            | Form::Ok
-            | Form::Err
-            | Form::Pointer
-            | Form::List
-            | Form::Slice
-            | Form::Set
-            | Form::Map(_)
-            | Form::DynArray,
-            _,
-        ) => false,
+        Piece::Entered | Piece::Begun(Tracker::Items(ItemsKind::ClosedSlice), _) => true,
+        _ => false,
     }
 }
 

@@ -1,16 +1,11 @@
 //! All places that lie in slots beneath one.
-ghost use Rattle.std.specs.Prelude.{◌≡◌, ◌<◌, ◌++◌, length, IfOk, OnOk};
-ghost use Rattle.fr_model.specs.Places.{entry_of};
-ghost use Rattle.fr_frame.specs.Heap.{body_of, heap_of};
-ghost use Rattle.fr_store.specs.Beneath.{from_last, is_map_body, is_map_found, kid_on_top, slotted};
-ghost use Rattle.fr_store.specs.Numbers.{IsLast};
-ghost use Rattle.fr_store.specs.Prunes.{cells_found};
-ghost use Rattle.fr_store.specs.Stands.{IsOpen};
-ghost use Rattle.fr_store.specs.Walks.{IsWalk};
+ghost use Rattle.fr_store.specs.Common.{IsLast, IsOpen, IsWalk, OnOk, body_of, cells_found, entry_of, from_last, heap_of, is_map_found, kid_on_top, length, slotted};
+ghost use Rattle.std.specs.Prelude.{IfOk, ◌++◌, ◌<◌, ◌≡◌};
+ghost use Rattle.fr_store.specs.Beneath.{is_map_body};
 
 use crate::Stack;
 use crate::pruning::{count_children, slot_of_child};
-use fr_frame::{Form, Piece, SlotId, Slots};
+use fr_frame::{EntriesKind, Piece, SlotId, Slots, Tracker};
 use fr_plan::TypePlanCore;
 use fr_shape::OutOfMemory;
 use std::alloc::Global;
@@ -46,23 +41,8 @@ fn is_map_piece(piece: &Piece) -> bool
     ensures { result ≡ is_map_body (body_of piece.now) }
 {
     match piece {
-        Piece::Entered | Piece::Whole(_) | Piece::Object(_, _) => false,
-        Piece::Begun(Form::Map(_), _) => true,
-        Piece::Begun(
-            Form::Struct
-            | Form::Array
-            | Form::Variant(_)
-            | Form::Some
-            | Form::Ok
-            | Form::Err
-            | Form::Pointer
-            | Form::List
-            | Form::Slice
-            | Form::ClosedSlice
-            | Form::Set
-            | Form::DynArray,
-            _,
-        ) => false,
+        Piece::Begun(Tracker::Entries(EntriesKind::Map(_)), _) => true,
+        _ => false,
     }
 }
 

@@ -1,12 +1,8 @@
 //! Releasing what is stored beneath a place.
-ghost use Rattle.std.specs.Prelude.{◌≡◌, ℕ, ◌+◌, length};
-ghost use Rattle.std.specs.Option.{option_map};
-ghost use Rattle.fr_shape.specs.Released.{Room, RoseBy};
+ghost use Rattle.fr_store.specs.Common.{IsKept, IsPruned, IsRooted, Room, RoseBy, StoresNoMore, beneath, body_of, cells_found, cells_in_body, heap_of, length, option_map, pruned, slots_occur, slotted_occur, ℕ};
+ghost use Rattle.std.specs.Prelude.{◌+◌, ◌≡◌};
 ghost use Rattle.fr_frame.specs.Cells.{slot_at};
-ghost use Rattle.fr_frame.specs.Heap.{body_of, heap_of, slots_occur};
 ghost use Rattle.fr_frame.specs.declared.places.SlotId.{SlotId as Number};
-ghost use Rattle.fr_store.specs.Prunes.{beneath, cells_found, cells_in_body, pruned, slotted_occur, IsPruned, IsRooted};
-ghost use Rattle.fr_store.specs.Stored.{IsKept, StoresNoMore};
 
 use crate::FrameStore;
 use fr_frame::{Piece, SlotId, Slots};

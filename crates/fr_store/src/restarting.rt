@@ -1,16 +1,9 @@
 //! Beginning anew at the place at which a builder works.
-ghost use Rattle.std.specs.Prelude.{◌≡◌, OnErr, OnOk};
-ghost use Rattle.fr_shape.specs.Released.{Conserved, Room, RoseBy};
-ghost use Rattle.fr_model.specs.Tree.{base_of_form, begun, holes};
-ghost use Rattle.fr_frame.specs.Heap.{as_form, slots_occur};
-ghost use Rattle.fr_frame.specs.Kids.{MayHave};
-ghost use Rattle.fr_store.specs.Moves.{changed_here, cursor_in, tokens_here, IsOpenAt};
-ghost use Rattle.fr_store.specs.Stands.{kid_here, IsOpen};
-ghost use Rattle.fr_store.specs.Staying.{StayPutButBeneath};
-ghost use Rattle.fr_store.specs.Stored.{IsKept, StoresNoMore};
+ghost use Rattle.std.specs.Prelude.{◌≡◌};
+ghost use Rattle.fr_store.specs.Common.{Conserved, IsKept, IsOpen, IsOpenAt, MayHave, OnErr, OnOk, Room, RoseBy, StayPutButBeneath, StoresNoMore, as_tracker, base_of_tracker, begun, changed_here, cursor_in, holes, kid_here, slots_occur, tokens_here};
 
 use crate::{FrameStore, Stack};
-use fr_frame::{Form, Slots};
+use fr_frame::{Slots, Tracker};
 use fr_plan::TypePlanCore;
 use fr_shape::{Ledger, OutOfMemory};
 
@@ -23,18 +16,18 @@ impl Stack {
         slots: &mut Slots,
         store: &mut FrameStore,
         plan: &TypePlanCore,
-        form: Form,
+        tracker: Tracker,
         count: usize,
         ledger: &mut Ledger,
     ) -> Result<(), OutOfMemory>
         requires is_open { IsOpen plan.now slots.old self.now }
         requires kept { IsKept store.old slots.old }
-        requires may_have { MayHave (as_form form) count }
-        requires base { base_of_form (as_form form) ≡ 0 }
+        requires may_have { MayHave (as_tracker tracker) count }
+        requires base { base_of_tracker (as_tracker tracker) ≡ 0 }
         requires room { Room (tokens_here slots.old self.now) ledger.old }
         ensures restarted { OnOk result (IsOpenAt plan.now slots.new self.now
             (cursor_in slots.old self.now)
-            (changed_here (λ old. begun (as_form form) (holes count)) slots.old self.now)) }
+            (changed_here (λ old. begun (as_tracker tracker) (holes count)) slots.old self.now)) }
         ensures places { OnOk result (StayPutButBeneath (cursor_in slots.old self.now)
             (kid_here slots.old self.now) (kid_here slots.new self.now)) }
         ensures released { OnOk result
@@ -49,6 +42,6 @@ impl Stack {
             unreachable!()
         };
         store.prune(slots, place, ledger);
-        place.restart(slots, form, count, ledger)
+        place.restart(slots, tracker, count, ledger)
     }
 }

@@ -1,11 +1,6 @@
 //! A whole value at the place at which a builder works.
-ghost use Rattle.fr_shape.specs.Released.{Room, RoseBy};
+ghost use Rattle.fr_store.specs.Common.{IsKept, IsOpen, IsOpenAt, Room, RoseBy, StayPutButBeneath, StoresNoMore, changed_here, cursor_in, kid_here, tokens_here, whole};
 ghost use Rattle.fr_shape.specs.View.{view};
-ghost use Rattle.fr_model.specs.Tree.{whole};
-ghost use Rattle.fr_store.specs.Moves.{changed_here, cursor_in, tokens_here, IsOpenAt};
-ghost use Rattle.fr_store.specs.Stands.{kid_here, IsOpen};
-ghost use Rattle.fr_store.specs.Staying.{StayPutButBeneath};
-ghost use Rattle.fr_store.specs.Stored.{IsKept, StoresNoMore};
 
 use crate::{FrameStore, Stack};
 use fr_frame::Slots;

@@ -1,12 +1,6 @@
 //! All stored places, the shortest path first.
-ghost use Rattle.std.specs.Prelude.{◌≡◌, ◌⊎◌, ℕ, ◌+◌, ◌≤◌, ◌++◌, filter, length, slice_get, take, Some};
-ghost use Rattle.std.specs.List.Sorted.{IsNonDecreasingBy};
-ghost use Rattle.fr_frame.specs.Changes.{IfInUse};
-ghost use Rattle.fr_frame.specs.Heap.{heap_of};
-ghost use Rattle.fr_store.specs.Moves.{HasOwner};
-ghost use Rattle.fr_store.specs.Numbers.{numbers};
-ghost use Rattle.fr_store.specs.Places.{is_between, key_of, slots_between, AreAllStored, IsKeyOf, IsSpread};
-ghost use Rattle.fr_store.specs.Stands.{kid_shown, IsOpen};
+ghost use Rattle.fr_store.specs.Common.{AreAllStored, HasOwner, IfInUse, IsKeyOf, IsNonDecreasingBy, IsOpen, IsSpread, Some, heap_of, is_between, key_of, kid_shown, length, numbers, slots_between, ℕ};
+ghost use Rattle.std.specs.Prelude.{◌+◌, ◌≤◌, filter, slice_get, take, ◌++◌, ◌≡◌, ◌⊎◌};
 
 use crate::Stack;
 use crate::turning::{StoredPlace, key, noted};

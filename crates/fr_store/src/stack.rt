@@ -1,6 +1,6 @@
 //! The stack of slots from the root's to that of the place at which a builder works.
-ghost use Rattle.std.specs.Prelude.{◌≡◌, ℕ, ◌<◌, List, [], ◌∷◌, ◌++◌, ◌↔◌, length, IsTrue, IfSome, IfNone, IsNone, OnOk, OnErr};
-ghost use Rattle.fr_store.specs.Numbers.{numbers, IsLast};
+ghost use Rattle.fr_store.specs.Common.{IsLast, OnErr, OnOk, [], length, numbers, ℕ};
+ghost use Rattle.std.specs.Prelude.{List, IsTrue, IfSome, IfNone, IsNone, ◌++◌, ◌<◌, ◌↔◌, ◌∷◌, ◌≡◌};
 
 use fr_frame::SlotId;
 use fr_shape::OutOfMemory;

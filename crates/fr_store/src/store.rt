@@ -1,12 +1,8 @@
 //! The places that were left half done, to be entered again or completed at the end of deferred
 //! mode.
-ghost use Rattle.std.specs.Prelude.{◌≡◌, ◌≢◌, ◌↔◌, ℕ, ◌<◌, [], ◌∷◌, ◌++◌, length, slice_get, true, false, IfSome, IsNone, IsTrue, OnErr, OnOk, Some};
-ghost use Rattle.std.specs.List.{Contains};
-ghost use Rattle.fr_frame.specs.Changes.{IsInUse, SameTokens, Shows};
-ghost use Rattle.fr_frame.specs.Heap.{heap_of, marked, with_mark};
-ghost use Rattle.fr_store.specs.Stands.{kid_shown, IsOpen};
-ghost use Rattle.fr_store.specs.Stored.{child_slot, IsKept, IsStoredChild};
-ghost use Rattle.fr_store.specs.Walks.{IsWalk};
+ghost use Rattle.fr_store.specs.Common.{Contains, IsInUse, IsKept, IsOpen, IsStoredChild, IsWalk, OnErr, OnOk, SameTokens, Shows, Some, [], false, heap_of, kid_shown, length, marked, true, with_mark, ℕ};
+ghost use Rattle.std.specs.Prelude.{◌≢◌, slice_get, IfSome, IsNone, IsTrue, ◌++◌, ◌<◌, ◌↔◌, ◌∷◌, ◌≡◌};
+ghost use Rattle.fr_store.specs.Stored.{child_slot};
 
 use crate::Stack;
 use crate::turning::StoredPlace;

@@ -1,14 +1,10 @@
 //! Where stored places belong, and where they come among the children of the place above.
-ghost use Rattle.std.specs.Prelude.{◌≡◌, All, IsPermutation};
-ghost use Rattle.std.specs.List.Sorted.{IsNonDecreasingBy};
-ghost use Rattle.fr_model.specs.Tree.{as_map};
-ghost use Rattle.fr_frame.specs.Changes.{IfInUse};
-ghost use Rattle.fr_frame.specs.Heap.{as_form, body_of, heap_of};
-ghost use Rattle.fr_store.specs.Moves.{HasOwner};
-ghost use Rattle.fr_store.specs.Numbers.{slots_of};
-ghost use Rattle.fr_store.specs.Places.{key_of, order_as, order_at, order_in, BelongsTo, IsNarrow, IsNoted};
+ghost use Rattle.fr_store.specs.Common.{BelongsTo, HasOwner, IfInUse, IsNarrow, IsNonDecreasingBy, IsNoted, as_entries, as_tracker, body_of, heap_of, key_of, order_as, slots_of};
+ghost use Rattle.std.specs.Prelude.{All, IsPermutation, ◌≡◌};
+ghost use Rattle.fr_model.specs.Trackers.{EntriesKind as TreeEntriesKind};
+ghost use Rattle.fr_store.specs.Places.{order_at, order_in};
 
-use fr_frame::{Form, FrameOwner, Piece, SlotId, Slots};
+use fr_frame::{EntriesKind, FrameOwner, Piece, SlotId, Slots, Tracker};
 
 /// A place that is stored, by its slot. For the walk alone there is beside it the number of the
 /// slot of the place above, which child of that it is, and where it comes among the children there:
@@ -23,7 +19,7 @@ pub(crate) struct StoredPlace {
 
 /// Where child `i` of a map comes among its children: all keys before all values.
 fn order_in_map(i: u32) -> u32
-    ensures { result ≡ order_as (as_map 0) i }
+    ensures { result ≡ order_as (as_entries (TreeEntriesKind.Map 0)) i }
 {
     if i % 2 == 0 {
         i / 2
@@ -33,14 +29,12 @@ fn order_in_map(i: u32) -> u32
 }
 
 /// Where child `i` of a place that is begun so comes among its children.
-fn order_of(form: &Form, i: u32) -> u32
-    ensures { result ≡ order_as (as_form form.now) i }
+fn order_of(tracker: &Tracker, i: u32) -> u32
+    ensures { result ≡ order_as (as_tracker tracker.now) i }
 {
-    match form {
-        Form::Map(_) => order_in_map(i),
-        Form::Struct | Form::Array | Form::Variant(_) | Form::Some | Form::Ok | Form::Err => i,
-        Form::Pointer | Form::List | Form::Slice | Form::ClosedSlice | Form::Set => i,
-        Form::DynArray => i,
+    match tracker {
+        Tracker::Entries(EntriesKind::Map(_)) => order_in_map(i),
+        Tracker::Fields(_) | Tracker::Elements | Tracker::Content(_) | Tracker::Items(_) => i,
     }
 }
 
@@ -49,7 +43,7 @@ fn order_among(piece: &Piece, i: u32) -> u32
     ensures { result ≡ order_in (body_of piece.now) i }
 {
     match piece {
-        Piece::Begun(form, _) => order_of(form, i),
+        Piece::Begun(tracker, _) => order_of(tracker, i),
         Piece::Entered | Piece::Whole(_) | Piece::Object(_, _) => i,
     }
 }

@@ -1,11 +1,6 @@
 //! The order in which stored places are completed.
-ghost use Rattle.std.specs.Prelude.{◌≡◌, ◌↔◌, ◌≤◌, ℕ, length, take, true};
-ghost use Rattle.std.specs.List.{Contains};
-ghost use Rattle.fr_frame.specs.Heap.{heap_of, marked};
-ghost use Rattle.fr_store.specs.Numbers.{slots_of};
-ghost use Rattle.fr_store.specs.Places.{AreOnce};
-ghost use Rattle.fr_store.specs.Stands.{kid_shown, IsOpen};
-ghost use Rattle.fr_store.specs.Walks.{IsWalk};
+ghost use Rattle.fr_store.specs.Common.{AreOnce, Contains, IsOpen, IsWalk, heap_of, kid_shown, length, marked, slots_of, true, ℕ};
+ghost use Rattle.std.specs.Prelude.{◌≤◌, take, ◌↔◌, ◌≡◌};
 
 use crate::Stack;
 use crate::spreading::spread;

@@ -1,9 +1,7 @@
 use Rattle.std.proofs.Common.{◌≡◌, ◌⊎◌, refl, subst, sym}
 use Rattle.std.proofs.lemmas.Result.{err_from_is_err_and}
-use Rattle.fr_shape.specs.declared.error.ReflectErrorKind.{ReflectErrorKind}
+use Rattle.fr_store.specs.Common.{LacksHere, ReflectErrorKind, top_in_use}
 use Rattle.fr_store.specs.HereLaws.{finished_begun, finished_whole, nothing_begun, nothing_whole, top_may_complete, top_refused}
-use Rattle.fr_store.specs.MoveLaws.{top_in_use}
-use Rattle.fr_store.specs.Turning.{LacksHere}
 use Rattle.fr_store.proofs.TakenLaws.{closed_room, filled_valued}
 use Rattle.fr_store.proofs.finishing.complete_top.Goals as goal
 
@@ -25,9 +23,7 @@ make_whole-requires-clause-complete g c =
 pub returns-in_err-complete_by_defaults-clause-why : goal.returns-in_err-complete_by_defaults-clause-why
 returns-in_err-complete_by_defaults-clause-why g c =
     let exit = err_from_is_err_and c.from_residual.result c.from_residual.ensures.1 in
-    rw exit.1
-    (subst
-    (λ (kind : ReflectErrorKind). (kind ≡ ReflectErrorKind.OutOfMemory)
+    rw exit.1 (subst (λ (kind : ReflectErrorKind). (kind ≡ ReflectErrorKind.OutOfMemory)
     ⊎ LacksHere (g.H.Hooks.means c.args.hooks.now) c.args.table.now c.args.plan.now c.args.slots.now c.args.stack.now kind)
     (sym exit.2)
     (top_refused c.args.plan.now c.args.slots.now c.args.stack.now c.requires.is_open c.in-Some.top.0 c.in-Some.ensures.last
@@ -40,32 +36,28 @@ returns-then-not-whole-clause-finished g c =
     finished_begun c.args.plan.now c.args.slots.now c.args.stack.now c.requires.is_open c.in-Some.top.0 c.in-Some.ensures.last
     c.requires.strict c.law_plan_lookups.ensures.agree c.law_plan_lookups.ensures.paths c.args.table.now c.requires.checked
     c.requires.plan c.requires.suits (g.H.Hooks.means c.args.hooks.now) c.complete_by_defaults.new.slots
-    c.in_ok-complete_by_defaults.ensures.filled c.in_ok-complete_by_defaults.ensures.form c.if-not-whole.ensures
+    c.in_ok-complete_by_defaults.ensures.filled c.in_ok-complete_by_defaults.ensures.tracker c.if-not-whole.ensures
 
 pub returns-then-not-whole-clause-strict : goal.returns-then-not-whole-clause-strict
 returns-then-not-whole-clause-strict g c =
     nothing_begun c.args.plan.now c.args.slots.now c.args.stack.now c.requires.is_open c.in-Some.top.0 c.in-Some.ensures.last
     c.requires.strict c.law_plan_lookups.ensures.agree c.law_plan_lookups.ensures.paths c.args.table.now c.requires.checked
     c.requires.plan c.requires.suits (g.H.Hooks.means c.args.hooks.now) c.complete_by_defaults.new.slots
-    c.in_ok-complete_by_defaults.ensures.filled c.in_ok-complete_by_defaults.ensures.form c.if-not-whole.ensures
+    c.in_ok-complete_by_defaults.ensures.filled c.in_ok-complete_by_defaults.ensures.tracker c.if-not-whole.ensures
 
 pub returns-in-Ok-clause-finished : goal.returns-in-Ok-clause-finished
 returns-in-Ok-clause-finished g c =
     finished_whole c.args.plan.now c.args.slots.now c.args.stack.now c.requires.is_open c.in-Some.top.0 c.in-Some.ensures.last
     c.requires.strict c.law_plan_lookups.ensures.agree c.law_plan_lookups.ensures.paths c.args.table.now c.requires.checked
     c.requires.plan c.requires.suits (g.H.Hooks.means c.args.hooks.now) c.complete_by_defaults.new.slots
-    c.in_ok-complete_by_defaults.ensures.filled c.make_whole.new.slots
-    c.in-Ok.ensures.whole
-    c.if-not-whole.ensures
+    c.in_ok-complete_by_defaults.ensures.filled c.make_whole.new.slots c.in-Ok.ensures.whole c.if-not-whole.ensures
 
 pub returns-in-Ok-clause-strict : goal.returns-in-Ok-clause-strict
 returns-in-Ok-clause-strict g c =
     nothing_whole c.args.plan.now c.args.slots.now c.args.stack.now c.requires.is_open c.in-Some.top.0 c.in-Some.ensures.last
     c.requires.strict c.law_plan_lookups.ensures.agree c.law_plan_lookups.ensures.paths c.args.table.now c.requires.checked
     c.requires.plan c.requires.suits (g.H.Hooks.means c.args.hooks.now) c.complete_by_defaults.new.slots
-    c.in_ok-complete_by_defaults.ensures.filled c.make_whole.new.slots
-    c.in-Ok.ensures.whole
-    c.if-not-whole.ensures
+    c.in_ok-complete_by_defaults.ensures.filled c.make_whole.new.slots c.in-Ok.ensures.whole c.if-not-whole.ensures
 
 pub make_whole-requires-clause-room : goal.make_whole-requires-clause-room
 make_whole-requires-clause-room g c =

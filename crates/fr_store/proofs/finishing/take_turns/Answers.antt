@@ -1,10 +1,7 @@
 use Rattle.std.proofs.Common.{◌≡◌, ◌⊎◌, ◌+◌, ℕ, List, inl, inr, refl, get_or, drop, subst}
 use Rattle.std.proofs.lemmas.List.{drop_more}
-use Rattle.fr_shape.specs.declared.error.ReflectErrorKind.{ReflectErrorKind}
-use Rattle.fr_store.specs.Turning.{Walked, IsLackingAt, StoppedByTurns}
-use Rattle.fr_store.specs.Turns.{IsHeldUp}
+use Rattle.fr_store.specs.Common.{IsHeldUp, IsLackingAt, ReflectErrorKind, StoppedByTurns, Walked, slots_occur}
 use Rattle.fr_store.proofs.WalkedLaws.{head_due, walk_begins, walk_goes_on, walk_held_up, walk_stopped}
-use Rattle.fr_frame.specs.Heap.{slots_occur}
 use Rattle.fr_store.proofs.TakenLaws.{room_still}
 use Rattle.fr_store.proofs.ReleasedLaws.{conserved_on, conserved_same}
 use Rattle.fr_store.proofs.finishing.take_turns.Goals as goal
@@ -21,12 +18,10 @@ pub turn-requires-clause-due : goal.turn-requires-clause-due
 turn-requires-clause-due g c =
     let place : ℕ = get_or c.args.walk.now c.loop-place.place-index 0 in
     head_due (g.H.Hooks.means c.args.hooks.now) c.args.table.now c.args.plan.now c.args.slots.now c.args.stack.now
-    c.loop-place.slots c.args.walk.now (drop (c.loop-place.place-index + 1) c.args.walk.now) place
-    (subst
+    c.loop-place.slots c.args.walk.now (drop (c.loop-place.place-index + 1) c.args.walk.now) place (subst
     (λ (rest : List ℕ). Walked (g.H.Hooks.means c.args.hooks.now) c.args.table.now c.args.plan.now c.args.slots.now
     c.args.stack.now c.loop-place.slots c.args.walk.now rest)
-    (drop_more c.args.walk.now c.loop-place.place-index 0 c.loop-place-test.true)
-    c.loop-place.invariant.walked)
+    (drop_more c.args.walk.now c.loop-place.place-index 0 c.loop-place-test.true) c.loop-place.invariant.walked)
 
 pub returns-in-Err-clause-why : goal.returns-in-Err-clause-why
 returns-in-Err-clause-why g c = go c.in-Err.ensures.why
@@ -36,20 +31,16 @@ returns-in-Err-clause-why g c = go c.in-Err.ensures.why
 
     go : (c.in-Err.kind ≡ ReflectErrorKind.OutOfMemory)
         ⊎ IsLackingAt (g.H.Hooks.means c.args.hooks.now) c.args.table.now c.args.plan.now c.loop-place.slots c.args.stack.now
-        place c.in-Err.kind
-        → (c.in-Err.kind ≡ ReflectErrorKind.OutOfMemory)
+        place c.in-Err.kind → (c.in-Err.kind ≡ ReflectErrorKind.OutOfMemory)
         ⊎ IsHeldUp (g.H.Hooks.means c.args.hooks.now) c.args.table.now c.args.plan.now c.args.slots.now c.args.stack.now
         c.in-Err.kind
     go (inl memory) = inl memory
     go (inr lacks) =
-        inr
-        (walk_held_up (g.H.Hooks.means c.args.hooks.now) c.args.table.now c.args.plan.now c.args.slots.now c.args.stack.now
-        c.loop-place.slots c.args.walk.now (drop (c.loop-place.place-index + 1) c.args.walk.now) place
-        (subst
+        inr (walk_held_up (g.H.Hooks.means c.args.hooks.now) c.args.table.now c.args.plan.now c.args.slots.now c.args.stack.now
+        c.loop-place.slots c.args.walk.now (drop (c.loop-place.place-index + 1) c.args.walk.now) place (subst
         (λ (rest : List ℕ). Walked (g.H.Hooks.means c.args.hooks.now) c.args.table.now c.args.plan.now c.args.slots.now
         c.args.stack.now c.loop-place.slots c.args.walk.now rest)
-        (drop_more c.args.walk.now c.loop-place.place-index 0 c.loop-place-test.true)
-        c.loop-place.invariant.walked)
+        (drop_more c.args.walk.now c.loop-place.place-index 0 c.loop-place-test.true) c.loop-place.invariant.walked)
         c.law_failing.ensures.places c.law_failing.ensures.lacking c.law_failing.ensures.first c.law_failing.ensures.refuses
         c.requires.is_open c.in-Err.kind lacks)
 
@@ -61,20 +52,16 @@ returns-in-Err-clause-stopped g c = go c.in-Err.ensures.why
 
     go : (c.in-Err.kind ≡ ReflectErrorKind.OutOfMemory)
         ⊎ IsLackingAt (g.H.Hooks.means c.args.hooks.now) c.args.table.now c.args.plan.now c.loop-place.slots c.args.stack.now
-        place c.in-Err.kind
-        → (c.in-Err.kind ≡ ReflectErrorKind.OutOfMemory)
+        place c.in-Err.kind → (c.in-Err.kind ≡ ReflectErrorKind.OutOfMemory)
         ⊎ StoppedByTurns (g.H.Hooks.means c.args.hooks.now) c.args.table.now c.args.plan.now c.args.slots.now c.args.stack.now
         c.in-Err.kind
     go (inl memory) = inl memory
     go (inr lacks) =
-        inr
-        (walk_stopped (g.H.Hooks.means c.args.hooks.now) c.args.table.now c.args.plan.now c.args.slots.now c.args.stack.now
-        c.loop-place.slots c.args.walk.now (drop (c.loop-place.place-index + 1) c.args.walk.now) place
-        (subst
+        inr (walk_stopped (g.H.Hooks.means c.args.hooks.now) c.args.table.now c.args.plan.now c.args.slots.now c.args.stack.now
+        c.loop-place.slots c.args.walk.now (drop (c.loop-place.place-index + 1) c.args.walk.now) place (subst
         (λ (rest : List ℕ). Walked (g.H.Hooks.means c.args.hooks.now) c.args.table.now c.args.plan.now c.args.slots.now
         c.args.stack.now c.loop-place.slots c.args.walk.now rest)
-        (drop_more c.args.walk.now c.loop-place.place-index 0 c.loop-place-test.true)
-        c.loop-place.invariant.walked)
+        (drop_more c.args.walk.now c.loop-place.place-index 0 c.loop-place-test.true) c.loop-place.invariant.walked)
         c.in-Err.kind lacks)
 
 pub loop-place-preserved : goal.loop-place-preserved
@@ -83,13 +70,10 @@ loop-place-preserved g c =
     record {
       walked =
           walk_goes_on (g.H.Hooks.means c.args.hooks.now) c.args.table.now c.args.plan.now c.args.slots.now c.args.stack.now
-          c.loop-place.slots c.args.walk.now (drop (c.loop-place.place-index + 1) c.args.walk.now)
-          place
-          (subst
+          c.loop-place.slots c.args.walk.now (drop (c.loop-place.place-index + 1) c.args.walk.now) place (subst
           (λ (rest : List ℕ). Walked (g.H.Hooks.means c.args.hooks.now) c.args.table.now c.args.plan.now c.args.slots.now
           c.args.stack.now c.loop-place.slots c.args.walk.now rest)
-          (drop_more c.args.walk.now c.loop-place.place-index 0 c.loop-place-test.true)
-          c.loop-place.invariant.walked)
+          (drop_more c.args.walk.now c.loop-place.place-index 0 c.loop-place-test.true) c.loop-place.invariant.walked)
           c.law_completes.ensures.fits c.requires.checked c.turn.new.slots c.in-Ok.ensures.turned c.in-Ok.ensures.rest;
       conserved =
           conserved_on (slots_occur c.args.slots.now) (slots_occur c.loop-place.slots) (slots_occur c.turn.new.slots)

@@ -1,8 +1,7 @@
 use Rattle.std.proofs.Common.{◌≡◌, ◌⊎◌, refl, subst, sym}
 use Rattle.std.proofs.lemmas.Result.{err_from_is_err_and}
-use Rattle.fr_shape.specs.declared.error.ReflectErrorKind.{ReflectErrorKind}
+use Rattle.fr_store.specs.Common.{IsLackingAt, ReflectErrorKind}
 use Rattle.fr_store.specs.TurnedLaws.{due_in_use, has_turned, keeps_the_rest, may_be_completed, owned_first, refused}
-use Rattle.fr_store.specs.Turning.{IsLackingAt}
 use Rattle.fr_store.proofs.TakenLaws.{closed_room, filled_valued}
 use Rattle.fr_store.proofs.finishing.turn.Goals as goal
 
@@ -19,12 +18,9 @@ complete_by_defaults-requires-clause-place g c =
 pub returns-in_err-complete_by_defaults-clause-why : goal.returns-in_err-complete_by_defaults-clause-why
 returns-in_err-complete_by_defaults-clause-why g c =
     let exit = err_from_is_err_and c.from_residual.result c.from_residual.ensures.1 in
-    rw exit.1
-    (subst
-    (λ (kind : ReflectErrorKind). (kind ≡ ReflectErrorKind.OutOfMemory)
+    rw exit.1 (subst (λ (kind : ReflectErrorKind). (kind ≡ ReflectErrorKind.OutOfMemory)
     ⊎ IsLackingAt (g.H.Hooks.means c.args.hooks.now) c.args.table.now c.args.plan.now c.args.slots.now c.args.stack.now
-    c.args.place.0 kind)
-    (sym exit.2)
+    c.args.place.0 kind) (sym exit.2)
     (refused c.args.plan.now c.args.slots.now c.args.stack.now c.args.place.0 c.requires.is_open c.requires.due
     c.law_plan_lookups.ensures.agree c.law_plan_lookups.ensures.paths c.args.table.now c.requires.checked c.requires.plan
     c.requires.suits (g.H.Hooks.means c.args.hooks.now) c.in_err-complete_by_defaults.field-0.0

@@ -1,5 +1,5 @@
 use Rattle.std.proofs.Common.{◌≤◌, ◌<◌, ◌-◌, ◌∙◌, ◌++◌, ℕ, List, [], ◌∷◌, length, take, sym, ap, subst, arith}
-use Rattle.fr_store.specs.Beneath.{kid_on_top}
+use Rattle.fr_store.specs.Common.{kid_on_top}
 use Rattle.fr_store.proofs.BeneathQueue.{IsQueueBeneath}
 use Rattle.fr_store.proofs.BeneathSteps.{steps_begin, steps_end, steps_few, steps_on}
 use Rattle.fr_store.proofs.listing.walk_beneath.Goals as goal
@@ -35,8 +35,7 @@ returns c =
     record {
       walk =
           steps_end c.args.plan.now c.args.slots.now c.args.stack.now c.requires.is_open c.loop-head.queue.items c.loop-head.head
-          c.loop-head.invariant over c.pop.new.self.items
-          (c.pop.ensures.rest
+          c.loop-head.invariant over c.pop.new.self.items (c.pop.ensures.rest
           ∙ ap (λ (n : ℕ). take n c.reverse.new.self.items) (omega arith)
           ∙ ap (λ (l : List ℕ). take (length l - 1) l) c.reverse.ensures.items);
     }

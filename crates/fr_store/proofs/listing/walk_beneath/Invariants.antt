@@ -1,5 +1,5 @@
 use Rattle.std.proofs.Common.{length, ◌-◌}
-use Rattle.fr_store.specs.Beneath.{kid_on_top}
+use Rattle.fr_store.specs.Common.{kid_on_top}
 use Rattle.fr_store.proofs.BeneathQueue.{IsQueueBeneath}
 use Rattle.fr_store.proofs.listing.walk_beneath.Given as goal
 

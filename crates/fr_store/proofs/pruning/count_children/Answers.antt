@@ -1,5 +1,6 @@
 use Rattle.std.proofs.Common.{Some, ◌∙◌}
-use Rattle.fr_frame.specs.Heap.{heap_of, node_of}
+use Rattle.fr_store.specs.Common.{heap_of}
+use Rattle.fr_frame.specs.Heap.{node_of}
 use Rattle.fr_store.proofs.OutlineUses.{count_told}
 use Rattle.fr_store.proofs.pruning.count_children.Goals as goal
 

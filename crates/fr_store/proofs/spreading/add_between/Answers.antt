@@ -3,9 +3,7 @@ use Rattle.std.proofs.Common.{rules, ◌≡◌, ◌≤◌, ◌+◌, ◌-◌, ◌
 use Rattle.std.specs.List.Sorted.{IsPartitionPoint}
 use Rattle.std.proofs.lemmas.List.{append-nil, at_drop_all, at_drop_more, take_more_set}
 use Rattle.std.proofs.lemmas.List.Sorted.{IsPartitionedBy-ltb, IsPartitionPoint-from_clause}
-use Rattle.fr_store.specs.declared.turning.StoredPlace.{StoredPlace}
-use Rattle.fr_store.specs.Numbers.{slot_of, slots_of}
-use Rattle.fr_store.specs.Places.{is_between, key_of, slots_between}
+use Rattle.fr_store.specs.Common.{StoredPlace, is_between, key_of, slot_of, slots_between, slots_of}
 use Rattle.fr_store.proofs.RunLaws.{run_ahead, run_ends, run_on}
 use Rattle.fr_store.proofs.spreading.add_between.Goals as goal
 use Rattle.fr_store.proofs.spreading.add_between.Goals.{After-rest-1}
@@ -38,13 +36,10 @@ loop-place-init c =
     }
 
 -- at a higher one nothing is left
-none_left : (c : goal.Then-key-to)
-    → slots_between c.args.from c.args.to
-    (drop c.loop-place.place-index (rest_of c.args.places.now c.partition_point-start.result))
-    ≡ []
+none_left : (c : goal.Then-key-to) → slots_between c.args.from c.args.to
+    (drop c.loop-place.place-index (rest_of c.args.places.now c.partition_point-start.result)) ≡ []
 none_left c =
-    ap slots_of
-    (run_ends c.args.from c.args.to c.args.places.now c.partition_point-start.result
+    ap slots_of (run_ends c.args.from c.args.to c.args.places.now c.partition_point-start.result
     (point (goal.at.returns-then-key-to-clause-count c).After-rest-1) c.loop-place.place-index first c.requires.sorted
     c.loop-place-test.true (subst (λ (n : ℕ). c.args.to ≤ n) c.key.ensures c.if-key-to.true))
 
@@ -57,12 +52,10 @@ returns-then-key-to-clause-count c =
 pub returns-then-key-to-clause-added : goal.returns-then-key-to-clause-added
 returns-then-key-to-clause-added c =
     sym (append-nil (take c.loop-place.count c.loop-place.order))
-    ∙ ap (λ (l : List ℕ). take c.loop-place.count c.loop-place.order ++ l) (sym (none_left c))
-    ∙ c.loop-place.invariant.added
+    ∙ ap (λ (l : List ℕ). take c.loop-place.count c.loop-place.order ++ l) (sym (none_left c)) ∙ c.loop-place.invariant.added
 
 -- a lower one is in the range
-now_one : (c : goal.Else-key-to)
-    → slots_between c.args.from c.args.to
+now_one : (c : goal.Else-key-to) → slots_between c.args.from c.args.to
     (drop c.loop-place.place-index (rest_of c.args.places.now c.partition_point-start.result))
     ≡ slot_of (get_or (rest_of c.args.places.now c.partition_point-start.result) c.loop-place.place-index first)
     ∷ slots_between c.args.from c.args.to
@@ -71,10 +64,8 @@ now_one c =
     let rest : List StoredPlace = rest_of c.args.places.now c.partition_point-start.result in
     let place : StoredPlace = get_or rest c.loop-place.place-index first in
     let less : key_of place < c.args.to = subst (λ (n : ℕ). n < c.args.to) c.key.ensures c.if-key-to.false in
-    at_drop_more (slots_between c.args.from c.args.to) rest c.loop-place.place-index first c.loop-place-test.true
-    ∙ ap
-    (λ (b : Bool).
-    slots_of (cond b (place ∷ filter (is_between c.args.from c.args.to) (drop (c.loop-place.place-index + 1) rest))
+    at_drop_more (slots_between c.args.from c.args.to) rest c.loop-place.place-index first c.loop-place-test.true ∙ ap
+    (λ (b : Bool). slots_of (cond b (place ∷ filter (is_between c.args.from c.args.to) (drop (c.loop-place.place-index + 1) rest))
     (filter (is_between c.args.from c.args.to) (drop (c.loop-place.place-index + 1) rest))))
     (run_on c.args.from c.args.to c.args.places.now c.partition_point-start.result
     (point (goal.at.bounds-order-count c).After-rest-1) c.loop-place.place-index first c.loop-place-test.true less)
@@ -106,8 +97,7 @@ loop-place-preserved c =
       added =
           ap (λ (l : List ℕ). l ++ later) (take_more_set c.loop-place.order c.loop-place.count n (room c))
           ∙ append_assoc (take c.loop-place.count c.loop-place.order) (n ∷ []) later
-          ∙ ap (λ (l : List ℕ). take c.loop-place.count c.loop-place.order ++ l) (sym (now_one c))
-          ∙ c.loop-place.invariant.added;
+          ∙ ap (λ (l : List ℕ). take c.loop-place.count c.loop-place.order ++ l) (sym (now_one c)) ∙ c.loop-place.invariant.added;
     }
 
 pub returns-clause-count : goal.returns-clause-count
@@ -121,5 +111,4 @@ returns-clause-added c =
     let none = at_drop_all (slots_between c.args.from c.args.to) (rest_of c.args.places.now c.partition_point-start.result)
     c.loop-place.place-index (omega (arith, c.loop-place-test.false)) in
     sym (append-nil (take c.loop-place.count c.loop-place.order))
-    ∙ ap (λ (l : List ℕ). take c.loop-place.count c.loop-place.order ++ l) (sym none)
-    ∙ c.loop-place.invariant.added
+    ∙ ap (λ (l : List ℕ). take c.loop-place.count c.loop-place.order ++ l) (sym none) ∙ c.loop-place.invariant.added

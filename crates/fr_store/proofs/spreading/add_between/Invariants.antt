@@ -1,5 +1,5 @@
 use Rattle.std.proofs.Common.{◌≡◌, ◌+◌, ◌++◌, drop, length, take}
-use Rattle.fr_store.specs.Places.{slots_between}
+use Rattle.fr_store.specs.Common.{slots_between}
 use Rattle.fr_store.proofs.spreading.add_between.Given as goal
 
 abbrev pub invariant-loop-place : goal.invariant-loop-place

@@ -1,10 +1,6 @@
 use Rattle.std.proofs.Common.{◌∙◌, ◌<◌, ap, length, subst, sym, ℕ, arith}
 use Rattle.std.proofs.lemmas.List.Elements.{AllWithin-more_set}
-use Rattle.fr_frame.specs.declared.places.SlotId.{SlotId}
-use Rattle.fr_frame.specs.Changes.{IfInUse}
-use Rattle.fr_frame.specs.Heap.{Node, heap_of}
-use Rattle.fr_store.specs.Moves.{HasOwner}
-use Rattle.fr_store.specs.Places.{BelongsTo, IsNarrow, IsNoted}
+use Rattle.fr_store.specs.Common.{BelongsTo, HasOwner, IfInUse, IsNarrow, IsNoted, Node, SlotId, heap_of}
 use Rattle.fr_store.proofs.NoteLaws.{slot_read, slots_set}
 use Rattle.fr_store.proofs.turning.note_all.Goals as goal
 
@@ -22,8 +18,7 @@ loop-i-preserved c =
     record {
       slots =
           slots_set c.loop-i.places c.loop-i.i c.noted.result (record { slot = record { 0 = 0 }; parent = 0; number = 0; order = 0 }) here
-          (ap (λ (slot : SlotId). slot.0) c.noted.ensures.slot)
-          ∙ c.loop-i.invariant.slots;
+          (ap (λ (slot : SlotId). slot.0) c.noted.ensures.slot) ∙ c.loop-i.invariant.slots;
       noted =
           AllWithin-more_set c.loop-i.places c.loop-i.i c.noted.result here (IsNoted (heap_of c.args.slots.now))
           c.loop-i.invariant.noted

@@ -1,8 +1,6 @@
 use Rattle.std.proofs.Common.{◌≡◌}
 use Rattle.std.specs.List.{AllWithin}
-use Rattle.fr_frame.specs.Heap.{heap_of}
-use Rattle.fr_store.specs.Numbers.{slots_of}
-use Rattle.fr_store.specs.Places.{IsNarrow, IsNoted}
+use Rattle.fr_store.specs.Common.{IsNarrow, IsNoted, heap_of, slots_of}
 use Rattle.fr_store.proofs.turning.note_all.Given as goal
 
 abbrev pub invariant-loop-i : goal.invariant-loop-i

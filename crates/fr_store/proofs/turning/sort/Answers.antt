@@ -1,6 +1,6 @@
 use Rattle.std.proofs.Common.{rules}
 use Rattle.std.proofs.lemmas.List.Sorted.{IsNonDecreasingBy-from_sort_by_key}
-use Rattle.fr_store.specs.Places.{key_of}
+use Rattle.fr_store.specs.Common.{key_of}
 use Rattle.fr_store.proofs.turning.sort.Goals as goal
 
 pub returns-clause-sorted : goal.returns-clause-sorted

@@ -1,10 +1,6 @@
 use Rattle.std.proofs.Common.{◌≡◌, ◌∙◌, List, ℕ, length, get_or, take, reverse, sym, ap, subst, arith}
 use Rattle.std.proofs.lemmas.List.{take_at}
-use Rattle.fr_frame.specs.Heap.{heap_of}
-use Rattle.fr_store.specs.Numbers.{slot_of}
-use Rattle.fr_store.specs.Places.{IsSpread}
-use Rattle.fr_store.specs.Stands.{cursor_shown, kid_shown}
-use Rattle.fr_store.specs.Walks.{IsWalk}
+use Rattle.fr_store.specs.Common.{IsSpread, IsWalk, cursor_shown, heap_of, kid_shown, slot_of}
 use Rattle.fr_store.proofs.PairLaws.{in_map}
 use Rattle.std.proofs.lemmas.List.Elements.{Contains-get_or}
 use Rattle.fr_store.proofs.StoredLaws.{are_all_stored, stored_owned}
@@ -13,8 +9,7 @@ use Rattle.fr_store.proofs.walking.order_walk.Goals as goal
 
 pub note_all-requires : goal.note_all-requires
 note_all-requires c = record {
-  owned = λ i d h.
-      stored_owned c.args.plan.now (heap_of c.args.slots.now) c.args.stack.now
+  owned = λ i d h. stored_owned c.args.plan.now (heap_of c.args.slots.now) c.args.stack.now
       (cursor_shown (heap_of c.args.slots.now) c.args.stack.now) (kid_shown (heap_of c.args.slots.now) c.args.stack.now)
       c.requires.is_open.stands c.requires.is_open.all (get_or c.args.places.now i d).slot.0
       ((c.requires.kept (get_or c.args.places.now i d).slot.0).1
@@ -32,8 +27,7 @@ spread-requires-clause-stored c =
 pub returns : goal.returns
 returns c =
     let k = kid_shown (heap_of c.args.slots.now) c.args.stack.now in
-    let long : length c.sort.new.places ≡ length c.args.places.now
-    = omega (arith, c.note_all.auto.places, c.sort.auto.places) in
+    let long : length c.sort.new.places ≡ length c.args.places.now = omega (arith, c.note_all.auto.places, c.sort.auto.places) in
     let spread : IsSpread k (take (length c.args.places.now) c.spread.new.order)
     = subst (λ (n : ℕ). IsSpread k (take n c.spread.new.order)) long c.spread.ensures.spread in
     let items : c.truncate.new.self.items ≡ take (length c.args.places.now) c.spread.new.order = c.truncate.ensures.items

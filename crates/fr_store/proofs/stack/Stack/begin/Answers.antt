@@ -1,13 +1,5 @@
-use Rattle.std.specs.Prelude.{Result, Ok, Err, OnErr, OnOk}
-use Rattle.fr_model.specs.Step.{opened_as}
-use Rattle.fr_model.specs.Tree.{change_at}
+use Rattle.fr_store.specs.Common.{AllStayPut, Err, IsOpenAt, Ok, OnErr, OnOk, Result, Shows, as_tracker, change_at, cursor_in, heap_of, kid_here, opened_as, top_in_use, tree_in_slots, with_body}
 use Rattle.fr_frame.specs.Bodies.{opened}
-use Rattle.fr_frame.specs.Changes.{Shows}
-use Rattle.fr_frame.specs.Heap.{as_form, heap_of, with_body}
-use Rattle.fr_store.specs.MoveLaws.{top_in_use}
-use Rattle.fr_store.specs.Moves.{IsOpenAt, cursor_in, tree_in_slots}
-use Rattle.fr_store.specs.Stands.{kid_here}
-use Rattle.fr_store.specs.Staying.{AllStayPut}
 use Rattle.fr_store.proofs.BeginLaws.{open_begun, stay_begun}
 use Rattle.fr_store.proofs.StayLaws.{stay_refused}
 use Rattle.fr_store.proofs.stack.Stack.begin.Goals as goal
@@ -22,14 +14,13 @@ begin-requires-clause-in_use c =
 
 pub returns-clause-begun : goal.returns-clause-begun
 returns-clause-begun c =
-    on_ok c.begin.result
-    (Shows c.begin.new.slots
-    (with_body (heap_of c.args.slots.now) c.in-Some.place.0 (opened (as_form c.args.form) c.args.count)))
+    on_ok c.begin.result (Shows c.begin.new.slots
+    (with_body (heap_of c.args.slots.now) c.in-Some.place.0 (opened (as_tracker c.args.tracker) c.args.count)))
     (IsOpenAt c.args.plan.now c.begin.new.slots c.args.self.now (cursor_in c.args.slots.now c.args.self.now)
-    (change_at (cursor_in c.args.slots.now c.args.self.now) (opened_as (as_form c.args.form) c.args.count)
+    (change_at (cursor_in c.args.slots.now c.args.self.now) (opened_as (as_tracker c.args.tracker) c.args.count)
     (tree_in_slots c.args.slots.now c.args.self.now)))
     (λ shows. open_begun c.args.plan.now c.args.slots.now c.begin.new.slots c.args.self.now c.requires.is_open
-    c.in-Some.place.0 c.in-Some.ensures.last (as_form c.args.form) c.args.count c.requires.many c.requires.base shows c.begin.ensures.tokens)
+    c.in-Some.place.0 c.in-Some.ensures.last (as_tracker c.args.tracker) c.args.count c.requires.many c.requires.base shows c.begin.ensures.tokens)
     c.begin.ensures.begun
 
 either_way : {A E : Type 0} (result : Result A E) (So Else Then : Type 0) → (So → Then) → (Else → Then) → OnOk result So
@@ -39,12 +30,11 @@ either_way (Err e) So Else Then step back so refused = back refused
 
 pub returns-clause-places : goal.returns-clause-places
 returns-clause-places c =
-    either_way c.begin.result
-    (Shows c.begin.new.slots
-    (with_body (heap_of c.args.slots.now) c.in-Some.place.0 (opened (as_form c.args.form) c.args.count)))
+    either_way c.begin.result (Shows c.begin.new.slots
+    (with_body (heap_of c.args.slots.now) c.in-Some.place.0 (opened (as_tracker c.args.tracker) c.args.count)))
     (Shows c.begin.new.slots (heap_of c.args.slots.now))
     (AllStayPut (kid_here c.args.slots.now c.args.self.now) (kid_here c.begin.new.slots c.args.self.now))
     (λ shows. stay_begun c.args.plan.now c.args.slots.now c.begin.new.slots c.args.self.now c.requires.is_open
-    c.in-Some.place.0 c.in-Some.ensures.last (as_form c.args.form) c.args.count c.requires.many c.requires.base shows)
+    c.in-Some.place.0 c.in-Some.ensures.last (as_tracker c.args.tracker) c.args.count c.requires.many c.requires.base shows)
     (λ shows. stay_refused c.args.plan.now c.args.slots.now c.begin.new.slots c.args.self.now c.requires.is_open shows)
     c.begin.ensures.begun c.begin.ensures.refused

@@ -1,8 +1,6 @@
-use Rattle.std.specs.Prelude.{◌≡◌, Result, Ok, Err, OnErr, OnOk, Some}
-use Rattle.fr_shape.specs.Val.{Val}
-use Rattle.fr_frame.specs.Bodies.{value_of}
-use Rattle.fr_frame.specs.Changes.{IfInUse, SameMarks, Shows}
-use Rattle.fr_frame.specs.Heap.{Node, gives, heap_of, without}
+use Rattle.std.proofs.Common.{◌≡◌}
+use Rattle.fr_store.specs.Common.{Err, IfInUse, Node, Ok, OnErr, OnOk, Result, SameMarks, Shows, Some, Val, heap_of, value_of, without}
+use Rattle.fr_frame.specs.Heap.{gives}
 use Rattle.fr_store.proofs.EndLaws.{ended_marks, ended_room, ended_so, lost_marks, owned_top, stay_ended}
 use Rattle.fr_store.proofs.stack.Stack.end.Goals as goal
 
@@ -28,29 +26,22 @@ either_way (Err e) So Else Then step back so refused = back refused
 
 pub returns-clause-ended : goal.returns-clause-ended
 returns-clause-ended c =
-    on_ok c.hand_up.result
-    (IfInUse c.args.slots.now c.in-Some.place.0 (λ (at : Node). (v : Val) → value_of at.body ≡ Some v
-    → Shows c.hand_up.new.slots (gives at.owner v (without (heap_of c.args.slots.now) c.in-Some.place.0 at.owner))))
-    _
+    on_ok c.hand_up.result (IfInUse c.args.slots.now c.in-Some.place.0 (λ (at : Node). (v : Val) → value_of at.body ≡ Some v
+    → Shows c.hand_up.new.slots (gives at.owner v (without (heap_of c.args.slots.now) c.in-Some.place.0 at.owner)))) _
     (λ handed. ended_so c.args.plan.now c.args.slots.now c.args.self.now c.requires.is_open c.requires.below
-    c.pop.new.self c.in-Some.place.0 c.in-Some.ensures.last c.hand_up.new.slots handed)
-    c.hand_up.ensures.handed
+    c.pop.new.self c.in-Some.place.0 c.in-Some.ensures.last c.hand_up.new.slots handed) c.hand_up.ensures.handed
 
 pub returns-clause-places : goal.returns-clause-places
 returns-clause-places c =
-    on_ok c.hand_up.result
-    (IfInUse c.args.slots.now c.in-Some.place.0 (λ (at : Node). (v : Val) → value_of at.body ≡ Some v
-    → Shows c.hand_up.new.slots (gives at.owner v (without (heap_of c.args.slots.now) c.in-Some.place.0 at.owner))))
-    _
+    on_ok c.hand_up.result (IfInUse c.args.slots.now c.in-Some.place.0 (λ (at : Node). (v : Val) → value_of at.body ≡ Some v
+    → Shows c.hand_up.new.slots (gives at.owner v (without (heap_of c.args.slots.now) c.in-Some.place.0 at.owner)))) _
     (λ handed. stay_ended c.args.plan.now c.args.slots.now c.args.self.now c.requires.is_open c.requires.below
     c.pop.new.self c.in-Some.place.0 c.in-Some.ensures.last c.hand_up.new.slots handed
-    (c.requires.complete c.in-Some.place.0 (c.pop.new.self, c.in-Some.ensures.last)))
-    c.hand_up.ensures.handed
+    (c.requires.complete c.in-Some.place.0 (c.pop.new.self, c.in-Some.ensures.last))) c.hand_up.ensures.handed
 
 pub returns-clause-marks : goal.returns-clause-marks
 returns-clause-marks c =
-    either_way c.hand_up.result
-    (IfInUse c.args.slots.now c.in-Some.place.0 (λ (at : Node). (v : Val) → value_of at.body ≡ Some v
+    either_way c.hand_up.result (IfInUse c.args.slots.now c.in-Some.place.0 (λ (at : Node). (v : Val) → value_of at.body ≡ Some v
     → Shows c.hand_up.new.slots (gives at.owner v (without (heap_of c.args.slots.now) c.in-Some.place.0 at.owner))))
     (IfInUse c.args.slots.now c.in-Some.place.0 (λ (at : Node).
     Shows c.hand_up.new.slots (without (heap_of c.args.slots.now) c.in-Some.place.0 at.owner)))

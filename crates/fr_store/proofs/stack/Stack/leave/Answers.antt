@@ -1,4 +1,4 @@
-use Rattle.fr_store.specs.MoveLaws.{top_in_use}
+use Rattle.fr_store.specs.Common.{top_in_use}
 use Rattle.fr_store.proofs.StoreLaws.{open_left, taken_off, top_unmarked}
 use Rattle.fr_store.proofs.stack.Stack.leave.Goals as goal
 
@@ -15,13 +15,11 @@ returns-clause-left c =
     (open_left c.args.plan.now c.args.slots.now c.insert.new.slots c.args.self.now c.pop.new.self c.requires.is_open
     c.requires.below c.requires.not_item c.in-Some.place.0
     (taken_off c.args.self.now c.pop.new.self c.in-Some.place.0 c.pop.result c.in-Some.ensures.last c.pop.ensures.last
-    c.pop.ensures.none)
-    c.in_ok-insert.ensures.marked c.insert.ensures.tokens).0
+    c.pop.ensures.none) c.in_ok-insert.ensures.marked c.insert.ensures.tokens).0
 
 pub returns-clause-places : goal.returns-clause-places
 returns-clause-places c =
     (open_left c.args.plan.now c.args.slots.now c.insert.new.slots c.args.self.now c.pop.new.self c.requires.is_open
     c.requires.below c.requires.not_item c.in-Some.place.0
     (taken_off c.args.self.now c.pop.new.self c.in-Some.place.0 c.pop.result c.in-Some.ensures.last c.pop.ensures.last
-    c.pop.ensures.none)
-    c.in_ok-insert.ensures.marked c.insert.ensures.tokens).1
+    c.pop.ensures.none) c.in_ok-insert.ensures.marked c.insert.ensures.tokens).1

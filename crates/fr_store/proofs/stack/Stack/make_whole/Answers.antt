@@ -1,13 +1,7 @@
-use Rattle.std.specs.Prelude.{◌≡◌, Result, Ok, Err, OnErr, OnOk, Some}
-use Rattle.std.proofs.Common.{◌∙◌, ap}
-use Rattle.fr_shape.specs.Val.{Val}
-use Rattle.fr_frame.specs.Bodies.{value_of, whole_body}
-use Rattle.fr_frame.specs.Changes.{Becomes, IfInUse, Shows}
-use Rattle.fr_frame.specs.Heap.{Node, heap_of, stored_in}
+use Rattle.fr_store.specs.Common.{AllStayPut, Err, IfInUse, Node, NothingStored, Ok, OnErr, OnOk, Result, Shows, Some, Val, heap_of, kid_here, stored_in, value_of, whole_body}
+use Rattle.std.proofs.Common.{◌∙◌, ap, ◌≡◌}
+use Rattle.fr_frame.specs.Changes.{Becomes}
 use Rattle.fr_store.specs.MoveLaws.{closed_open, top_room}
-use Rattle.fr_store.specs.Stands.{kid_here}
-use Rattle.fr_store.specs.Staying.{AllStayPut}
-use Rattle.fr_store.specs.Stored.{NothingStored}
 use Rattle.fr_store.proofs.StayLaws.{stay_refused}
 use Rattle.fr_store.proofs.WholeLaws.{whole_now, whole_stay, whole_strict}
 use Rattle.fr_store.proofs.stack.Stack.make_whole.Goals as goal
@@ -29,13 +23,10 @@ either_way (Err e) So Else Then step back so refused = back refused
 
 pub returns-clause-whole : goal.returns-clause-whole
 returns-clause-whole c =
-    on_ok c.make_whole.result
-    (IfInUse c.args.slots.now c.in-Some.place.0 (λ (at : Node). (v : Val) → value_of at.body ≡ Some v
-    → Becomes c.args.slots.now c.make_whole.new.slots c.in-Some.place.0 at (whole_body v)))
-    _
+    on_ok c.make_whole.result (IfInUse c.args.slots.now c.in-Some.place.0 (λ (at : Node). (v : Val) → value_of at.body ≡ Some v
+    → Becomes c.args.slots.now c.make_whole.new.slots c.in-Some.place.0 at (whole_body v))) _
     (λ whole. whole_now c.args.plan.now c.args.slots.now c.make_whole.new.slots c.args.self.now c.requires.is_open
-    c.in-Some.place.0 c.in-Some.ensures.last c.requires.strict whole)
-    c.make_whole.ensures.whole
+    c.in-Some.place.0 c.in-Some.ensures.last c.requires.strict whole) c.make_whole.ensures.whole
 
 pub returns-clause-places : goal.returns-clause-places
 returns-clause-places c =
@@ -58,6 +49,5 @@ returns-clause-strict c =
     (Shows c.make_whole.new.slots (heap_of c.args.slots.now)) (NothingStored c.make_whole.new.slots)
     (λ whole. whole_strict c.args.plan.now c.args.slots.now c.make_whole.new.slots c.args.self.now c.requires.is_open
     c.in-Some.place.0 c.in-Some.ensures.last c.requires.strict whole
-    (c.requires.complete c.in-Some.place.0 c.in-Some.ensures.last))
-    (λ shows n. ap stored_in (shows n) ∙ c.requires.strict n)
+    (c.requires.complete c.in-Some.place.0 c.in-Some.ensures.last)) (λ shows n. ap stored_in (shows n) ∙ c.requires.strict n)
     c.make_whole.ensures.whole c.make_whole.ensures.refused

@@ -1,12 +1,5 @@
-use Rattle.std.specs.Prelude.{Result, Ok, Err, OnErr, OnOk}
-use Rattle.fr_model.specs.Tree.{change_at}
+use Rattle.fr_store.specs.Common.{AllStayPut, Err, IsOpenAt, Ok, OnErr, OnOk, Result, Shows, around_elements, change_at, cursor_in, heap_of, kid_here, top_in_use, tree_in_slots, with_body}
 use Rattle.fr_frame.specs.Bodies.{opened_array}
-use Rattle.fr_frame.specs.Changes.{Shows}
-use Rattle.fr_frame.specs.Heap.{heap_of, with_body}
-use Rattle.fr_store.specs.MoveLaws.{top_in_use}
-use Rattle.fr_store.specs.Moves.{IsOpenAt, around_elements, cursor_in, tree_in_slots}
-use Rattle.fr_store.specs.Stands.{kid_here}
-use Rattle.fr_store.specs.Staying.{AllStayPut}
 use Rattle.fr_store.proofs.DynamicLaws.{array_open, array_stay}
 use Rattle.fr_store.proofs.StayLaws.{stay_refused}
 use Rattle.fr_store.proofs.stack.Stack.open_array.Goals as goal
@@ -21,13 +14,11 @@ open_array-requires-clause-in_use c =
 
 pub returns-clause-opened : goal.returns-clause-opened
 returns-clause-opened c =
-    on_ok c.open_array.result
-    (Shows c.open_array.new.slots (with_body (heap_of c.args.slots.now) c.in-Some.place.0 opened_array))
+    on_ok c.open_array.result (Shows c.open_array.new.slots (with_body (heap_of c.args.slots.now) c.in-Some.place.0 opened_array))
     (IsOpenAt c.args.plan.now c.open_array.new.slots c.args.self.now (cursor_in c.args.slots.now c.args.self.now)
     (change_at (cursor_in c.args.slots.now c.args.self.now) around_elements (tree_in_slots c.args.slots.now c.args.self.now)))
     (λ shows. array_open c.args.plan.now c.args.slots.now c.open_array.new.slots c.args.self.now c.requires.is_open
-    c.in-Some.place.0 c.in-Some.ensures.last shows c.open_array.ensures.tokens)
-    c.open_array.ensures.opened
+    c.in-Some.place.0 c.in-Some.ensures.last shows c.open_array.ensures.tokens) c.open_array.ensures.opened
 
 either_way : {A E : Type 0} (result : Result A E) (So Else Then : Type 0) → (So → Then) → (Else → Then) → OnOk result So
     → OnErr result Else → Then

@@ -1,12 +1,5 @@
-use Rattle.std.specs.Prelude.{Result, Ok, Err, OnErr, OnOk}
-use Rattle.fr_model.specs.Tree.{change_at}
+use Rattle.fr_store.specs.Common.{AllStayPut, Err, IsOpenAt, Ok, OnErr, OnOk, Result, Shows, around_members, change_at, cursor_in, heap_of, kid_here, top_in_use, tree_in_slots, with_body}
 use Rattle.fr_frame.specs.Bodies.{opened_object}
-use Rattle.fr_frame.specs.Changes.{Shows}
-use Rattle.fr_frame.specs.Heap.{heap_of, with_body}
-use Rattle.fr_store.specs.MoveLaws.{top_in_use}
-use Rattle.fr_store.specs.Moves.{IsOpenAt, around_members, cursor_in, tree_in_slots}
-use Rattle.fr_store.specs.Stands.{kid_here}
-use Rattle.fr_store.specs.Staying.{AllStayPut}
 use Rattle.fr_store.proofs.DynamicLaws.{object_open, object_stay}
 use Rattle.fr_store.proofs.StayLaws.{stay_refused}
 use Rattle.fr_store.proofs.stack.Stack.open_object.Goals as goal
@@ -26,8 +19,7 @@ returns-clause-opened c =
     (IsOpenAt c.args.plan.now c.open_object.new.slots c.args.self.now (cursor_in c.args.slots.now c.args.self.now)
     (change_at (cursor_in c.args.slots.now c.args.self.now) around_members (tree_in_slots c.args.slots.now c.args.self.now)))
     (λ shows. object_open c.args.plan.now c.args.slots.now c.open_object.new.slots c.args.self.now c.requires.is_open
-    c.in-Some.place.0 c.in-Some.ensures.last shows c.open_object.ensures.tokens)
-    c.open_object.ensures.opened
+    c.in-Some.place.0 c.in-Some.ensures.last shows c.open_object.ensures.tokens) c.open_object.ensures.opened
 
 either_way : {A E : Type 0} (result : Result A E) (So Else Then : Type 0) → (So → Then) → (Else → Then) → OnOk result So
     → OnErr result Else → Then

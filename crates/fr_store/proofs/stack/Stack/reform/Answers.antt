@@ -1,5 +1,4 @@
-use Rattle.fr_frame.specs.Heap.{as_form}
-use Rattle.fr_store.specs.MoveLaws.{top_in_use}
+use Rattle.fr_store.specs.Common.{as_tracker, top_in_use}
 use Rattle.fr_store.proofs.ReformLaws.{marks_kept, open_reformed, stay_reformed}
 use Rattle.fr_store.proofs.stack.Stack.reform.Goals as goal
 
@@ -12,14 +11,14 @@ reform-requires c = record {
 pub returns-clause-reformed : goal.returns-clause-reformed
 returns-clause-reformed c =
     open_reformed c.args.plan.now c.args.slots.now c.reform.new.slots c.args.self.now c.requires.is_open c.in-Some.place.0
-    c.in-Some.ensures.last (as_form c.args.form) c.requires.form c.requires.slice c.reform.ensures.reformed
+    c.in-Some.ensures.last (as_tracker c.args.tracker) c.requires.tracker c.requires.slice c.reform.ensures.reformed
     c.reform.ensures.tokens
 
 pub returns-clause-places : goal.returns-clause-places
 returns-clause-places c =
     stay_reformed c.args.plan.now c.args.slots.now c.reform.new.slots c.args.self.now c.requires.is_open c.in-Some.place.0
-    c.in-Some.ensures.last (as_form c.args.form) c.requires.form c.requires.slice c.reform.ensures.reformed
+    c.in-Some.ensures.last (as_tracker c.args.tracker) c.requires.tracker c.requires.slice c.reform.ensures.reformed
 
 pub returns-clause-marks : goal.returns-clause-marks
 returns-clause-marks c =
-    marks_kept c.args.slots.now c.reform.new.slots c.in-Some.place.0 (as_form c.args.form) c.reform.ensures.reformed
+    marks_kept c.args.slots.now c.reform.new.slots c.in-Some.place.0 (as_tracker c.args.tracker) c.reform.ensures.reformed

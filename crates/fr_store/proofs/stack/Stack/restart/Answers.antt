@@ -1,13 +1,6 @@
 use Rattle.std.proofs.Common.{◌≡◌, ◌+◌, List, ℕ, sym, subst}
-use Rattle.std.specs.Prelude.{Result, Ok, Err, OnErr, OnOk}
-use Rattle.fr_shape.specs.Released.{Conserved, RoseBy}
-use Rattle.fr_frame.specs.declared.places.Slot.{Slot}
-use Rattle.fr_frame.specs.Bodies.{body_occurs, restarted}
-use Rattle.fr_frame.specs.Changes.{IfInUse, Shows}
-use Rattle.fr_frame.specs.Heap.{Node, as_form, heap_of, slots_occur, with_body}
-use Rattle.fr_store.specs.Moves.{tokens_here}
-use Rattle.fr_store.specs.Prunes.{beneath, slotted_occur}
-use Rattle.fr_store.specs.Stored.{IsKept, StoresNoMore}
+use Rattle.fr_store.specs.Common.{Conserved, Err, IfInUse, IsKept, Node, Ok, OnErr, OnOk, Result, RoseBy, Shows, Slot, StoresNoMore, as_tracker, beneath, body_occurs, heap_of, slots_occur, slotted_occur, tokens_here, with_body}
+use Rattle.fr_frame.specs.Bodies.{restarted}
 use Rattle.fr_store.proofs.ReleasedLaws.{conserved_by}
 use Rattle.fr_store.proofs.RestartLaws.{restart_kept, restart_marks, restart_open, restart_stay}
 use Rattle.fr_store.proofs.SetLaws.{top_rooted, prune_room, pruned_in_use, put_room, set_rose}
@@ -54,61 +47,49 @@ either_way (Err e) So Else Then step back so refused = back refused
 
 pub returns-clause-restarted : goal.returns-clause-restarted
 returns-clause-restarted c =
-    on_ok_both c.restart.result
-    (Shows c.restart.new.slots
-    (with_body (heap_of c.prune.new.slots) c.in-Some.place.0 (restarted (as_form c.args.form) c.args.count)))
+    on_ok_both c.restart.result (Shows c.restart.new.slots
+    (with_body (heap_of c.prune.new.slots) c.in-Some.place.0 (restarted (as_tracker c.args.tracker) c.args.count)))
     (IfInUse c.prune.new.slots c.in-Some.place.0
     (λ (found : Node). (t : ℕ) → slots_occur c.prune.new.slots t ≡ slots_occur c.restart.new.slots t + body_occurs found.body t))
-    _
-    (λ shows tokens. restart_open c.args.plan.now c.args.slots.now c.args.self.now c.requires.is_open c.in-Some.place.0
-    c.in-Some.ensures.last c.prune.new.slots c.prune.ensures.pruned (as_form c.args.form) c.args.count c.requires.may_have
-    c.requires.base c.restart.new.slots shows c.prune.ensures.tokens tokens)
-    c.restart.ensures.restarted c.restart.ensures.tokens
+    _ (λ shows tokens. restart_open c.args.plan.now c.args.slots.now c.args.self.now c.requires.is_open c.in-Some.place.0
+    c.in-Some.ensures.last c.prune.new.slots c.prune.ensures.pruned (as_tracker c.args.tracker) c.args.count c.requires.may_have
+    c.requires.base c.restart.new.slots shows c.prune.ensures.tokens tokens) c.restart.ensures.restarted c.restart.ensures.tokens
 
 pub returns-clause-places : goal.returns-clause-places
 returns-clause-places c =
-    on_ok c.restart.result
-    (Shows c.restart.new.slots
-    (with_body (heap_of c.prune.new.slots) c.in-Some.place.0 (restarted (as_form c.args.form) c.args.count)))
-    _
+    on_ok c.restart.result (Shows c.restart.new.slots
+    (with_body (heap_of c.prune.new.slots) c.in-Some.place.0 (restarted (as_tracker c.args.tracker) c.args.count))) _
     (λ shows. restart_stay c.args.plan.now c.args.slots.now c.args.self.now c.requires.is_open c.in-Some.place.0
-    c.in-Some.ensures.last c.prune.new.slots c.prune.ensures.pruned (as_form c.args.form) c.args.count c.requires.may_have
-    c.requires.base c.restart.new.slots shows)
-    c.restart.ensures.restarted
+    c.in-Some.ensures.last c.prune.new.slots c.prune.ensures.pruned (as_tracker c.args.tracker) c.args.count c.requires.may_have
+    c.requires.base c.restart.new.slots shows) c.restart.ensures.restarted
 
 pub returns-clause-released : goal.returns-clause-released
 returns-clause-released c =
-    on_ok c.restart.result
-    (IfInUse c.prune.new.slots c.in-Some.place.0
+    on_ok c.restart.result (IfInUse c.prune.new.slots c.in-Some.place.0
     (λ (found : Node). RoseBy (body_occurs found.body) c.prune.new.ledger c.restart.new.ledger))
     (RoseBy (tokens_here c.args.slots.now c.args.self.now) c.args.ledger.now c.restart.new.ledger)
     (λ rose. set_rose c.args.plan.now c.args.slots.now c.args.self.now c.requires.is_open c.in-Some.place.0
     c.in-Some.ensures.last c.prune.new.slots c.prune.ensures.pruned c.args.ledger.now c.prune.new.ledger
-    c.restart.new.ledger c.prune.ensures.released rose)
-    c.restart.ensures.released
+    c.restart.new.ledger c.prune.ensures.released rose) c.restart.ensures.released
 
 pub returns-clause-kept : goal.returns-clause-kept
 returns-clause-kept c =
-    either_way c.restart.result
-    (Shows c.restart.new.slots
-    (with_body (heap_of c.prune.new.slots) c.in-Some.place.0 (restarted (as_form c.args.form) c.args.count)))
-    (c.restart.new.slots ≡ c.prune.new.slots)
-    (IsKept c.prune.new.self c.restart.new.slots)
+    either_way c.restart.result (Shows c.restart.new.slots
+    (with_body (heap_of c.prune.new.slots) c.in-Some.place.0 (restarted (as_tracker c.args.tracker) c.args.count)))
+    (c.restart.new.slots ≡ c.prune.new.slots) (IsKept c.prune.new.self c.restart.new.slots)
     (λ shows. restart_kept c.args.plan.now c.args.slots.now c.args.self.now c.requires.is_open c.in-Some.place.0
-    c.in-Some.ensures.last c.prune.new.slots c.prune.ensures.pruned (as_form c.args.form) c.args.count c.requires.may_have
+    c.in-Some.ensures.last c.prune.new.slots c.prune.ensures.pruned (as_tracker c.args.tracker) c.args.count c.requires.may_have
     c.requires.base c.restart.new.slots shows c.prune.new.self c.prune.ensures.kept)
     (λ same. subst (λ (slots : List Slot). IsKept c.prune.new.self slots) (sym same) c.prune.ensures.kept)
     c.restart.ensures.restarted c.restart.ensures.slots_kept
 
 pub returns-clause-marks : goal.returns-clause-marks
 returns-clause-marks c =
-    either_way c.restart.result
-    (Shows c.restart.new.slots
-    (with_body (heap_of c.prune.new.slots) c.in-Some.place.0 (restarted (as_form c.args.form) c.args.count)))
-    (c.restart.new.slots ≡ c.prune.new.slots)
-    (StoresNoMore c.args.slots.now c.restart.new.slots)
+    either_way c.restart.result (Shows c.restart.new.slots
+    (with_body (heap_of c.prune.new.slots) c.in-Some.place.0 (restarted (as_tracker c.args.tracker) c.args.count)))
+    (c.restart.new.slots ≡ c.prune.new.slots) (StoresNoMore c.args.slots.now c.restart.new.slots)
     (λ shows. restart_marks c.args.plan.now c.args.slots.now c.args.self.now c.requires.is_open c.in-Some.place.0
-    c.in-Some.ensures.last c.prune.new.slots c.prune.ensures.pruned (as_form c.args.form) c.args.count c.requires.may_have
+    c.in-Some.ensures.last c.prune.new.slots c.prune.ensures.pruned (as_tracker c.args.tracker) c.args.count c.requires.may_have
     c.requires.base c.restart.new.slots shows c.prune.ensures.marks)
     (λ same. subst (λ (slots : List Slot). StoresNoMore c.args.slots.now slots) (sym same) c.prune.ensures.marks)
     c.restart.ensures.restarted c.restart.ensures.slots_kept
@@ -117,13 +98,10 @@ pub returns-clause-tokens : goal.returns-clause-tokens
 returns-clause-tokens c =
     on_err_both c.restart.result (c.restart.new.slots ≡ c.prune.new.slots) (c.restart.new.ledger ≡ c.prune.new.ledger)
     (Conserved (slots_occur c.args.slots.now) c.args.ledger.now (slots_occur c.restart.new.slots) c.restart.new.ledger)
-    (λ slots ledger.
-    subst
+    (λ slots ledger. subst
     (λ (s : List Slot). Conserved (slots_occur c.args.slots.now) c.args.ledger.now (slots_occur s) c.restart.new.ledger)
-    (sym slots)
-    (subst
-    (λ (l : List ℕ). Conserved (slots_occur c.args.slots.now) c.args.ledger.now (slots_occur c.prune.new.slots) l)
-    (sym ledger)
+    (sym slots) (subst
+    (λ (l : List ℕ). Conserved (slots_occur c.args.slots.now) c.args.ledger.now (slots_occur c.prune.new.slots) l) (sym ledger)
     (conserved_by (slots_occur c.args.slots.now) (slotted_occur (beneath (heap_of c.args.slots.now) c.in-Some.place.0))
     (slots_occur c.prune.new.slots) c.args.ledger.now c.prune.new.ledger c.prune.ensures.tokens c.prune.ensures.released)))
     c.restart.ensures.slots_kept c.restart.ensures.ledger_kept

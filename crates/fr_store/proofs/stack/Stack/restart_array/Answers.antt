@@ -1,5 +1,5 @@
 use Rattle.std.proofs.Common.{refl}
-use Rattle.fr_model.specs.Tree.{as_dyn_array}
+use Rattle.fr_store.specs.Common.{ItemsKind, as_items}
 use Rattle.fr_store.proofs.RestartLaws.{restart_kept, restart_marks, restart_open, restart_stay}
 use Rattle.fr_store.proofs.SetLaws.{top_rooted, prune_room, pruned_in_use, put_room, set_rose}
 use Rattle.fr_store.proofs.stack.Stack.restart_array.Goals as goal
@@ -26,13 +26,13 @@ restart_array-requires-clause-room c =
 pub returns-clause-restarted : goal.returns-clause-restarted
 returns-clause-restarted c =
     restart_open c.args.plan.now c.args.slots.now c.args.self.now c.requires.is_open c.in-Some.place.0 c.in-Some.ensures.last
-    c.prune.new.slots c.prune.ensures.pruned as_dyn_array 0 tt refl c.restart_array.new.slots c.restart_array.ensures.restarted
+    c.prune.new.slots c.prune.ensures.pruned (as_items ItemsKind.Array) 0 tt refl c.restart_array.new.slots c.restart_array.ensures.restarted
     c.prune.ensures.tokens c.restart_array.ensures.tokens
 
 pub returns-clause-places : goal.returns-clause-places
 returns-clause-places c =
     restart_stay c.args.plan.now c.args.slots.now c.args.self.now c.requires.is_open c.in-Some.place.0 c.in-Some.ensures.last
-    c.prune.new.slots c.prune.ensures.pruned as_dyn_array 0 tt refl c.restart_array.new.slots c.restart_array.ensures.restarted
+    c.prune.new.slots c.prune.ensures.pruned (as_items ItemsKind.Array) 0 tt refl c.restart_array.new.slots c.restart_array.ensures.restarted
 
 pub returns-clause-released : goal.returns-clause-released
 returns-clause-released c =
@@ -43,11 +43,11 @@ returns-clause-released c =
 pub returns-clause-kept : goal.returns-clause-kept
 returns-clause-kept c =
     restart_kept c.args.plan.now c.args.slots.now c.args.self.now c.requires.is_open c.in-Some.place.0 c.in-Some.ensures.last
-    c.prune.new.slots c.prune.ensures.pruned as_dyn_array 0 tt refl c.restart_array.new.slots c.restart_array.ensures.restarted
+    c.prune.new.slots c.prune.ensures.pruned (as_items ItemsKind.Array) 0 tt refl c.restart_array.new.slots c.restart_array.ensures.restarted
     c.prune.new.self c.prune.ensures.kept
 
 pub returns-clause-marks : goal.returns-clause-marks
 returns-clause-marks c =
     restart_marks c.args.plan.now c.args.slots.now c.args.self.now c.requires.is_open c.in-Some.place.0 c.in-Some.ensures.last
-    c.prune.new.slots c.prune.ensures.pruned as_dyn_array 0 tt refl c.restart_array.new.slots c.restart_array.ensures.restarted
+    c.prune.new.slots c.prune.ensures.pruned (as_items ItemsKind.Array) 0 tt refl c.restart_array.new.slots c.restart_array.ensures.restarted
     c.prune.ensures.marks

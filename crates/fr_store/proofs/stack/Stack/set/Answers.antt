@@ -1,5 +1,5 @@
 use Rattle.fr_shape.specs.View.{view}
-use Rattle.fr_frame.specs.Kids.{whole_plot}
+use Rattle.fr_store.specs.Common.{whole_plot}
 use Rattle.fr_store.proofs.SetLaws.{top_rooted, prune_room, pruned_in_use, put_room, set_rose, set_kept, set_marks, set_open, set_stay}
 use Rattle.fr_store.proofs.stack.Stack.set.Goals as goal
 

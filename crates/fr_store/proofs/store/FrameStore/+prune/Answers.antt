@@ -1,8 +1,6 @@
 use Rattle.std.proofs.Common.{◌≡◌, ◌+◌, suc, Some, sym, subst, arith}
 use Rattle.fr_frame.specs.Cells.{slot_at}
-use Rattle.fr_frame.specs.Heap.{heap_of}
-use Rattle.fr_store.specs.Prunes.{cells_found}
-use Rattle.fr_store.specs.Stored.{IsKept}
+use Rattle.fr_store.specs.Common.{IsKept, cells_found, heap_of}
 use Rattle.fr_store.proofs.PruneTurns.{nothing_pruned, nothing_rose, nothing_slotted, pruning_none, pruning_skips, next_falls, next_rooted, next_room, next_in_use, next_stored, frame_room, pruning_child, pruning_same, pruned_now, released_now, tokens_now}
 use Rattle.fr_store.proofs.store.FrameStore.+prune.Goals as goal
 use Rattle.fr_store.proofs.store.FrameStore.+prune.Goals.{in-Some, in_default}
@@ -67,8 +65,7 @@ release_frame-requires-clause-room t c =
 pub loop-i-preserved : goal.loop-i-preserved
 loop-i-preserved t c =
     elim c.match-slot_of_child.branch [
-      | in-Some w ↦
-          pruning_same (suc c.loop-i.i) c.args.place.0 (c.loop-i.i + 1) w.remove.new.self c.match-slot_of_child.self
+      | in-Some w ↦ pruning_same (suc c.loop-i.i) c.args.place.0 (c.loop-i.i + 1) w.remove.new.self c.match-slot_of_child.self
           c.args.slots.now w.release_frame.new.slots c.match-slot_of_child.slots c.args.ledger.now w.release_frame.new.ledger
           c.match-slot_of_child.ledger (omega arith) w.self-is w.slots-is w.ledger-is
           (pruning_child c.args.place.0 c.args.slots.now c.requires.rooted c.args.ledger.now c.loop-i.i c.loop-i.self
@@ -77,8 +74,7 @@ loop-i-preserved t c =
           w.prune.ensures.tokens w.prune.ensures.kept w.prune.ensures.marks w.remove.new.self w.release_frame.new.slots
           w.release_frame.new.ledger w.remove.ensures.rest w.release_frame.ensures.left w.release_frame.ensures.released
           w.release_frame.ensures.tokens)
-      | in_default w ↦
-          pruning_same (suc c.loop-i.i) c.args.place.0 (c.loop-i.i + 1) c.loop-i.self c.match-slot_of_child.self
+      | in_default w ↦ pruning_same (suc c.loop-i.i) c.args.place.0 (c.loop-i.i + 1) c.loop-i.self c.match-slot_of_child.self
           c.args.slots.now c.loop-i.slots c.match-slot_of_child.slots c.args.ledger.now c.loop-i.ledger
           c.match-slot_of_child.ledger (omega arith) w.self-is w.slots-is w.ledger-is
           (pruning_skips c.args.place.0 c.args.slots.now c.requires.rooted c.args.ledger.now c.loop-i.i c.loop-i.self

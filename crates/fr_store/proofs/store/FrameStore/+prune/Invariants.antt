@@ -1,5 +1,5 @@
 use Rattle.std.proofs.Common.{◌-◌}
-use Rattle.fr_frame.specs.Heap.{depth_limit, heap_of}
+use Rattle.fr_store.specs.Common.{depth_limit, heap_of}
 use Rattle.fr_store.proofs.PruneLaws.{depth_found, Pruning}
 use Rattle.fr_store.proofs.store.FrameStore.+prune.Given as goal
 

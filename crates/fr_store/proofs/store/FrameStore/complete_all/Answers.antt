@@ -1,9 +1,6 @@
 use Rattle.std.proofs.Common.{◌≡◌, ◌⊎◌, inl, inr}
-use Rattle.fr_shape.specs.declared.error.ReflectErrorKind.{ReflectErrorKind}
+use Rattle.fr_store.specs.Common.{IsHeldUp, LacksHere, ReflectErrorKind, StoppedByTurns, slots_occur}
 use Rattle.fr_store.proofs.FinishedLaws.{came_by_turns, held_here, is_finished, nothing_left, stopped_here}
-use Rattle.fr_store.specs.Turning.{LacksHere, StoppedByTurns}
-use Rattle.fr_store.specs.Turns.{IsHeldUp}
-use Rattle.fr_frame.specs.Heap.{slots_occur}
 use Rattle.fr_store.proofs.ReleasedLaws.{conserved_on}
 use Rattle.fr_store.proofs.TakenLaws.{room_still}
 use Rattle.fr_store.proofs.store.FrameStore.complete_all.Goals as goal
@@ -30,14 +27,12 @@ returns-clause-why g c = go c.in-Err-complete_top.ensures.why
   where
     go : (c.in-Err-complete_top.kind ≡ ReflectErrorKind.OutOfMemory)
         ⊎ LacksHere (g.H.Hooks.means c.args.hooks.now) c.args.table.now c.args.plan.now c.take_turns.new.slots
-        c.args.stack.now c.in-Err-complete_top.kind
-        → (c.in-Err-complete_top.kind ≡ ReflectErrorKind.OutOfMemory)
+        c.args.stack.now c.in-Err-complete_top.kind → (c.in-Err-complete_top.kind ≡ ReflectErrorKind.OutOfMemory)
         ⊎ IsHeldUp (g.H.Hooks.means c.args.hooks.now) c.args.table.now c.args.plan.now c.args.slots.now c.args.stack.now
         c.in-Err-complete_top.kind
     go (inl memory) = inl memory
     go (inr lacks) =
-        inr
-        (held_here (g.H.Hooks.means c.args.hooks.now) c.args.table.now c.args.plan.now c.args.slots.now c.args.stack.now
+        inr (held_here (g.H.Hooks.means c.args.hooks.now) c.args.table.now c.args.plan.now c.args.slots.now c.args.stack.now
         c.take_turns.new.slots c.deref.result.now c.in-Ok.ensures.walked c.law_failing.ensures.refuses
         c.law_failing.ensures.nothing c.requires.is_open c.in-Err-complete_top.kind lacks)
 
@@ -46,14 +41,12 @@ returns-clause-stopped g c = go c.in-Err-complete_top.ensures.why
   where
     go : (c.in-Err-complete_top.kind ≡ ReflectErrorKind.OutOfMemory)
         ⊎ LacksHere (g.H.Hooks.means c.args.hooks.now) c.args.table.now c.args.plan.now c.take_turns.new.slots
-        c.args.stack.now c.in-Err-complete_top.kind
-        → (c.in-Err-complete_top.kind ≡ ReflectErrorKind.OutOfMemory)
+        c.args.stack.now c.in-Err-complete_top.kind → (c.in-Err-complete_top.kind ≡ ReflectErrorKind.OutOfMemory)
         ⊎ StoppedByTurns (g.H.Hooks.means c.args.hooks.now) c.args.table.now c.args.plan.now c.args.slots.now
         c.args.stack.now c.in-Err-complete_top.kind
     go (inl memory) = inl memory
     go (inr lacks) =
-        inr
-        (stopped_here (g.H.Hooks.means c.args.hooks.now) c.args.table.now c.args.plan.now c.args.slots.now c.args.stack.now
+        inr (stopped_here (g.H.Hooks.means c.args.hooks.now) c.args.table.now c.args.plan.now c.args.slots.now c.args.stack.now
         c.take_turns.new.slots c.deref.result.now c.in-Ok.ensures.walked c.law_failing.ensures.refuses
         c.law_failing.ensures.nothing c.requires.is_open c.in-Err-complete_top.kind lacks)
 

@@ -1,10 +1,6 @@
 use Rattle.std.proofs.Common.{List, refl, sym, ap, subst}
-use Rattle.fr_shape.specs.TokenLaws.{Room_same, RoseBy_same}
-use Rattle.fr_frame.specs.declared.places.Slot.{Slot}
-use Rattle.fr_frame.specs.Heap.{slots_occur, stored_in}
+use Rattle.fr_store.specs.Common.{NothingStored, Room_same, RoseBy_same, Slot, cursor_in, slots_occur, stored_in, tokens_in}
 use Rattle.fr_store.specs.MoveLaws.{slots_tokens}
-use Rattle.fr_store.specs.Moves.{cursor_in, tokens_in}
-use Rattle.fr_store.specs.Stored.{NothingStored}
 use Rattle.fr_store.proofs.OpenLaws.{open_stay}
 use Rattle.fr_store.proofs.ReleasedLaws.{room_left, rose_by_all}
 use Rattle.fr_store.proofs.store.FrameStore.finish.Goals as goal
@@ -12,8 +8,7 @@ use Rattle.fr_store.proofs.store.FrameStore.finish.Goals as goal
 pub release-requires : goal.release-requires
 release-requires g c = record {
   room =
-      Room_same (slots_occur c.complete_all-result.new.slots) (slots_occur c.replace-rest.result)
-      c.complete_all-result.new.ledger
+      Room_same (slots_occur c.complete_all-result.new.slots) (slots_occur c.replace-rest.result) c.complete_all-result.new.ledger
       (λ t. ap (λ (slots : List Slot). slots_occur slots t) (sym c.replace-rest.ensures.value))
       (room_left (slots_occur c.args.slots.now) (slots_occur c.complete_all-result.new.slots) c.args.ledger.now
       c.complete_all-result.new.ledger c.complete_all-result.ensures.conserved

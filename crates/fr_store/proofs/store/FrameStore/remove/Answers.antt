@@ -1,5 +1,5 @@
 use Rattle.std.proofs.Common.{◌≢◌, ◌↔◌, ℕ, List, Contains, set, sym, subst, arith}
-use Rattle.fr_store.specs.Numbers.{slots_of}
+use Rattle.fr_store.specs.Common.{slots_of}
 use Rattle.fr_store.proofs.IndexLaws.{slots_front, slots_less, slots_rest_front, slots_rest_less}
 use Rattle.fr_store.proofs.store.FrameStore.remove.Goals as goal
 
@@ -17,9 +17,7 @@ invariant_of-self-else-at-len c =
 
 pub returns-then-at-len : goal.returns-then-at-len
 returns-then-at-len c = record {
-  rest = λ n.
-      subst
-      (λ (l : List ℕ).
+  rest = λ n. subst (λ (l : List ℕ).
       Contains (slots_of (set c.pop.new.self.items c.index.result.now c.in-Some.last)) n ↔ (Contains l n × (n ≢ c.args.place.0)))
       c.self.view_is
       (slots_rest_less c.self.inside.places.items c.pop.new.self.items c.self.inside.positions.items c.in-Some.last c.args.place.0

@@ -1,9 +1,6 @@
 use Rattle.std.proofs.Common.{◌≡◌, ◌⊎◌, ◌+◌, ℕ, List, ◌∷◌, inl, inr, refl, get_or, drop, subst}
 use Rattle.std.proofs.lemmas.List.{drop_all, drop_more}
-use Rattle.fr_shape.specs.declared.error.ReflectErrorKind.{ReflectErrorKind}
-use Rattle.fr_frame.specs.Heap.{slots_occur}
-use Rattle.fr_store.specs.Beneath.{IsHeldUpHere}
-use Rattle.fr_store.specs.Turning.{IsLackingAt}
+use Rattle.fr_store.specs.Common.{IsHeldUpHere, IsLackingAt, ReflectErrorKind, slots_occur}
 use Rattle.fr_store.proofs.BeneathTurns.{WalkedBeneath, beneath_begins, beneath_complete, beneath_due, beneath_goes_on, beneath_held_up, beneath_kept, beneath_marked, beneath_stays}
 use Rattle.fr_store.proofs.ReleasedLaws.{conserved_on, conserved_same}
 use Rattle.fr_store.proofs.TakenLaws.{room_still}
@@ -24,11 +21,9 @@ pub turn-requires-clause-due : goal.turn-requires-clause-due
 turn-requires-clause-due g c =
     beneath_due (g.H.Hooks.means c.args.hooks.now) c.args.table.now c.args.plan.now c.args.slots.now c.args.stack.now
     c.requires.is_open c.loop-place.slots (drop (c.loop-place.place-index + 1) c.args.walk.now)
-    (get_or c.args.walk.now c.loop-place.place-index 0)
-    (subst
+    (get_or c.args.walk.now c.loop-place.place-index 0) (subst
     (λ (rest : List ℕ). WalkedBeneath (g.H.Hooks.means c.args.hooks.now) c.args.table.now c.args.plan.now c.args.slots.now
-    c.args.stack.now c.loop-place.slots rest)
-    (drop_more c.args.walk.now c.loop-place.place-index 0 c.loop-place-test.true)
+    c.args.stack.now c.loop-place.slots rest) (drop_more c.args.walk.now c.loop-place.place-index 0 c.loop-place-test.true)
     c.loop-place.invariant.walked)
 
 pub turn-requires-clause-room : goal.turn-requires-clause-room
@@ -41,11 +36,9 @@ remove-requires g c =
     (c.loop-place.invariant.kept (get_or c.args.walk.now c.loop-place.place-index 0)).0
     (beneath_marked (g.H.Hooks.means c.args.hooks.now) c.args.table.now c.args.plan.now c.args.slots.now c.args.stack.now
     c.requires.is_open c.loop-place.slots (drop (c.loop-place.place-index + 1) c.args.walk.now)
-    (get_or c.args.walk.now c.loop-place.place-index 0)
-    (subst
+    (get_or c.args.walk.now c.loop-place.place-index 0) (subst
     (λ (rest : List ℕ). WalkedBeneath (g.H.Hooks.means c.args.hooks.now) c.args.table.now c.args.plan.now c.args.slots.now
-    c.args.stack.now c.loop-place.slots rest)
-    (drop_more c.args.walk.now c.loop-place.place-index 0 c.loop-place-test.true)
+    c.args.stack.now c.loop-place.slots rest) (drop_more c.args.walk.now c.loop-place.place-index 0 c.loop-place-test.true)
     c.loop-place.invariant.walked))
 
 pub returns-in-Err-clause-why : goal.returns-in-Err-clause-why
@@ -53,21 +46,17 @@ returns-in-Err-clause-why g c = go c.in-Err.ensures.why
   where
     go : (c.in-Err.kind ≡ ReflectErrorKind.OutOfMemory)
         ⊎ IsLackingAt (g.H.Hooks.means c.args.hooks.now) c.args.table.now c.args.plan.now c.loop-place.slots c.args.stack.now
-        (get_or c.args.walk.now c.loop-place.place-index 0) c.in-Err.kind
-        → (c.in-Err.kind ≡ ReflectErrorKind.OutOfMemory)
+        (get_or c.args.walk.now c.loop-place.place-index 0) c.in-Err.kind → (c.in-Err.kind ≡ ReflectErrorKind.OutOfMemory)
         ⊎ IsHeldUpHere (g.H.Hooks.means c.args.hooks.now) c.args.table.now c.args.plan.now c.args.slots.now c.args.stack.now
         c.in-Err.kind
     go (inl memory) = inl memory
     go (inr lacks) =
-        inr
-        (beneath_held_up (g.H.Hooks.means c.args.hooks.now) c.args.table.now c.args.plan.now c.args.slots.now c.args.stack.now
+        inr (beneath_held_up (g.H.Hooks.means c.args.hooks.now) c.args.table.now c.args.plan.now c.args.slots.now c.args.stack.now
         c.requires.is_open c.loop-place.slots (drop (c.loop-place.place-index + 1) c.args.walk.now)
-        (get_or c.args.walk.now c.loop-place.place-index 0)
-        (subst
+        (get_or c.args.walk.now c.loop-place.place-index 0) (subst
         (λ (rest : List ℕ). WalkedBeneath (g.H.Hooks.means c.args.hooks.now) c.args.table.now c.args.plan.now
         c.args.slots.now c.args.stack.now c.loop-place.slots rest)
-        (drop_more c.args.walk.now c.loop-place.place-index 0 c.loop-place-test.true)
-        c.loop-place.invariant.walked)
+        (drop_more c.args.walk.now c.loop-place.place-index 0 c.loop-place-test.true) c.loop-place.invariant.walked)
         c.law_failing.ensures.places c.law_failing.ensures.lacking c.law_failing.ensures.first c.law_completes.ensures.or_fails c.in-Err.kind lacks)
 
 pub returns-in-Err-clause-conserved : goal.returns-in-Err-clause-conserved
@@ -80,10 +69,8 @@ loop-place-preserved g c =
     let place : ℕ = get_or c.args.walk.now c.loop-place.place-index 0 in
     let walked : WalkedBeneath (g.H.Hooks.means c.args.hooks.now) c.args.table.now c.args.plan.now c.args.slots.now
     c.args.stack.now c.loop-place.slots (place ∷ drop (c.loop-place.place-index + 1) c.args.walk.now)
-    = subst
-    (λ (rest : List ℕ). WalkedBeneath (g.H.Hooks.means c.args.hooks.now) c.args.table.now c.args.plan.now c.args.slots.now
-    c.args.stack.now c.loop-place.slots rest)
-    (drop_more c.args.walk.now c.loop-place.place-index 0 c.loop-place-test.true)
+    = subst (λ (rest : List ℕ). WalkedBeneath (g.H.Hooks.means c.args.hooks.now) c.args.table.now c.args.plan.now c.args.slots.now
+    c.args.stack.now c.loop-place.slots rest) (drop_more c.args.walk.now c.loop-place.place-index 0 c.loop-place-test.true)
     c.loop-place.invariant.walked in
     record {
       walked =
@@ -98,18 +85,15 @@ loop-place-preserved g c =
           c.loop-place.self c.remove.new.self c.loop-place.invariant.kept c.remove.ensures.rest;
       conserved =
           conserved_on (slots_occur c.args.slots.now) (slots_occur c.loop-place.slots) (slots_occur c.turn.new.slots)
-          c.args.ledger.now c.loop-place.ledger c.turn.new.ledger c.loop-place.invariant.conserved
-          c.in-Ok.ensures.conserved;
+          c.args.ledger.now c.loop-place.ledger c.turn.new.ledger c.loop-place.invariant.conserved c.in-Ok.ensures.conserved;
     }
 
 pub returns-clause-completed : goal.returns-clause-completed
 returns-clause-completed g c =
     beneath_complete (g.H.Hooks.means c.args.hooks.now) c.args.table.now c.args.plan.now c.args.slots.now c.args.stack.now
-    c.requires.is_open c.loop-place.slots
-    (subst
+    c.requires.is_open c.loop-place.slots (subst
     (λ (rest : List ℕ). WalkedBeneath (g.H.Hooks.means c.args.hooks.now) c.args.table.now c.args.plan.now c.args.slots.now
-    c.args.stack.now c.loop-place.slots rest)
-    (drop_all c.loop-place.place-index c.args.walk.now c.loop-place-test.false)
+    c.args.stack.now c.loop-place.slots rest) (drop_all c.loop-place.place-index c.args.walk.now c.loop-place-test.false)
     c.loop-place.invariant.walked)
 
 pub returns-clause-others : goal.returns-clause-others

@@ -1,8 +1,6 @@
 use Rattle.std.proofs.Common.{◌≡◌, ◌∙◌, List, Some, ℕ, length, sym, ap, subst, arith}
 use Rattle.std.proofs.lemmas.List.{length-map}
-use Rattle.fr_store.specs.declared.turning.StoredPlace.{StoredPlace}
-use Rattle.fr_store.specs.Numbers.{slot_of, slots_of}
-use Rattle.fr_store.specs.Places.{AreOnce}
+use Rattle.fr_store.specs.Common.{AreOnce, StoredPlace, slot_of, slots_of}
 use Rattle.fr_store.proofs.IndexLaws.{room_indexed}
 use Rattle.fr_store.proofs.PairLaws.{indexed_once}
 use Rattle.fr_store.proofs.store.FrameStore.take_walk.Goals as goal

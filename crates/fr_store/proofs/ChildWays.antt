@@ -1,0 +1,98 @@
+-- An open builder goes on to a child, by each of the ways to one: what is asked of the place on top, and what comes of it.
+use Rattle.std.proofs.Common.{◌≡◌, ℕ, ◌<◌, true, false, List, [], ◌∷◌, ◌++◌, length, Option, Some, None, IsSomeAnd, refl, sym, ◌∙◌, ap, subst}
+use Rattle.fr_store.specs.Common.{AllStayPut, Def, EntriesKind, HasTracker, IfInUse, IsKept, IsLast, IsOpen, IsOpenAt, Node, NodeId, Plan, SameMarks, SameTokens, Shows, Slot, StoresNoMore, Tracker, Tree, as_entries, begun, changed_here, child_node, child_owner, cursor_in, depth_below, depth_limit, heap_of, kid_here, node_here, so_top, stored_in, tree_here, with_entered}
+use Rattle.fr_frame.specs.declared.places.ChildWay.{ChildWay}
+use Rattle.fr_frame.specs.Growing.{MayEnter as MayBeEntered, number_by, widened}
+use Rattle.fr_frame.specs.Heap.{with_mark}
+use Rattle.fr_store.specs.Moves.{MayEnter, child_number, entered_by, node_by, tracker_in}
+use Rattle.fr_store.specs.Stored.{IsStoredBy}
+use Rattle.fr_store.specs.TopLaws.{marked_entered}
+use Rattle.fr_store.proofs.AgainLaws.{open_again}
+use Rattle.fr_store.proofs.EnteringLaws.{open_entered}
+use Rattle.fr_store.proofs.EntryLaws.{entry_entered, entry_marks, entry_stay, object_here, object_tracker}
+use Rattle.fr_store.proofs.ItemLaws.{item_entered, item_marks, item_stay, key_entered, key_marks, key_stay, map_tracker, takes_item, takes_key}
+
+-- what a begun place is begun as
+tracker_is : (tree : Tree) (tracker : Tracker) → HasTracker tracker tree → tracker_in tree ≡ tracker
+tracker_is (begun made ts) tracker has = has
+tracker_is _ tracker has = absurd has
+
+-- what is so of whatever is found
+whatever : {P : Type 0} (found : Option Node) → IsSomeAnd found (λ (at : Node). P) → P
+whatever (Some at) so = so
+whatever None so = absurd so
+
+module _ (plan : Plan) (before : List Slot) (stack : List ℕ) (open_now : IsOpen plan before stack) (p : ℕ) (last : IsLast stack p) where
+  pub may_be_entered : (way : ChildWay) → MayEnter way (tree_here before stack)
+      → IfInUse before p (λ (found : Node). MayBeEntered way found.body)
+  may_be_entered (ChildWay.Child i) may = so_top plan before stack open_now p last (λ (found : Node). Unit {0}) tt
+  may_be_entered ChildWay.Item may =
+      takes_item plan before stack open_now p last (tracker_in (tree_here before stack)) may.0 may.1
+  may_be_entered ChildWay.Key may = takes_key plan before stack open_now p last may
+  may_be_entered (ChildWay.Entry key) may = object_here plan before stack open_now p last may.0 may.1
+
+  module _ (after : List Slot) (next : List ℕ) (def : Def) (n : ℕ) (node : NodeId) (vacant : heap_of before n ≡ None)
+      (tokens : SameTokens before after) (along : next ≡ stack ++ n ∷ []) where
+    -- the child is on top, no place leaves its slot, and none is stored that wasn't, nor taken out of the store
+    abbrev Enters : ChildWay → Type 0
+    Enters way =
+        (IsOpenAt plan after next (cursor_in before stack ++ child_number way (tree_here before stack) ∷ [])
+        (changed_here (entered_by way def) before stack) × AllStayPut (kid_here before stack) (kid_here after next))
+        × SameMarks before after
+
+    pub enters : (way : ChildWay) → MayEnter way (tree_here before stack) → node ≡ node_by plan before stack way
+        → ((child : ℕ) → IsStoredBy way (heap_of before) p child → ⊥) → IfInUse before p (λ (found : Node).
+        Shows after (with_entered def (widened way p (heap_of before)) node (child_owner p (number_by way found.body)) n))
+        → IfInUse before p (λ (found : Node). depth_below (heap_of before) (child_owner p (number_by way found.body)) < depth_limit)
+        → Enters way
+    enters (ChildWay.Child i) may is none shows limit =
+        let shown : Shows after (with_entered def (heap_of before) node (child_owner p i) n) = whatever (heap_of before p) shows in (
+          open_entered plan before stack open_now p last after next (tracker_in (tree_here before stack)) i def n node may.0 may.1 is
+              none vacant shown (whatever (heap_of before p) limit) tokens along,
+          λ m. ap stored_in (shown m) ∙ marked_entered def (heap_of before) node (child_owner p i) n m vacant,
+        )
+    enters ChildWay.Item may is none shows limit =
+        let tracker = tracker_in (tree_here before stack) in (
+          (
+            item_entered plan before stack open_now p last tracker may.0 may.1 after next def n node is vacant shows limit tokens along,
+            item_stay plan before stack open_now p last tracker may.0 may.1 after next def n node is vacant shows limit tokens along,
+          ),
+          item_marks plan before stack open_now p last tracker may.0 may.1 after next def n node is vacant shows limit tokens along,
+        )
+    enters ChildWay.Key may is none shows limit =
+        let made = map_tracker (tree_here before stack) may in
+        let its : node ≡ child_node plan (node_here plan before stack) (as_entries (EntriesKind.Map made.0)) (child_number ChildWay.Key (tree_here before stack))
+        = is ∙ ap (λ (tracker : Tracker). child_node plan (node_here plan before stack) tracker (child_number ChildWay.Key (tree_here before stack)))
+        (tracker_is (tree_here before stack) (as_entries (EntriesKind.Map made.0)) made.1) in (
+          (
+            key_entered plan before stack open_now p last may after next def n node its vacant shows limit tokens along,
+            key_stay plan before stack open_now p last may after next def n node its vacant shows limit tokens along,
+          ),
+          key_marks plan before stack open_now p last may after next def n node its vacant shows limit tokens along,
+        )
+    enters (ChildWay.Entry key) may is none shows limit =
+        let made = object_tracker (tree_here before stack) may.0 in
+        let its : node ≡ node_here plan before stack
+        = is ∙ ap (λ (tracker : Tracker). child_node plan (node_here plan before stack) tracker (child_number (ChildWay.Entry key) (tree_here before stack)))
+        (tracker_is (tree_here before stack) (as_entries (EntriesKind.Object made.0)) made.1) in (
+          (
+            entry_entered plan before stack open_now p last may.0 may.2 key.now after next def n node its vacant shows limit tokens along,
+            entry_stay plan before stack open_now p last may.0 may.2 key.now after next def n node its vacant shows limit tokens along,
+          ),
+          entry_marks plan before stack open_now p last may.0 may.2 key.now after next def n node its vacant shows limit tokens along,
+        )
+
+-- what is stored is listed as before
+pub kept_marked : (store : List ℕ) (before after : List Slot) → IsKept store before → SameMarks before after → IsKept store after
+kept_marked store before after kept same m = (λ stored. (kept m).0 (sym (same m) ∙ stored), λ listed. same m ∙ (kept m).1 listed)
+
+-- a child that was stored is on top again
+module _ (plan : Plan) (before after : List Slot) (stack next : List ℕ) (open_now : IsOpen plan before stack) (p : ℕ) (last : IsLast stack p)
+    (def : Def) (child : ℕ) (shows : Shows after (with_mark (heap_of before) child false)) (tokens : SameTokens before after)
+    (along : next ≡ stack ++ child ∷ []) where
+  pub again : (way : ChildWay) → MayEnter way (tree_here before stack) → IsStoredBy way (heap_of before) p child
+      → IsOpenAt plan after next (cursor_in before stack ++ child_number way (tree_here before stack) ∷ [])
+      (changed_here (entered_by way def) before stack) × AllStayPut (kid_here before stack) (kid_here after next)
+  again (ChildWay.Child i) may stored =
+      open_again plan before after stack next open_now p last (tracker_in (tree_here before stack)) i def child may.0 stored shows tokens along
+  again _ may stored = absurd stored
