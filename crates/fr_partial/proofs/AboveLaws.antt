@@ -1,26 +1,16 @@
 -- The place above the one at which a builder works: whether it is a set, by the slot that the place on top knows as its owner's.
 use Rattle.std.proofs.Common.{◌≡◌, ◌+◌, ℕ, length, Bool, false, List, [], ◌∷◌, ◌++◌, Some, None, option_map, refl, sym, ◌∙◌, ap, subst}
-use Rattle.fr_model.specs.Collections.{is_set}
-use Rattle.fr_model.specs.DynamicPlaces.{is_begun_dynamic}
-use Rattle.fr_model.specs.Places.{Place, is_root, up}
-use Rattle.fr_model.specs.Tree.{Form, Tree, begun, Trees, tree_at}
-use Rattle.fr_plan.specs.TypePlan.{Plan}
-use Rattle.fr_frame.specs.declared.places.FrameOwner.{FrameOwner}
+use Rattle.fr_partial.specs.Common.{Body, Cell, FrameOwner, IsLast, IsOpen, Kid, Node, Place, Plan, Slot, Tracker, Tree, Trees, at, begun, begun_body, begun_plot, body_of, cursor_in, entered_body, entered_plot, gone, heap_of, is_begun_dynamic, is_root, is_set, kid_shown, node_along, own_tree, tree_at, tree_of, trees_in, trees_of, up, whole_plot}
 use Rattle.fr_frame.specs.declared.places.Place.{Place as Entry}
 use Rattle.fr_frame.specs.declared.places.SlotId.{SlotId}
-use Rattle.fr_frame.specs.declared.places.Slot.{Slot}
-use Rattle.fr_frame.specs.Bodies.{Body, entered_body, begun_body, own_tree, trees_of}
-use Rattle.fr_frame.specs.Cells.{Cell}
-use Rattle.fr_frame.specs.Heap.{Node, body_of, node_of, heap_of}
+use Rattle.fr_frame.specs.Heap.{node_of}
 use Rattle.fr_frame.specs.Outlines.{outline, outlined}
 use Rattle.fr_frame.specs.OutlineLaws.{found_outline, none_found as no_outline}
-use Rattle.fr_frame.specs.Kids.{Kid, gone, there, at, entered_plot, whole_plot, begun_plot, tree_of, trees_in, cells_in, child_owner, Holds}
+use Rattle.fr_frame.specs.Kids.{there, cells_in, child_owner, Holds}
 use Rattle.fr_store.specs.HoldLaws.{holds_at}
 use Rattle.fr_store.specs.LeaveLaws.{below_root, owner_append, up_append}
-use Rattle.fr_store.specs.Moves.{cursor_in, tree_in_slots}
-use Rattle.fr_store.specs.Numbers.{IsLast}
-use Rattle.fr_store.specs.Stands.{IsOpen, kid_shown}
-use Rattle.fr_store.specs.Ways.{Leads, kid_at, node_along, owner_along, owner_below}
+use Rattle.fr_store.specs.Moves.{tree_in_slots}
+use Rattle.fr_store.specs.Ways.{Leads, kid_at, owner_along, owner_below}
 use Rattle.fr_store.specs.WayLaws.{leads_at, leads_reach, tree_of_at}
 use Rattle.fr_partial.proofs.PlaceLaws.{found_is, Tells}
 
@@ -39,26 +29,22 @@ pub record IsAbove (slots : List Slot) (owner : FrameOwner) (tree : Tree) : Type
   pub slot : ℕ
   pub number : ℕ
   pub node : Node
-  pub form : Form
+  pub tracker : Tracker
   pub cells : List Cell
   pub trees : Trees
   pub owner_is : owner ≡ child_owner slot number
   pub found : heap_of slots slot ≡ Some node
-  pub body : node.body ≡ begun_body form cells
-  pub stands : tree ≡ begun form trees
+  pub body : node.body ≡ begun_body tracker cells
+  pub stands : tree ≡ begun tracker trees
 
 module _ {plan : Plan} {slots : List Slot} {stack : List ℕ} (shown : IsOpen plan slots stack) where
   way : (above : Place) (i : ℕ) → cursor_in slots stack ≡ above ++ i ∷ []
       → IsAbove slots (owner_along FrameOwner.Root (cursor_in slots stack) (kid_shown (heap_of slots) stack))
       (tree_at (up (cursor_in slots stack)) (tree_in_slots slots stack))
   way above i is =
-      subst
-      (λ (p : Place). IsAbove slots (owner_along FrameOwner.Root p (kid_shown (heap_of slots) stack))
-      (tree_at (up p) (tree_in_slots slots stack)))
-      (sym is)
-      (go (kid_at above k) refl (leads_at above (i ∷ []) k leads)
-      (holds_at plan (heap_of slots) plan.root FrameOwner.Root 0 above k shown.stands.holds
-      (leads_reach above (i ∷ []) k leads)))
+      subst (λ (p : Place). IsAbove slots (owner_along FrameOwner.Root p (kid_shown (heap_of slots) stack))
+      (tree_at (up p) (tree_in_slots slots stack))) (sym is) (go (kid_at above k) refl (leads_at above (i ∷ []) k leads)
+      (holds_at plan (heap_of slots) plan.root FrameOwner.Root 0 above k shown.stands.holds (leads_reach above (i ∷ []) k leads)))
     where
       k : Kid
       k = kid_shown (heap_of slots) stack
@@ -68,22 +54,18 @@ module _ {plan : Plan} {slots : List Slot} {stack : List ℕ} (shown : IsOpen pl
 
       go : (x : Kid) → kid_at above k ≡ x → Leads (i ∷ []) (kid_at above k)
           → Holds plan (heap_of slots) (node_along plan plan.root above k) (owner_along FrameOwner.Root above k)
-          (0 + length above) (kid_at above k)
-          → IsAbove slots (owner_along FrameOwner.Root (above ++ i ∷ []) k)
+          (0 + length above) (kid_at above k) → IsAbove slots (owner_along FrameOwner.Root (above ++ i ∷ []) k)
           (tree_at (up (above ++ i ∷ [])) (tree_in_slots slots stack))
-      go gone e l h = absurd (subst (λ (x : Kid). Leads (i ∷ []) x) e l)
-      go (there v) e l h = absurd (subst (λ (x : Kid). Leads (i ∷ []) x) e l)
       go (at slot stored entered_plot) e l h = absurd (subst (λ (x : Kid). Leads (i ∷ []) x) e l).1
       go (at slot stored (whole_plot v)) e l h = absurd (subst (λ (x : Kid). Leads (i ∷ []) x) e l).1
-      go (at slot stored (begun_plot form kids)) e l h =
-          let held = subst
-          (λ (x : Kid). Holds plan (heap_of slots) (node_along plan plan.root above k)
+      go (at slot stored (begun_plot tracker kids)) e l h =
+          let held = subst (λ (x : Kid). Holds plan (heap_of slots) (node_along plan plan.root above k)
           (owner_along FrameOwner.Root above k) (0 + length above) x) e h in
           record {
             slot = slot;
             number = i;
             node = _;
-            form = form;
+            tracker = tracker;
             cells = cells_in kids;
             trees = trees_in kids;
             owner_is =
@@ -92,10 +74,10 @@ module _ {plan : Plan} {slots : List Slot} {stack : List ℕ} (shown : IsOpen pl
             found = held.0;
             body = refl;
             stands =
-                ap (λ (p : Place). tree_at p (tree_in_slots slots stack)) (up_append above i)
-                ∙ sym (tree_of_at above k)
+                ap (λ (p : Place). tree_at p (tree_in_slots slots stack)) (up_append above i) ∙ sym (tree_of_at above k)
                 ∙ ap tree_of e;
           }
+      go _ e l h = absurd (subst (λ (x : Kid). Leads (i ∷ []) x) e l)
 
   pub above_here : is_root (cursor_in slots stack) ≡ false
       → IsAbove slots (owner_along FrameOwner.Root (cursor_in slots stack) (kid_shown (heap_of slots) stack))
@@ -127,14 +109,11 @@ module _ {plan : Plan} {slots : List Slot} {stack : List ℕ} (shown : IsOpen pl
 
       -- what that place tells, by its outline and by the form in which it is begun
       pub told : (tells : Tree → Bool) → ((body : Body) → tells (own_tree (outline body)) ≡ tells (own_tree body))
-          → ((form : Form) (ts us : Trees) → tells (begun form ts) ≡ tells (begun form us)) → (found : Entry)
+          → ((tracker : Tracker) (ts us : Trees) → tells (begun tracker ts) ≡ tells (begun tracker us)) → (found : Entry)
           → Tells slots parent.0 found
           → tells (own_tree (body_of found.piece)) ≡ tells (tree_at (up (cursor_in slots stack)) (tree_in_slots slots stack))
       told tells outlined_so formed found is_told =
-          sym (outlined_so (body_of found.piece))
-          ∙ ap (λ (x : Node). tells (own_tree x.body))
-          (found_outline (node_of found) (heap_of slots parent.0) above.node is_told parent_found)
-          ∙ outlined_so above.node.body
-          ∙ ap (λ (b : Body). tells (own_tree b)) above.body
-          ∙ formed above.form (trees_of above.cells) above.trees
+          sym (outlined_so (body_of found.piece)) ∙ ap (λ (x : Node). tells (own_tree x.body))
+          (found_outline (node_of found) (heap_of slots parent.0) above.node is_told parent_found) ∙ outlined_so above.node.body
+          ∙ ap (λ (b : Body). tells (own_tree b)) above.body ∙ formed above.tracker (trees_of above.cells) above.trees
           ∙ sym (ap tells above.stands)

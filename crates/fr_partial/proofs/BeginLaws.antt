@@ -1,31 +1,11 @@
 -- Going on to a child: what it is refused for, and what it means.
 use Rattle.std.proofs.Common.{◌≡◌, ℕ, suc, ◌+◌, ◌<◌, Bool, true, false, List, [], ◌∷◌, length, Option, Some, None, Err, nat_lt, if◌then◌else◌, slice_get, inl, refl, sym, ◌∙◌, ap, subst, arith}
-use Rattle.std.specs.Option.{option_or}
+use Rattle.fr_partial.specs.Common.{Call, ComesTo, Def, Describes, Field, IsFullAs, IsRefusedWith, Move, Opening, Operation, ReflectErrorKind, Sees, ShapeId, Site, Table, Tracker, Tree, VariantDef, Way, as_tracker, cursor_tree, def_of, field_found, field_refusal, named_refusal, option_or, selected, shape_at, variant_fields, variants_of}
 use Rattle.std.specs.Str.{bytes_eq}
 use Rattle.std.proofs.lemmas.Bool.{ltb-true, lt-ltb}
-use Rattle.fr_shape.specs.declared.shape.Def.{Def}
-use Rattle.fr_shape.specs.declared.shape.Field.{Field}
-use Rattle.fr_shape.specs.declared.shape.ShapeId.{ShapeId}
-use Rattle.fr_shape.specs.declared.shape.VariantDef.{VariantDef}
-use Rattle.fr_shape.specs.declared.error.ReflectErrorKind.{ReflectErrorKind}
-use Rattle.fr_shape.specs.declared.error.Operation.{Operation}
-use Rattle.fr_shape.specs.Look.{Table, def_of, variants_of}
 use Rattle.fr_shape.specs.Named.{first_declared}
-use Rattle.fr_model.specs.Tree.{Form, selected, Tree, cursor_tree}
-use Rattle.fr_model.specs.Commands.{Call}
-use Rattle.fr_model.specs.Step.{field_refusal, named_refusal}
-use Rattle.fr_model.specs.Variants.{field_found, variant_fields}
-use Rattle.fr_model.specs.Well.{IsFullAs}
 use Rattle.fr_plan.specs.Names.{declared_field}
-use Rattle.fr_frame.specs.Heap.{as_form}
-use Rattle.fr_partial.specs.Sites.{Site, shape_at}
-use Rattle.fr_partial.specs.declared.admitting.Opening.{Opening}
-use Rattle.fr_partial.specs.Entering.{Describes}
-use Rattle.fr_partial.proofs.FormLaws.{struct_form, array_form, enum_form, variant_count}
-use Rattle.fr_partial.specs.declared.moves.Move.{Move}
-use Rattle.fr_partial.specs.declared.moves.Way.{Way}
-use Rattle.fr_partial.specs.Looks.{Sees}
-use Rattle.fr_partial.specs.Moving.{ComesTo, IsRefusedWith}
+use Rattle.fr_partial.proofs.TrackerLaws.{struct_tracker, array_tracker, enum_tracker, variant_count}
 use Rattle.fr_partial.proofs.DecidingLaws.{goes}
 use Rattle.fr_partial.proofs.SeenLaws.{shape_seen, def_seen, named_seen, refusal_seen, selected_seen}
 
@@ -47,16 +27,16 @@ pub opened_within : (table : Table) (s : ℕ) (t : Tree) (i : ℕ) (opening : Op
     → field_refusal (def_of table s) t i ≡ None → i < opening.count
 opened_within table s t i opening says may = go (def_of table s) says.begun may
   where
-    go : (def : Def) → IsFullAs def (as_form opening.form) opening.count → field_refusal def t i ≡ None → i < opening.count
+    go : (def : Def) → IsFullAs def (as_tracker opening.tracker) opening.count → field_refusal def t i ≡ None → i < opening.count
     go (Def.Struct struct) full none =
         let below : i < length struct.fields = below_limit i (length struct.fields) Operation.FieldIndexOutOfBounds none in
-        omega (arith, below, (struct_form struct (as_form opening.form) opening.count full).1)
+        omega (arith, below, (struct_tracker struct (as_tracker opening.tracker) opening.count full).1)
     go (Def.Array item n) full none =
         let below : i < n = below_limit i n Operation.ArrayIndexOutOfBounds (neither _ _ none) in
-        omega (arith, below, (array_form item n (as_form opening.form) opening.count full).1)
+        omega (arith, below, (array_tracker item n (as_tracker opening.tracker) opening.count full).1)
     go (Def.Enum enumeration) full none =
-        let is = enum_form enumeration (as_form opening.form) opening.count full in
-        let one : selected t ≡ Some is.variant = says.variant is.variant is.form_is in
+        let is = enum_tracker enumeration (as_tracker opening.tracker) opening.count full in
+        let one : selected t ≡ Some is.variant = says.variant is.variant is.tracker_is in
         let below : i < length (variant_fields (Def.Enum enumeration) is.variant)
         = below_limit i (length (variant_fields (Def.Enum enumeration) is.variant)) Operation.VariantFieldIndexOutOfBounds
         (rw one at none) in
@@ -64,7 +44,7 @@ opened_within table s t i opening says may = go (def_of table s) says.begun may
           arith,
           below,
           variant_count enumeration is.variant opening.count
-              (subst (λ (f : Form). IsFullAs (Def.Enum enumeration) f opening.count) is.form_is full),
+              (subst (λ (f : Tracker). IsFullAs (Def.Enum enumeration) f opening.count) is.tracker_is full),
         )
     go (Def.Slice item) full none = cc
     go Def.Opaque full none = cc
@@ -125,7 +105,7 @@ module _ {site : Site} {table : Table} {shape : ShapeId} {seen : Tree} (at : See
   pub describes_here : (opening : Opening) → Describes table shape.0 seen opening
       → Describes site.shapes (shape_at site) (cursor_tree site.state) opening
   describes_here opening says = record {
-    begun = subst (λ (def : Def). IsFullAs def (as_form opening.form) opening.count) (def_seen at) says.begun;
+    begun = subst (λ (def : Def). IsFullAs def (as_tracker opening.tracker) opening.count) (def_seen at) says.begun;
     variant = λ k is. sym (selected_seen at) ∙ says.variant k is;
   }
 
@@ -136,8 +116,7 @@ module _ {site : Site} {table : Table} {shape : ShapeId} {seen : Tree} (at : See
     named_unopened operation is =
         inl (
           (λ out. cc),
-          λ hooks.
-              rw (← (is ∙ named_seen at))
+          λ hooks. rw (← (is ∙ named_seen at))
               (ap (λ (s : ShapeId). Err (ReflectErrorKind.OperationFailed s operation)) (shape_seen at)),
         )
 
@@ -151,8 +130,7 @@ module _ {site : Site} {table : Table} {shape : ShapeId} {seen : Tree} (at : See
       named_unknown none =
           inl (
             (λ out. cc),
-            λ hooks.
-                rw (← (may ∙ named_seen at), ← (sym none ∙ found_here))
+            λ hooks. rw (← (may ∙ named_seen at), ← (sym none ∙ found_here))
                 (ap (λ (s : ShapeId). Err (ReflectErrorKind.FieldError s)) (shape_seen at)),
           )
 

@@ -1,34 +1,16 @@
 -- The place on top, once all that was left beneath it is completed: it is what it was, and no child of it is in a slot.
 use Rattle.std.proofs.Common.{◌≡◌, ◌⊎◌, ℕ, suc, List, [], ◌∷◌, Some, inl, inr, refl, sym, ◌∙◌, ap, subst}
-use Rattle.fr_shape.specs.declared.error.ReflectErrorKind.{ReflectErrorKind}
-use Rattle.fr_shape.specs.Hooks.{Meanings}
-use Rattle.fr_shape.specs.Look.{Table}
-use Rattle.fr_path.specs.declared.path_steps.PathStep.{PathStep}
-use Rattle.fr_model.specs.Complete.{complete}
+use Rattle.fr_partial.specs.Common.{Became, Body, Cell, Frames, HoldsItsValue, IsAtWork, IsKept, IsLast, LookupPathsAgree, LookupsAgree, Meanings, Node, PathStep, Place, Plan, ReflectErrorKind, Rules, Slot, StoresNothing, Suits, Table, Tracker, Tree, absent, begun_body, change_at, complete, entered_body, given, mode_of, own_tree, placed, shape_in, shape_of, top_place, top_shape, top_tree, tree_at, trees_of, whole_body, whole_tree}
 use Rattle.fr_model.specs.Failing.{Failure, failure_at, failures, failures_among, first_by_walk, own_lack}
 use Rattle.fr_model.specs.Finish.{kind_of}
-use Rattle.fr_model.specs.Places.{deferred_column, Place}
+use Rattle.fr_model.specs.Places.{deferred_column}
 use Rattle.fr_model.specs.Step.{cause_by, or_missing}
-use Rattle.fr_model.specs.Tree.{Form, Tree, change_at, shape_in, tree_at}
-use Rattle.fr_model.specs.Well.{Suits}
-use Rattle.fr_plan.specs.LookupLaws.{LookupsAgree, LookupPathsAgree}
-use Rattle.fr_plan.specs.TypePlan.{Plan}
-use Rattle.fr_frame.specs.declared.places.Slot.{Slot}
-use Rattle.fr_frame.specs.Bodies.{Body, entered_body, whole_body, begun_body, own_tree, trees_of, IsClosed}
-use Rattle.fr_frame.specs.Cells.{Cell, absent, given, placed}
+use Rattle.fr_frame.specs.Bodies.{IsClosed}
 use Rattle.fr_frame.specs.Changes.{IfInUse}
-use Rattle.fr_frame.specs.Completing.{shape_of}
 use Rattle.fr_frame.specs.Defaults.{WhyNotDefault}
-use Rattle.fr_frame.specs.Heap.{Node}
 use Rattle.fr_store.specs.Beneath.{IsCompleteBeneath, IsHeldUpHere}
-use Rattle.fr_store.specs.Numbers.{IsLast}
-use Rattle.fr_store.specs.Stored.{IsKept}
 use Rattle.fr_store.specs.Turns.{root_shape, CompletesAsBefore}
-use Rattle.fr_partial.specs.declared.moves.Rules.{Rules}
-use Rattle.fr_partial.specs.declared.work.Frames.{Frames}
-use Rattle.fr_partial.specs.Ending.{HoldsItsValue, IsHeldUpAt}
-use Rattle.fr_partial.specs.Modes.{mode_of}
-use Rattle.fr_partial.specs.Underway.{top_place, top_shape, top_tree, whole_tree, Became, IsAtWork, StoresNothing}
+use Rattle.fr_partial.specs.Ending.{IsHeldUpAt}
 use Rattle.fr_partial.proofs.EndingLaws.{here, here_so, own_is, shape_is, IsTop}
 use Rattle.fr_partial.proofs.FinishLaws.{root_is}
 use Rattle.fr_partial.proofs.HereLaws.{top_body}
@@ -38,28 +20,25 @@ use Rattle.fr_partial.proofs.TreeLaws.{changed_twice, shape_stays}
 
 -- Where all children of a place are whole or not there, it fails by itself alone.
 
-none_fails : (hooks : Meanings) (table : Table) (s : ℕ) (form : Form) (i : ℕ) (path : List PathStep) (cells : List Cell)
-    → failures_among hooks table s form i path (trees_of cells) ≡ []
-none_fails hooks table s form i path [] = refl
-none_fails hooks table s form i path (absent ∷ cells) = none_fails hooks table s form (suc i) path cells
-none_fails hooks table s form i path (given v ∷ cells) = none_fails hooks table s form (suc i) path cells
-none_fails hooks table s form i path (placed n ∷ cells) = none_fails hooks table s form (suc i) path cells
+none_fails : (hooks : Meanings) (table : Table) (s : ℕ) (tracker : Tracker) (i : ℕ) (path : List PathStep) (cells : List Cell)
+    → failures_among hooks table s tracker i path (trees_of cells) ≡ []
+none_fails hooks table s tracker i path [] = refl
+none_fails hooks table s tracker i path (absent ∷ cells) = none_fails hooks table s tracker (suc i) path cells
+none_fails hooks table s tracker i path (given v ∷ cells) = none_fails hooks table s tracker (suc i) path cells
+none_fails hooks table s tracker i path (placed n ∷ cells) = none_fails hooks table s tracker (suc i) path cells
 
 fails_itself : (hooks : Meanings) (table : Table) (s : ℕ) (path : List PathStep) (body : Body) (kind : ReflectErrorKind)
     → own_lack hooks table s (own_tree body) ≡ Some kind
     → failures hooks table s path (own_tree body) ≡ failure_at path (Some kind)
 fails_itself hooks table s path entered_body kind e = ap (failure_at path) e
 fails_itself hooks table s path (whole_body v) kind e = cc
-fails_itself hooks table s path (begun_body form cells) kind e =
-    rw (none_fails hooks table s form 0 path cells) (ap (failure_at path) e)
+fails_itself hooks table s path (begun_body tracker cells) kind e =
+    rw (none_fails hooks table s tracker 0 path cells) (ap (failure_at path) e)
 
 caused_by_itself : (hooks : Meanings) (table : Table) (s : ℕ) (path : List PathStep) (body : Body) (kind : ReflectErrorKind)
-    → own_lack hooks table s (own_tree body) ≡ Some kind
-    → kind ≡ cause_by deferred_column hooks table s path (own_tree body)
+    → own_lack hooks table s (own_tree body) ≡ Some kind → kind ≡ cause_by deferred_column hooks table s path (own_tree body)
 caused_by_itself hooks table s path body kind e =
-    sym
-    (ap (λ (fs : List Failure). or_missing s (kind_of (first_by_walk fs)))
-    (fails_itself hooks table s path body kind e))
+    sym (ap (λ (fs : List Failure). or_missing s (kind_of (first_by_walk fs))) (fails_itself hooks table s path body kind e))
 
 -- Of the place on top, and of the open places once all that was left beneath it is completed: it may be completed then, in this slot; why
 -- it makes no value then is why it makes none; and the value that it holds in the end is the one that it makes.
@@ -76,14 +55,11 @@ module _ (paths : LookupPathsAgree) {plan : Plan} {frames : Frames} (at_work : I
   root = root_is paths at_work.ready.checked at_work.ready.inside at_work.ready.planned
 
   -- it is held up there
-  pub held_up_here : (kind : ReflectErrorKind)
-      → IsHeldUpHere means frames.table.now plan frames.slots frames.stack kind
+  pub held_up_here : (kind : ReflectErrorKind) → IsHeldUpHere means frames.table.now plan frames.slots frames.stack kind
       → IsHeldUpAt means frames.table.now (top_shape frames) (top_tree frames) kind
   held_up_here kind held =
-      subst
-      (λ (s : ℕ). IsHeldUpAt means frames.table.now (shape_in frames.table.now s (top_place frames) (whole_tree frames))
-      (top_tree frames) kind)
-      root (record { incomplete = held.incomplete; cause_is = held.cause })
+      subst (λ (s : ℕ). IsHeldUpAt means frames.table.now (shape_in frames.table.now s (top_place frames) (whole_tree frames))
+      (top_tree frames) kind) root (record { incomplete = held.incomplete; cause_is = held.cause })
 
   module _ (agree : LookupsAgree) {after : List Slot} (done : IsCompleteBeneath means frames.table.now plan frames.slots frames.stack after)
       (store : List ℕ) (kept : IsKept store after) (stores : StoresNothing (mode_of frames.mode) store) {n : ℕ}
@@ -132,46 +108,33 @@ module _ (paths : LookupPathsAgree) {plan : Plan} {frames : Frames} (at_work : I
     completes_same : complete deferred_column means frames.table.now (top_shape then) (top_tree then)
         ≡ complete deferred_column means frames.table.now (top_shape frames) (top_tree frames)
     completes_same =
-        ap
-        (λ (p : Place). complete deferred_column means frames.table.now
-        (shape_in frames.table.now frames.root.0 p (whole_tree then)) (tree_at p (whole_tree then)))
-        done.stands.cursor
+        ap (λ (p : Place). complete deferred_column means frames.table.now
+        (shape_in frames.table.now frames.root.0 p (whole_tree then)) (tree_at p (whole_tree then))) done.stands.cursor
         ∙ as_before.value
 
-    cause_same : (path : List PathStep)
-        → cause_by deferred_column means frames.table.now (top_shape then) path (top_tree then)
+    cause_same : (path : List PathStep) → cause_by deferred_column means frames.table.now (top_shape then) path (top_tree then)
         ≡ cause_by deferred_column means frames.table.now (top_shape frames) path (top_tree frames)
     cause_same path =
-        ap (λ (fs : List Failure). or_missing (top_shape then) (kind_of (first_by_walk fs)))
-        (ap
+        ap (λ (fs : List Failure). or_missing (top_shape then) (kind_of (first_by_walk fs))) (ap
         (λ (p : Place). failures means frames.table.now (shape_in frames.table.now frames.root.0 p (whole_tree then)) path
-        (tree_at p (whole_tree then)))
-        done.stands.cursor
-        ∙ as_before.failing path)
-        ∙ ap
-        (λ (s : ℕ). or_missing s
-        (kind_of (first_by_walk (failures means frames.table.now (top_shape frames) path (top_tree frames)))))
-        shape_same
+        (tree_at p (whole_tree then))) done.stands.cursor ∙ as_before.failing path) ∙ ap (λ (s : ℕ). or_missing s
+        (kind_of (first_by_walk (failures means frames.table.now (top_shape frames) path (top_tree frames))))) shape_same
 
     why_then : (kind : ReflectErrorKind)
         → IfInUse after n (λ (at : Node). WhyNotDefault means frames.table.now (shape_of plan at.node) at.body kind)
         → (kind ≡ ReflectErrorKind.OutOfMemory) ⊎ IsHeldUpAt means frames.table.now (top_shape frames) (top_tree frames) kind
     why_then kind why =
         elim (here_so top_then (λ (at : Node). WhyNotDefault means frames.table.now (shape_of plan at.node) at.body kind) why) [
-          | inl lacking ↦
-              inr
+          | inl lacking ↦ inr
               (record {
                 incomplete =
                     sym completes_same
-                    ∙ ap (complete deferred_column means frames.table.now (top_shape then)) (sym (own_is top_then))
-                    ∙ ap
+                    ∙ ap (complete deferred_column means frames.table.now (top_shape then)) (sym (own_is top_then)) ∙ ap
                     (λ (s : ℕ). complete deferred_column means frames.table.now s (own_tree (here top_then).body))
-                    (sym (shape_is top_then))
-                    ∙ lacking.incomplete;
+                    (sym (shape_is top_then)) ∙ lacking.incomplete;
                 cause_is = λ path.
                     caused_by_itself means frames.table.now (shape_of plan (here top_then).node) path (here top_then).body kind
-                    lacking.lacks
-                    ∙ ap
+                    lacking.lacks ∙ ap
                     (λ (s : ℕ). cause_by deferred_column means frames.table.now s path (own_tree (here top_then).body))
                     (shape_is top_then)
                     ∙ ap (cause_by deferred_column means frames.table.now (top_shape then) path) (own_is top_then)

@@ -1,23 +1,10 @@
 -- What `build` means: a value in strict mode at the root, and otherwise a refusal.
 use Rattle.std.proofs.Common.{◌≡◌, ◌⊎◌, ℕ, true, false, [], ◌∷◌, Option, Some, None, IsSome, IsErr, Ok, Err, inl, inr, refl, sym, ◌∙◌, ap, subst}
-use Rattle.fr_shape.specs.declared.error.ReflectErrorKind.{ReflectErrorKind}
-use Rattle.fr_shape.specs.Fits.{fits}
-use Rattle.fr_shape.specs.Hooks.{Meanings}
-use Rattle.fr_shape.specs.Look.{Table}
-use Rattle.fr_shape.specs.Val.{Val}
-use Rattle.fr_model.specs.Complete.{complete}
+use Rattle.fr_partial.specs.Common.{IsSound, Meanings, Mode, Parts, Place, ReflectErrorKind, Site, State, Table, Val, WhyNot, complete, cursor_tree, deferred, fits, mode_of, shape_in, site, strict, strict_column, takes_no_memory, top_place, top_shape, top_tree, tree_at, whole_tree}
 use Rattle.fr_model.specs.Laws.{CompletingFits}
-use Rattle.fr_model.specs.Places.{strict_column, Place}
 use Rattle.fr_model.specs.Step.{build, built}
-use Rattle.fr_model.specs.Tree.{Mode, strict, deferred, State, cursor_shape, cursor_tree, shape_in, tree_at}
-use Rattle.fr_partial.specs.declared.work.Parts.{Parts}
+use Rattle.fr_model.specs.Tree.{cursor_shape}
 use Rattle.fr_partial.specs.Building.{build_refusal}
-use Rattle.fr_partial.specs.Ending.{WhyNot}
-use Rattle.fr_partial.specs.Filling.{takes_no_memory}
-use Rattle.fr_partial.specs.Modes.{mode_of}
-use Rattle.fr_partial.specs.Sites.{Site}
-use Rattle.fr_partial.specs.Underway.{top_place, top_shape, top_tree, whole_tree}
-use Rattle.fr_partial.specs.Works.{site, IsSound}
 use Rattle.fr_partial.proofs.LackLaws.{only_wants}
 
 -- there is something to be built in strict mode and at the root alone
@@ -37,8 +24,7 @@ root_then state is = go state.cursor refl
 
 -- then the place at which the builder works is built
 builds : (means : Meanings) (table : Table) (root : ℕ) (state : State) → state.mode ≡ strict → state.cursor ≡ []
-    → build means table root state
-    ≡ built means table (cursor_shape table root state) (cursor_tree state)
+    → build means table root state ≡ built means table (cursor_shape table root state) (cursor_tree state)
     (complete strict_column means table (cursor_shape table root state) (cursor_tree state))
 builds means table root state mode at_root = rw (mode, at_root) refl
 
@@ -53,8 +39,7 @@ pub record IsDue (parts : Parts) (seen : Site) : Type 0 where
 pub due_now : {parts : Parts} {seen : Site} → IsSound parts → site parts ≡ seen → build_refusal seen.state ≡ None
     → IsDue parts seen
 due_now {parts} {seen} sound is admitted =
-    let so : build_refusal (site parts).state ≡ None
-    = subst (λ (s : Site). build_refusal s.state ≡ None) (sym is) admitted in
+    let so : build_refusal (site parts).state ≡ None = subst (λ (s : Site). build_refusal s.state ≡ None) (sym is) admitted in
     record { sound = sound; is = is; mode = strict_then (site parts).state so; at_root = root_then (site parts).state so }
 
 module _ {parts : Parts} {seen : Site} (due : IsDue parts seen) (means : Meanings) where
@@ -70,19 +55,16 @@ module _ {parts : Parts} {seen : Site} (due : IsDue parts seen) (means : Meaning
       (made : complete strict_column means parts.frames.table.now (top_shape parts.frames) (top_tree parts.frames) ≡ Some v) where
     -- so it is built, and fits
     pub built_so : build means seen.shapes seen.root seen.state ≡ Ok v
-    built_so =
-        builds_here ∙ ap (built means parts.frames.table.now (top_shape parts.frames) (top_tree parts.frames)) made
+    built_so = builds_here ∙ ap (built means parts.frames.table.now (top_shape parts.frames) (top_tree parts.frames)) made
 
     pub fits_so : CompletingFits → fits seen.shapes seen.root v ≡ true
     fits_so law =
         subst (λ (s : Site). fits s.shapes s.root v ≡ true) due.is
         (law strict_column means parts.frames.table.now parts.frames.root.0 (whole_tree parts.frames) v
-        due.sound.at_work.ready.checked due.sound.at_work.ready.suits
-        (subst
+        due.sound.at_work.ready.checked due.sound.at_work.ready.suits (subst
         (λ (p : Place). complete strict_column means parts.frames.table.now
         (shape_in parts.frames.table.now parts.frames.root.0 p (whole_tree parts.frames)) (tree_at p (whole_tree parts.frames))
-        ≡ Some v)
-        due.at_root made))
+        ≡ Some v) due.at_root made))
 
   -- It makes none, or there was no memory.
   module _ {kind : ReflectErrorKind}
@@ -91,9 +73,7 @@ module _ {parts : Parts} {seen : Site} (due : IsDue parts seen) (means : Meaning
     pub built_not : (kind ≡ ReflectErrorKind.OutOfMemory) ⊎ (build means seen.shapes seen.root seen.state ≡ Err kind)
     built_not =
         elim why [
-          | inl lacking ↦
-              inr
-              (builds_here
+          | inl lacking ↦ inr (builds_here
               ∙ ap (built means parts.frames.table.now (top_shape parts.frames) (top_tree parts.frames)) lacking.incomplete
               ∙ ap (λ (k : ReflectErrorKind). Err k) (sym lacking.lacks))
           | inr wants ↦ inl wants.memory
@@ -113,8 +93,6 @@ module _ {parts : Parts} {seen : Site} (due : IsDue parts seen) (means : Meaning
 
     pub needed_none : kind ≡ ReflectErrorKind.OutOfMemory → takes_no_memory (cursor_tree seen.state) ≡ true → ⊥
     needed_none wanted none =
-        let no : false ≡ true
-        = sym (only_wants means parts.frames.table.now due.sound.served _ _ kind why wanted).1
-        ∙ ap (λ (s : Site). takes_no_memory (cursor_tree s.state)) due.is
-        ∙ none in
+        let no : false ≡ true = sym (only_wants means parts.frames.table.now due.sound.served _ _ kind why wanted).1
+        ∙ ap (λ (s : Site). takes_no_memory (cursor_tree s.state)) due.is ∙ none in
         cc

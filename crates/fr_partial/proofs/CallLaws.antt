@@ -1,13 +1,9 @@
 -- What was decided of a call is that call of the builder.
 use Rattle.std.proofs.Common.{◌≡◌, ℕ, List, Result, Ok, Err, IfOk, OnErr, OnOk, refl, ap, subst, arith}
-use Rattle.fr_shape.specs.declared.error.ReflectErrorKind.{ReflectErrorKind}
-use Rattle.fr_shape.specs.Released.{RoseBy}
-use Rattle.fr_model.specs.Commands.{Call}
+use Rattle.fr_partial.specs.Common.{Builder, Call, Decides, IsMeant, Move, ReflectErrorKind, RoseBy, Site}
 use Rattle.fr_model.specs.Scripts.{brings}
-use Rattle.fr_partial.specs.declared.moves.Move.{Move}
-use Rattle.fr_partial.specs.Builder.{Builder, site_of}
-use Rattle.fr_partial.specs.Moving.{Decides, IsMeant, WasDecided}
-use Rattle.fr_partial.specs.Sites.{Site}
+use Rattle.fr_partial.specs.Builder.{site_of}
+use Rattle.fr_partial.specs.Moving.{WasDecided}
 
 -- a call that brings nothing has nothing to release as it is decided
 nothing_spent : (call : Call) → ((t : ℕ) → brings call t ≡ 0) → (decided : Result Move ReflectErrorKind) (ledger : List ℕ)

@@ -1,34 +1,12 @@
 -- Which variant is selected, and what that means.
 use Rattle.std.proofs.Common.{◌≡◌, ℕ, true, false, List, Option, Some, None, Ok, refl, sym, ◌∙◌, ap, subst}
-use Rattle.fr_shape.specs.declared.error.Expected.{Expected}
-use Rattle.fr_shape.specs.declared.error.Operation.{Operation}
-use Rattle.fr_shape.specs.declared.error.ReflectErrorKind.{ReflectErrorKind}
-use Rattle.fr_shape.specs.declared.shape.Def.{Def}
-use Rattle.fr_shape.specs.declared.shape.EnumDef.{EnumDef}
-use Rattle.fr_shape.specs.declared.shape.ShapeId.{ShapeId}
-use Rattle.fr_shape.specs.declared.shape.VariantDef.{VariantDef}
-use Rattle.fr_shape.specs.Hooks.{Meanings}
-use Rattle.fr_shape.specs.Checked.{IsChecked}
-use Rattle.fr_shape.specs.Look.{Table, def_of, variants_of, IsIn}
+use Rattle.fr_partial.specs.Common.{Call, Change, ComesTo, Def, EnumDef, Expected, IsChecked, IsFullAs, IsIn, IsPlanOf, IsRefusedWith, IsSound, LookupPathsAgree, LookupsAgree, Meanings, Move, Operation, Parts, Plan, ReflectErrorKind, Sees, ShapeId, Site, State, Table, Tree, VariantDef, as_fields, at_shape, def_of, plan_in, shape_at, site, step, unless_refused, variants_of}
 use Rattle.fr_shape.specs.Plannable.{Reached}
-use Rattle.fr_model.specs.Commands.{Call}
-use Rattle.fr_model.specs.Step.{at_shape, select_found, selects, step, unless_refused}
-use Rattle.fr_model.specs.Tree.{State, Tree, as_variant}
+use Rattle.fr_model.specs.Step.{select_found, selects}
 use Rattle.fr_model.specs.Variants.{is_enum}
-use Rattle.fr_model.specs.Well.{IsFullAs}
-use Rattle.fr_plan.specs.LookupLaws.{LookupsAgree, LookupPathsAgree}
 use Rattle.fr_plan.specs.PlanLaws.{PlansAreComplete}
-use Rattle.fr_plan.specs.TypePlan.{Plan, IsPlanOf}
 use Rattle.fr_partial.specs.declared.choosing.Chosen.{Chosen}
-use Rattle.fr_partial.specs.declared.moves.Change.{Change}
-use Rattle.fr_partial.specs.declared.moves.Move.{Move}
-use Rattle.fr_partial.specs.declared.work.Parts.{Parts}
 use Rattle.fr_partial.specs.Choosing.{found_refusal, Selects}
-use Rattle.fr_partial.specs.HeldPlan.{plan_in}
-use Rattle.fr_partial.specs.Looks.{Sees}
-use Rattle.fr_partial.specs.Moving.{ComesTo, IsRefusedWith}
-use Rattle.fr_partial.specs.Sites.{Site, shape_at}
-use Rattle.fr_partial.specs.Works.{site, IsSound}
 use Rattle.fr_partial.proofs.DecidingLaws.{admitted, cannot, is_not, remains}
 use Rattle.fr_partial.proofs.PlaceLaws.{here_along}
 use Rattle.fr_partial.proofs.ReachLaws.{node_reached}
@@ -48,8 +26,7 @@ select_unless table s state None unknown = refl
 module _ {site : Site} {table : Table} {shape : ShapeId} {seen : Tree} (at : Sees site table shape seen) {call : Call}
     {find : List VariantDef → Option ℕ} {unknown : Operation} (says : Selects site call find unknown) where
   -- the place is no enum
-  pub no_enum : is_enum (def_of table shape.0) ≡ false
-      → IsRefusedWith site call (ReflectErrorKind.WasNotA Expected.Enum shape)
+  pub no_enum : is_enum (def_of table shape.0) ≡ false → IsRefusedWith site call (ReflectErrorKind.WasNotA Expected.Enum shape)
   no_enum other =
       let no = ap is_enum (sym (def_seen at)) ∙ other in
       is_not at call Expected.Enum (λ hooks. says.means hooks ∙ rw no refl)
@@ -78,14 +55,12 @@ module _ {site : Site} {table : Table} {shape : ShapeId} {seen : Tree} (at : See
     unselected operation refused = cannot at call _ operation means_so (refused ∙ refusal_here)
 
     pub selected : (chosen : Chosen) → found ≡ Some chosen.variant
-        → IsFullAs (Def.Enum enumeration) (as_variant chosen.variant) chosen.count
+        → IsFullAs (Def.Enum enumeration) (as_fields (Some chosen.variant)) chosen.count
         → None ≡ found_refusal (Def.Enum enumeration) unknown found → ComesTo site call (Move.Stay (Change.Select chosen))
     selected chosen one full may =
         remains site call (Change.Select chosen) says.nothing (λ t. refl)
-        (subst (λ (def : Def). IsFullAs def (as_variant chosen.variant) chosen.count) (sym def_here) full)
-        (λ hooks.
-        means_so hooks
-        ∙ admitted (ap (at_shape (shape_at site)) (may ∙ refusal_here))
+        (subst (λ (def : Def). IsFullAs def (as_fields (Some chosen.variant)) chosen.count) (sym def_here) full) (λ hooks.
+        means_so hooks ∙ admitted (ap (at_shape (shape_at site)) (may ∙ refusal_here))
         ∙ ap (λ (f : Option ℕ). Ok (selects site.shapes (shape_at site) site.state (any_of f))) one)
 
 -- Looking up in the plan: the shape of the place at which a builder works is one that the plan has.
@@ -114,7 +89,6 @@ module _ (complete : PlansAreComplete) (agree : LookupsAgree) (paths : LookupPat
       let ready = sound.at_work.ready in
       subst (Tells f found plan) other_is told parts.frames.root ready.checked ready.inside
       (subst (λ (p : Plan). IsPlanOf parts.frames.table.now parts.frames.root p)
-      (sym (plan_is ∙ ap (λ (p : Parts). plan_in p.plan) one_is)) ready.planned)
-      reached
+      (sym (plan_is ∙ ap (λ (p : Parts). plan_in p.plan) one_is)) ready.planned) reached
       ∙ ap (λ (n : ℕ). f (def_of parts.frames.table.now n)) shape_is
       ∙ ap (λ (now : Site). f (def_of now.shapes (shape_at seen))) view_is

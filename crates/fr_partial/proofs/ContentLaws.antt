@@ -1,31 +1,15 @@
 -- Entering a content, a side or a pointee: what it means.
 use Rattle.std.proofs.Common.{◌≡◌, ℕ, zero, suc, ◌+◌, ◌<◌, Bool, true, false, [], ◌∷◌, Option, Some, None, Ok, inl, inr, refl, sym, ◌∙◌, ap, subst, arith}
-use Rattle.fr_shape.specs.declared.error.Operation.{Operation}
-use Rattle.fr_shape.specs.declared.shape.Def.{Def}
-use Rattle.fr_shape.specs.declared.shape.ShapeId.{ShapeId}
-use Rattle.fr_shape.specs.Fills.{is_option}
-use Rattle.fr_shape.specs.Hooks.{Meanings}
-use Rattle.fr_shape.specs.Look.{Table, def_of}
-use Rattle.fr_model.specs.Contents.{is_result, pointer_refusal, points_to_slice}
-use Rattle.fr_model.specs.Places.{Place, content_shape}
-use Rattle.fr_model.specs.Commands.{Call}
+use Rattle.fr_partial.specs.Common.{Beginning, Call, ComesTo, ContentKind, Def, IsFullAs, Leads, Meanings, Mode, Move, OffBut, Operation, Place, Sees, ShapeId, Site, Suits, Table, Tracker, Tree, Trees, Way, as_content, as_tracker, beginning_in, beginning_of_some, begun, branch, child_as, content_shape, count_trees, cursor_tree, def_of, is_around, is_option, is_result, no_trees, pointer_refusal, points_to_slice, shape_at, shape_in, side_call, step, tree_at, tree_nth}
 use Rattle.fr_model.specs.Entering.{Way as Onward, enters}
 use Rattle.fr_model.specs.Scripts.{value_brought}
-use Rattle.fr_model.specs.Step.{begin_side, step}
-use Rattle.fr_model.specs.Tree.{Form, as_some, as_ok, as_err, as_pointer, Tree, begun, Trees, no_trees, branch, tree_nth, child_as, shapes_from, shape_in, count_trees, cursor_tree, tree_at, Mode}
-use Rattle.fr_model.specs.Well.{HasSide, IsFullAs, OffBut, Leads, PointsTo, Suits, SuitAll}
-use Rattle.fr_frame.specs.declared.places.Form.{Form as Started}
-use Rattle.fr_frame.specs.Bodies.{is_around}
-use Rattle.fr_frame.specs.Heap.{as_form}
-use Rattle.fr_partial.specs.Beginnings.{beginning_in, beginning_of_some, kept_by, side_call, IsSide, MayBegin}
-use Rattle.fr_partial.specs.declared.beginning.Beginning.{Beginning}
-use Rattle.fr_partial.specs.declared.moves.Move.{Move}
-use Rattle.fr_partial.specs.declared.moves.Way.{Way}
-use Rattle.fr_partial.specs.Moving.{ComesTo}
-use Rattle.fr_partial.specs.Sites.{Site, shape_at}
-use Rattle.fr_partial.proofs.FormLaws.{IsFullTree, full_tree}
+use Rattle.fr_model.specs.Step.{begin_side}
+use Rattle.fr_model.specs.Tree.{shapes_from}
+use Rattle.fr_model.specs.Well.{HasContent, PointsTo, SuitAll}
+use Rattle.fr_frame.specs.declared.places.Tracker.{Tracker as Started}
+use Rattle.fr_partial.specs.Beginnings.{kept_by, IsSide, MayBegin}
+use Rattle.fr_partial.proofs.TrackerLaws.{IsFullTree, full_tree}
 use Rattle.fr_partial.proofs.DecidingLaws.{goes}
-use Rattle.fr_partial.specs.Looks.{Sees}
 use Rattle.fr_partial.proofs.LookLaws.{begun_some}
 use Rattle.fr_partial.proofs.SeenLaws.{in_seen, seen_by}
 use Rattle.fr_partial.proofs.StateLaws.{IsSiteInOrder}
@@ -42,85 +26,80 @@ open_child mode i Below no_trees off = absurd off
 open_child mode zero Below (branch t ts) off = off.0
 open_child mode (suc i) Below (branch t ts) off = open_child mode i Below ts off.1
 
-suits_nth : (table : Table) (s : ℕ) (form : Form) (first : ℕ) (ts : Trees) (i m : ℕ) → m ≡ first + i → i < count_trees ts
-    → SuitAll table (shapes_from table s form (count_trees ts) first) ts → Suits table (child_as table s form m) (tree_nth i ts)
-suits_nth table s form first no_trees i m e h all = absurd (omega arith)
-suits_nth table s form first (branch t ts) zero m e h all =
+suits_nth : (table : Table) (s : ℕ) (tracker : Tracker) (first : ℕ) (ts : Trees) (i m : ℕ) → m ≡ first + i → i < count_trees ts
+    → SuitAll table (shapes_from table s tracker (count_trees ts) first) ts → Suits table (child_as table s tracker m) (tree_nth i ts)
+suits_nth table s tracker first no_trees i m e h all = absurd (omega arith)
+suits_nth table s tracker first (branch t ts) zero m e h all =
     let same : first ≡ m = omega arith in
-    subst (λ (n : ℕ). Suits table (child_as table s form n) t) same all.0
-suits_nth table s form first (branch t ts) (suc i) m e h all =
-    suits_nth table s form (suc first) ts i m (omega arith) (omega arith) all.1
+    subst (λ (n : ℕ). Suits table (child_as table s tracker n) t) same all.0
+suits_nth table s tracker first (branch t ts) (suc i) m e h all =
+    suits_nth table s tracker (suc first) ts i m (omega arith) (omega arith) all.1
 
 suits_along : (mode : Mode) (table : Table) (s : ℕ) (place : Place) (t : Tree) → Suits table s t → Leads mode place t
     → Suits table (shape_in table s place t) (tree_at place t)
 suits_along mode table s [] t suits leads = suits
-suits_along mode table s (i ∷ place) (begun form ts) suits leads =
-    suits_along mode table (child_as table s form i) place (tree_nth i ts)
-    (suits_nth table s form 0 ts i i (omega arith) (within mode i (λ child. Leads mode place child) ts leads) suits.1)
+suits_along mode table s (i ∷ place) (begun tracker ts) suits leads =
+    suits_along mode table (child_as table s tracker i) place (tree_nth i ts)
+    (suits_nth table s tracker 0 ts i i (omega arith) (within mode i (λ child. Leads mode place child) ts leads) suits.1)
     (open_child mode i (λ child. Leads mode place child) ts leads)
 suits_along mode table s (i ∷ place) _ suits leads = absurd leads
 
-pub suits_here : (site : Site) → IsSiteInOrder site
-    → Suits site.shapes (shape_at site) (cursor_tree site.state)
+pub suits_here : (site : Site) → IsSiteInOrder site → Suits site.shapes (shape_at site) (cursor_tree site.state)
 suits_here site ordered =
-    suits_along site.state.mode site.shapes site.root site.state.cursor site.state.tree ordered.suits
-    ordered.leads
+    suits_along site.state.mode site.shapes site.root site.state.cursor site.state.tree ordered.suits ordered.leads
 
-pub full_here : (site : Site) → IsSiteInOrder site
-    → IsFullTree (def_of site.shapes (shape_at site)) (cursor_tree site.state)
-full_here site ordered =
-    full_tree site.shapes (shape_at site) (cursor_tree site.state) (suits_here site ordered)
+pub full_here : (site : Site) → IsSiteInOrder site → IsFullTree (def_of site.shapes (shape_at site)) (cursor_tree site.state)
+full_here site ordered = full_tree site.shapes (shape_at site) (cursor_tree site.state) (suits_here site ordered)
 
 -- Either side of a result.
 
-by_side : (P : Form → Type 0) → P as_ok → P as_err → (form : Form) → IsSide form → P form
-by_side P of_ok of_err form (inl ok) = subst P (sym ok) of_ok
-by_side P of_ok of_err form (inr err) = subst P (sym err) of_err
+by_side : (P : Tracker → Type 0) → P (as_content ContentKind.Ok) → P (as_content ContentKind.Err) → (tracker : Tracker) → IsSide tracker → P tracker
+by_side P of_ok of_err tracker (inl ok) = subst P (sym ok) of_ok
+by_side P of_ok of_err tracker (inr err) = subst P (sym err) of_err
 
 -- which side it is, the call tells
-pub side_called : (site : Site) (hooks : Meanings) (form : Form) → IsSide form
-    → step hooks site.shapes site.root site.state (side_call form) ≡ begin_side site.shapes (shape_at site) site.state form
-side_called site hooks form side =
+pub side_called : (site : Site) (hooks : Meanings) (tracker : Tracker) → IsSide tracker
+    → step hooks site.shapes site.root site.state (side_call tracker) ≡ begin_side site.shapes (shape_at site) site.state tracker
+side_called site hooks tracker side =
     by_side
-    (λ (f : Form). step hooks site.shapes site.root site.state (side_call f) ≡ begin_side site.shapes (shape_at site) site.state f)
-    refl refl form side
+    (λ (f : Tracker). step hooks site.shapes site.root site.state (side_call f) ≡ begin_side site.shapes (shape_at site) site.state f)
+    refl refl tracker side
 
-pub side_brings : (form : Form) → IsSide form → value_brought (side_call form) ≡ None
-side_brings form side = by_side (λ (f : Form). value_brought (side_call f) ≡ None) refl refl form side
+pub side_brings : (tracker : Tracker) → IsSide tracker → value_brought (side_call tracker) ≡ None
+side_brings tracker side = by_side (λ (f : Tracker). value_brought (side_call f) ≡ None) refl refl tracker side
 
-pub side_around : (form : Form) → IsSide form → is_around form ≡ true
-side_around form side = by_side (λ (f : Form). is_around f ≡ true) refl refl form side
+pub side_around : (tracker : Tracker) → IsSide tracker → is_around tracker ≡ true
+side_around tracker side = by_side (λ (f : Tracker). is_around f ≡ true) refl refl tracker side
 
-has_side : (def : Def) → is_result def ≡ true → HasSide def 1
-has_side (Def.Result t e) h = refl
-has_side _ h = cc
+has_sides : (def : Def) → is_result def ≡ true → HasContent def ContentKind.Ok 1 × HasContent def ContentKind.Err 1
+has_sides (Def.Result t e) h = (refl, refl)
+has_sides _ h = cc
 
-pub side_full : (def : Def) (form : Form) → IsSide form → is_result def ≡ true → IsFullAs def form 1
-side_full def form side h = by_side (λ (f : Form). IsFullAs def f 1) (has_side def h) (has_side def h) form side
+pub side_full : (def : Def) (tracker : Tracker) → IsSide tracker → is_result def ≡ true → IsFullAs def tracker 1
+side_full def tracker side h = by_side (λ (f : Tracker). IsFullAs def f 1) (has_sides def h).0 (has_sides def h).1 tracker side
 
 -- The content is entered where just that is kept which the call keeps.
-pub content_goes : (site : Site) (call : Call) (form : Started) (beginning wanted : Beginning) (kept : Option Tree)
-    → value_brought call ≡ None → is_around (as_form form) ≡ true
-    → IsFullAs (def_of site.shapes (shape_at site)) (as_form form) 1 → beginning ≡ wanted
-    → MayBegin wanted (as_form form) (cursor_tree site.state) → kept_by wanted (cursor_tree site.state) ≡ kept
+pub content_goes : (site : Site) (call : Call) (tracker : Started) (beginning wanted : Beginning) (kept : Option Tree)
+    → value_brought call ≡ None → is_around (as_tracker tracker) ≡ true
+    → IsFullAs (def_of site.shapes (shape_at site)) (as_tracker tracker) 1 → beginning ≡ wanted
+    → MayBegin wanted (as_tracker tracker) (cursor_tree site.state) → kept_by wanted (cursor_tree site.state) ≡ kept
     → ((hooks : Meanings) → step hooks site.shapes site.root site.state call
-    ≡ Ok (enters site.shapes (shape_at site) site.state (Onward.Content (as_form form) kept)))
-    → ComesTo site call (Move.Go (Way.Content form beginning))
-content_goes site call form beginning wanted kept none around full is may kept_is means =
-    goes site call (Way.Content form beginning) none
-    (around, full, subst (λ (b : Beginning). MayBegin b (as_form form) (cursor_tree site.state)) (sym is) may)
-    (λ hooks.
+    ≡ Ok (enters site.shapes (shape_at site) site.state (Onward.Content (as_tracker tracker) kept)))
+    → ComesTo site call (Move.Go (Way.Content tracker beginning))
+content_goes site call tracker beginning wanted kept none around full is may kept_is means =
+    goes site call (Way.Content tracker beginning) none
+    (around, full, subst (λ (b : Beginning). MayBegin b (as_tracker tracker) (cursor_tree site.state)) (sym is) may) (λ hooks.
     means hooks
-    ∙ ap (λ (k : Option Tree). Ok (enters site.shapes (shape_at site) site.state (Onward.Content (as_form form) k)))
+    ∙ ap (λ (k : Option Tree). Ok (enters site.shapes (shape_at site) site.state (Onward.Content (as_tracker tracker) k)))
     (sym (ap (λ (b : Beginning). kept_by b (cursor_tree site.state)) is ∙ kept_is)))
 
 -- A place of such a definition has one content.
 
-pub option_full : (def : Def) → is_option def ≡ true → IsFullAs def as_some 1
+pub option_full : (def : Def) → is_option def ≡ true → IsFullAs def (as_content ContentKind.Some) 1
 option_full (Def.Option t) h = refl
 option_full _ h = cc
 
-pub pointer_full : (table : Table) (def : Def) → pointer_refusal table def ≡ None → IsFullAs def as_pointer 1
+pub pointer_full : (table : Table) (def : Def) → pointer_refusal table def ≡ None → IsFullAs def (as_content ContentKind.Pointer) 1
 pointer_full table (Def.Pointer pointer) e = go pointer.constructible pointer.pointee refl refl
   where
     go : (b : Bool) (pointee : Option ShapeId) → pointer.constructible ≡ b → pointer.pointee ≡ pointee
@@ -135,27 +114,23 @@ pointer_full table _ e = cc
 module _ {site : Site} {table : Table} {shape : ShapeId} {seen : Tree} (at : Sees site table shape seen) where
   pub pointer_seen : pointer_refusal table (def_of table shape.0)
       ≡ pointer_refusal site.shapes (def_of site.shapes (shape_at site))
-  pointer_seen = seen_by at (λ table s tree. pointer_refusal table (def_of table s)) (λ table s form ts. refl)
+  pointer_seen = seen_by at (λ table s tree. pointer_refusal table (def_of table s)) (λ table s tracker ts. refl)
 
-  pub slice_seen : points_to_slice table (def_of table shape.0)
-      ≡ points_to_slice site.shapes (def_of site.shapes (shape_at site))
-  slice_seen = seen_by at (λ table s tree. points_to_slice table (def_of table s)) (λ table s form ts. refl)
+  pub slice_seen : points_to_slice table (def_of table shape.0) ≡ points_to_slice site.shapes (def_of site.shapes (shape_at site))
+  slice_seen = seen_by at (λ table s tree. points_to_slice table (def_of table s)) (λ table s tracker ts. refl)
 
   -- what is kept
   module _ (mode : Mode) (beginning : Beginning) (same_mode : mode ≡ site.state.mode) where
     pub some_wanted : (content : ℕ) → content ≡ content_shape (def_of table shape.0)
-        → beginning ≡ beginning_of_some mode (def_of table content) seen
-        → beginning
+        → beginning ≡ beginning_of_some mode (def_of table content) seen → beginning
         ≡ beginning_of_some site.state.mode (def_of site.shapes (content_shape (def_of site.shapes (shape_at site))))
         (cursor_tree site.state)
     some_wanted content content_is is =
-        is
-        ∙ ap (λ (m : Mode). beginning_of_some m (def_of table content) seen) same_mode
+        is ∙ ap (λ (m : Mode). beginning_of_some m (def_of table content) seen) same_mode
         ∙ ap (λ (n : ℕ). beginning_of_some site.state.mode (def_of table n) seen) content_is
         ∙ seen_by at (λ table s. beginning_of_some site.state.mode (def_of table (content_shape (def_of table s))))
         (λ table s. begun_some site.state.mode (def_of table (content_shape (def_of table s))))
 
-    pub in_wanted : (form : Form) → beginning ≡ beginning_in mode form seen
-        → beginning ≡ beginning_in site.state.mode form (cursor_tree site.state)
-    in_wanted form is =
-        is ∙ ap (λ (m : Mode). beginning_in m form seen) same_mode ∙ in_seen at site.state.mode form
+    pub in_wanted : (tracker : Tracker) → beginning ≡ beginning_in mode tracker seen
+        → beginning ≡ beginning_in site.state.mode tracker (cursor_tree site.state)
+    in_wanted tracker is = is ∙ ap (λ (m : Mode). beginning_in m tracker seen) same_mode ∙ in_seen at site.state.mode tracker

@@ -1,33 +1,26 @@
 -- Values that fit their shape, as they are converted: numbers are in their kind's range, and lists of bytes have octets.
 use Rattle.std.proofs.Common.{◌≡◌, ℕ, ◌≤◌, true, List, [], ◌∷◌, ◌++◌, length, drop, Option, Some, refl, sym, ◌∙◌, ap, subst}
 use Rattle.std.proofs.lemmas.List.{at_drop_all, append-nil}
-use Rattle.fr_shape.specs.declared.error.ReflectErrorKind.{ReflectErrorKind}
-use Rattle.fr_shape.specs.declared.shape.Def.{Def}
-use Rattle.fr_shape.specs.declared.shape.ScalarKind.{ScalarKind}
-use Rattle.fr_shape.specs.declared.shape.ShapeId.{ShapeId}
+use Rattle.fr_partial.specs.Common.{Def, IsUnconverted, ReflectErrorKind, RoseBy, RoseBy_same, ScalarKind, ShapeId, Table, Val, Vals, Value, are_octets, bytes_of, def_of, fits, from_bytes, is_byte, list_of, nat, no_vals, occurs, or_not_dynamic, settled, tokens, unit, vals_view, view}
 use Rattle.fr_shape.specs.declared.value.Value
-use Rattle.fr_shape.specs.declared.value.Value.{Value, fold-roll-Value}
+use Rattle.fr_shape.specs.declared.value.Value.{fold-roll-Value}
 use Rattle.fr_shape.specs.declared.value.Value.TheVariants.{rolls-List}
 use Rattle.fr_shape.specs.declared.value.Value.TheOpen.{Value-F}
-use Rattle.fr_shape.specs.Fits.{fits, all_fit}
-use Rattle.fr_shape.specs.Look.{Table, behind, def_of, settled}
-use Rattle.fr_shape.specs.Released.{RoseBy}
-use Rattle.fr_shape.specs.TokenLaws.{nothing, RoseBy_nothing, RoseBy_same, occurs_times}
-use Rattle.fr_shape.specs.Tokens.{occurs, times, tokens}
-use Rattle.fr_shape.specs.Val.{Val, Vals, unit, int, nat, list_of, no_vals, first}
-use Rattle.fr_shape.specs.View.{view, vals_view, view_step}
-use Rattle.fr_model.specs.Converting.{bytes_of, from_bytes, is_byte, or_not_dynamic}
+use Rattle.fr_shape.specs.Fits.{all_fit}
+use Rattle.fr_shape.specs.Look.{behind}
+use Rattle.fr_shape.specs.TokenLaws.{nothing, RoseBy_nothing, occurs_times}
+use Rattle.fr_shape.specs.Tokens.{times}
+use Rattle.fr_shape.specs.Val.{int, first}
+use Rattle.fr_shape.specs.View.{view_step}
 use Rattle.fr_partial.proofs.FitLaws.{both_true}
-use Rattle.fr_partial.specs.Conversions.{are_octets, has_octets, in_range, is_octet, IsUnconverted}
+use Rattle.fr_partial.specs.Conversions.{has_octets, in_range, is_octet}
 
 -- past the end nothing follows the bytes so far
 pub bytes_at_end : (items whole : List Value) (i : ℕ) (bytes : List ℕ) → length items ≤ i
-    → ((rest : List ℕ) → bytes_of (vals_view (drop i items)) ≡ Some rest
-    → bytes_of (vals_view whole) ≡ Some (bytes ++ rest))
+    → ((rest : List ℕ) → bytes_of (vals_view (drop i items)) ≡ Some rest → bytes_of (vals_view whole) ≡ Some (bytes ++ rest))
     → bytes_of (vals_view whole) ≡ Some bytes
 bytes_at_end items whole i bytes past follows =
-    follows [] (at_drop_all (λ (left : List Value). bytes_of (vals_view left)) items i past)
-    ∙ ap Some (append-nil bytes)
+    follows [] (at_drop_all (λ (left : List Value). bytes_of (vals_view left)) items i past) ∙ ap Some (append-nil bytes)
 
 -- octets are bytes
 octets_read : (vs : Vals) → are_octets vs ≡ true → (bytes : List ℕ) × (bytes_of vs ≡ Some bytes)
@@ -43,8 +36,7 @@ list_value items = ap view (sym (rolls-List items)) ∙ fold-roll-Value Val view
 
 -- so a copy of them can only want memory
 pub octets_want_memory : (value : Value) (items : List Value) (given : ℕ) → value ≡ Value.List items
-    → has_octets (view value) ≡ true
-    → IsUnconverted (or_not_dynamic (from_bytes (view value))) given ReflectErrorKind.OutOfMemory
+    → has_octets (view value) ≡ true → IsUnconverted (or_not_dynamic (from_bytes (view value))) given ReflectErrorKind.OutOfMemory
 octets_want_memory value items given is octets =
     let shown : view value ≡ list_of (vals_view items) = ap view is ∙ list_value items in
     let known = octets_read (vals_view items) (subst (λ (v : Val). has_octets v ≡ true) shown octets) in
@@ -58,8 +50,7 @@ behind_plain _ inner rest plain = refl
 
 pub settled_plain : (table : Table) (s : ℕ) (def : Def) → def_of table s ≡ def → (def ≡ Def.Other → ⊥) → settled table s ≡ def
 settled_plain [] s def e plain = absurd (plain (sym e))
-settled_plain (shape ∷ shapes) s def e plain =
-    behind_plain (def_of (shape ∷ shapes) s) _ _ (λ other. plain (sym e ∙ other)) ∙ e
+settled_plain (shape ∷ shapes) s def e plain = behind_plain (def_of (shape ∷ shapes) s) _ _ (λ other. plain (sym e ∙ other)) ∙ e
 
 -- a number that fits a kind is in its range
 pub fits_in_range : (table : Table) (s : ℕ) (kind : ScalarKind) (v : Val) → def_of table s ≡ Def.Scalar kind

@@ -1,15 +1,11 @@
 -- What a dynamic place makes of a value of another shape has no object, so none with a key twice.
 use Rattle.std.proofs.Common.{◌≡◌, ℕ, Bool, true, false, if◌then◌else◌, List, Option, Some, None, Ok, Err, refl}
-use Rattle.std.specs.Option.{option_map}
+use Rattle.fr_partial.specs.Common.{Def, Operation, ScalarKind, Table, Val, bytes_of, converted, def_of, from_bytes, is_byte, list_of, nat, option_map, or_not_dynamic}
 use Rattle.std.specs.Prelude.{encode_utf8}
-use Rattle.fr_shape.specs.declared.error.Operation.{Operation}
-use Rattle.fr_shape.specs.declared.shape.Def.{Def}
-use Rattle.fr_shape.specs.declared.shape.ScalarKind.{ScalarKind}
 use Rattle.fr_shape.specs.Fits.{keys_once}
-use Rattle.fr_shape.specs.Look.{Table, def_of}
-use Rattle.fr_shape.specs.Val.{Val, bool, char, int, nat, text, list_of}
+use Rattle.fr_shape.specs.Val.{bool, char, int, text}
 use Rattle.fr_shape.specs.Val.{Dynamic, dyn_bool, dyn_int, dyn_nat, dyn_text, dyn_bytes}
-use Rattle.fr_model.specs.Converting.{or_not_dynamic, from_bool, from_char, from_int, from_nat, from_text, bytes_of, from_bytes, from_scalar, is_byte, takes_bytes, converted}
+use Rattle.fr_model.specs.Converting.{from_bool, from_char, from_int, from_nat, from_text, from_scalar, takes_bytes}
 
 of_bool : (v : Val) (d : Dynamic) → or_not_dynamic (from_bool v) ≡ Ok d → keys_once d ≡ true
 of_bool (bool b) d e = let same : dyn_bool b ≡ d = cc in rw (← same) refl
@@ -59,8 +55,7 @@ converted_once table s (Def.Scalar kind) v d e = of_scalar kind v d e
 converted_once table s Def.Str v d e = of_text v d e
 converted_once table s (Def.List t) v d e = go (takes_bytes table s) (is_byte (def_of table t.0)) e
   where
-    go : (takes byte : Bool)
-        → (if takes then (if byte then or_not_dynamic (from_bytes v) else Err Operation.NotDynamic)
+    go : (takes byte : Bool) → (if takes then (if byte then or_not_dynamic (from_bytes v) else Err Operation.NotDynamic)
         else Err Operation.NotDynamic) ≡ Ok d → keys_once d ≡ true
     go true true e = of_list v d e
     go true false e = cc

@@ -1,22 +1,8 @@
 -- What a call comes to, or why it is refused, by what is seen of the place at which the builder works.
 use Rattle.std.proofs.Common.{◌≡◌, ◌≢◌, ℕ, Option, Some, None, Ok, Err, inl, sym, ◌∙◌, ap, subst}
-use Rattle.fr_shape.specs.declared.error.Expected.{Expected}
-use Rattle.fr_shape.specs.declared.error.Operation.{Operation}
-use Rattle.fr_shape.specs.declared.error.ReflectErrorKind.{ReflectErrorKind}
-use Rattle.fr_shape.specs.declared.shape.ShapeId.{ShapeId}
-use Rattle.fr_shape.specs.Hooks.{Meanings}
-use Rattle.fr_shape.specs.Look.{Table}
-use Rattle.fr_shape.specs.Val.{Val}
-use Rattle.fr_model.specs.Commands.{Call}
+use Rattle.fr_partial.specs.Common.{Call, Change, ComesTo, Expected, IsRefusedWith, MayGo, MayStay, Meanings, Move, Operation, ReflectErrorKind, Sees, ShapeId, Site, State, Table, Tree, Val, Way, at_shape, carried_by, cursor_tree, shape_at, step, unless_refused}
 use Rattle.fr_model.specs.Scripts.{occurs_if_any, value_brought, FitsIfAny}
-use Rattle.fr_model.specs.Step.{at_shape, step, unless_refused}
-use Rattle.fr_model.specs.Tree.{State, Tree, cursor_tree}
-use Rattle.fr_partial.specs.declared.moves.Change.{Change}
-use Rattle.fr_partial.specs.declared.moves.Move.{Move}
-use Rattle.fr_partial.specs.declared.moves.Way.{Way}
-use Rattle.fr_partial.specs.Looks.{Sees}
-use Rattle.fr_partial.specs.Moving.{carried_by, gone, stays, ComesTo, IsRefusedWith, MayGo, MayStay}
-use Rattle.fr_partial.specs.Sites.{Site, shape_at}
+use Rattle.fr_partial.specs.Moving.{gone, stays}
 use Rattle.fr_partial.proofs.SeenLaws.{shape_seen}
 
 -- nothing is refused
@@ -28,8 +14,7 @@ module _ (site : Site) (call : Call) where
   -- it goes on
   pub goes : (way : Way) → value_brought call ≡ None → MayGo site.shapes (shape_at site) (cursor_tree site.state) way
       → ((hooks : Meanings) → step hooks site.shapes site.root site.state call
-      ≡ Ok (gone site.shapes (shape_at site) site.state way))
-      → ComesTo site call (Move.Go way)
+      ≡ Ok (gone site.shapes (shape_at site) site.state way)) → ComesTo site call (Move.Go way)
   goes way none may means = record {
     fitting = subst (λ (v : Option (ℕ × Val)). FitsIfAny site.shapes v) (sym none) tt;
     same_tokens = λ t. ap (λ (v : Option (ℕ × Val)). occurs_if_any v t) none;
@@ -42,8 +27,7 @@ module _ (site : Site) (call : Call) where
   pub remains : (change : Change) → value_brought call ≡ None → ((t : ℕ) → carried_by change t ≡ 0)
       → MayStay site.shapes (shape_at site) (cursor_tree site.state) change
       → ((hooks : Meanings) → step hooks site.shapes site.root site.state call
-      ≡ Ok (stays site.shapes (shape_at site) site.state change))
-      → ComesTo site call (Move.Stay change)
+      ≡ Ok (stays site.shapes (shape_at site) site.state change)) → ComesTo site call (Move.Stay change)
   remains change none light may means = record {
     fitting = subst (λ (v : Option (ℕ × Val)). FitsIfAny site.shapes v) (sym none) tt;
     same_tokens = λ t. ap (λ (v : Option (ℕ × Val)). occurs_if_any v t) none ∙ sym (light t);
@@ -57,8 +41,7 @@ module _ (site : Site) (call : Call) where
       → ((hooks : Meanings) → step hooks site.shapes site.root site.state call
       ≡ unless_refused (at_shape (shape_at site) refusal) (gone site.shapes (shape_at site) site.state way))
       → None ≡ refusal → MayGo site.shapes (shape_at site) (cursor_tree site.state) way → ComesTo site call (Move.Go way)
-  goes_unless way none means is may =
-      goes way none may (λ hooks. means hooks ∙ admitted (ap (at_shape (shape_at site)) is))
+  goes_unless way none means is may = goes way none may (λ hooks. means hooks ∙ admitted (ap (at_shape (shape_at site)) is))
 
   -- it is refused, and not for want of memory
   pub refused_by : {refusal : Option ReflectErrorKind} (next : State) (kind : ReflectErrorKind)
@@ -76,16 +59,11 @@ module _ {site : Site} {table : Table} {shape : ShapeId} {seen : Tree} (at : See
   cannot next operation means is =
       refused_by site call next (ReflectErrorKind.OperationFailed shape operation) means
       (ap (λ (s : ShapeId). Some (ReflectErrorKind.OperationFailed s operation)) (sym (shape_seen at))
-      ∙ ap (at_shape (shape_at site)) is)
-      (λ out. cc)
+      ∙ ap (at_shape (shape_at site)) is) (λ out. cc)
 
   -- its shape isn't such a one
-  pub is_not : (expected : Expected)
-      → ((hooks : Meanings) → step hooks site.shapes site.root site.state call
+  pub is_not : (expected : Expected) → ((hooks : Meanings) → step hooks site.shapes site.root site.state call
       ≡ Err (ReflectErrorKind.WasNotA expected (record { 0 = shape_at site })))
       → IsRefusedWith site call (ReflectErrorKind.WasNotA expected shape)
   is_not expected means =
-      inl (
-        (λ out. cc),
-        λ hooks. means hooks ∙ ap (λ (s : ShapeId). Err (ReflectErrorKind.WasNotA expected s)) (shape_seen at),
-      )
+      inl ((λ out. cc), λ hooks. means hooks ∙ ap (λ (s : ShapeId). Err (ReflectErrorKind.WasNotA expected s)) (shape_seen at))

@@ -1,33 +1,12 @@
 -- Setting a field to its default: what it means, and what it is refused for.
 use Rattle.std.proofs.Common.{◌≡◌, ◌≢◌, ℕ, true, [], length, Option, Some, None, Result, Ok, Err, nat_lt, slice_get, inl, inr, refl, sym, ◌∙◌, ap}
 use Rattle.std.proofs.lemmas.Bool.{lt-ltb}
-use Rattle.fr_shape.specs.Checked.{IsChecked}
-use Rattle.fr_shape.specs.declared.error.Operation.{Operation}
-use Rattle.fr_shape.specs.declared.error.ReflectErrorKind.{ReflectErrorKind}
-use Rattle.fr_shape.specs.declared.shape.Def.{Def}
+use Rattle.fr_partial.specs.Common.{Call, Change, ComesTo, Def, Describes, Field, IsChecked, IsRefusedWith, Meanings, Move, Opening, Operation, ReflectErrorKind, Sees, ShapeId, Site, State, Table, Tree, Val, Value, VariantDef, at_shape, begun, cursor_tree, def_of, field_default, field_in, field_refusal, named_refusal, operation_failed, preset_of, selected, shape_at, step, tokens, view}
 use Rattle.fr_shape.specs.declared.shape.DefaultSource.{DefaultSource}
-use Rattle.fr_shape.specs.declared.shape.Field.{Field}
-use Rattle.fr_shape.specs.declared.shape.ShapeId.{ShapeId}
-use Rattle.fr_shape.specs.declared.shape.VariantDef.{VariantDef}
-use Rattle.fr_shape.specs.declared.value.Value.{Value}
-use Rattle.fr_shape.specs.Fills.{preset_of}
-use Rattle.fr_shape.specs.Hooks.{Meanings}
-use Rattle.fr_shape.specs.Look.{Table, def_of, field_in, field_of_variant}
-use Rattle.fr_shape.specs.Tokens.{tokens}
-use Rattle.fr_shape.specs.Val.{Val}
-use Rattle.fr_shape.specs.View.{view}
-use Rattle.fr_model.specs.Commands.{Call}
-use Rattle.fr_model.specs.Step.{at_shape, default_by_mark, default_or, field_default, field_refusal, named_refusal, operation_failed, puts_child, puts_child_default, set_nth_field_to_default, step}
-use Rattle.fr_model.specs.Tree.{begun, cursor_tree, selected, State, Tree}
-use Rattle.fr_partial.specs.Sites.{Site, shape_at}
-use Rattle.fr_partial.specs.declared.admitting.Opening.{Opening}
-use Rattle.fr_partial.specs.declared.moves.Change.{Change}
-use Rattle.fr_partial.specs.declared.moves.Move.{Move}
-use Rattle.fr_partial.specs.Entering.{Describes}
+use Rattle.fr_shape.specs.Look.{field_of_variant}
+use Rattle.fr_model.specs.Step.{default_by_mark, default_or, puts_child, puts_child_default, set_nth_field_to_default}
 use Rattle.fr_partial.specs.FieldDefaults.{default_in, default_of}
-use Rattle.fr_partial.specs.Moving.{ComesTo, IsRefusedWith}
 use Rattle.fr_partial.proofs.BeginLaws.{describes_here}
-use Rattle.fr_partial.specs.Looks.{Sees}
 use Rattle.fr_partial.proofs.DecidingLaws.{remains}
 use Rattle.fr_partial.proofs.FitLaws.{is_there}
 use Rattle.fr_partial.proofs.LookLaws.{begun_named, AsBegun}
@@ -48,8 +27,7 @@ has_default table s tree i v e = by_name (named_refusal (def_of table s) tree) r
   where
     by_field : named_refusal (def_of table s) tree ≡ None → (found : Option Field)
         → field_in (def_of table s) (selected tree) i ≡ found → HasDefault table s tree i v
-    by_field named (Some field) there =
-        record { field = field; named = named; there = there; default = rw (named, there) at e }
+    by_field named (Some field) there = record { field = field; named = named; there = there; default = rw (named, there) at e }
     by_field named None there = let no : Err _ ≡ Ok v = rw (named, there) at e in cc
 
     by_name : (refused : Option Operation) → named_refusal (def_of table s) tree ≡ refused → HasDefault table s tree i v
@@ -60,8 +38,7 @@ has_default table s tree i v e = by_name (named_refusal (def_of table s) tree) r
 enterable : (def : Def) (tree : Tree) (i : ℕ) (field : Field) (chosen : Option ℕ) → selected tree ≡ chosen
     → field_in def chosen i ≡ Some field → field_refusal def tree i ≡ None
 enterable (Def.Struct struct) tree i field None is at =
-    let test : nat_lt i (length struct.fields) ≡ true
-    = lt-ltb i (length struct.fields) (is_there struct.fields i field at) in
+    let test : nat_lt i (length struct.fields) ≡ true = lt-ltb i (length struct.fields) (is_there struct.fields i field at) in
     rw test refl
 enterable (Def.Struct struct) tree i field (Some k) is at = cc
 enterable (Def.Enum enumeration) tree i field None is at = cc
@@ -108,9 +85,9 @@ default_means table s state i = by_name (named_refusal (def_of table s) (cursor_
 -- as the site sees it
 
 begun_default : (i : ℕ) (table : Table) (s : ℕ) → AsBegun (λ tree. default_in table s tree i)
-begun_default i table s form ts =
+begun_default i table s tracker ts =
     ap (λ (refused : Option Operation). default_of table s (at_shape s refused)
-    (field_in (def_of table s) (selected (begun form ts)) i)) (begun_named (def_of table s) form ts)
+    (field_in (def_of table s) (selected (begun tracker ts)) i)) (begun_named (def_of table s) tracker ts)
 
 default_seen : {site : Site} {table : Table} {shape : ShapeId} {seen : Tree} → Sees site table shape seen → (i : ℕ)
     → default_in table shape.0 seen i ≡ default_in site.shapes (shape_at site) (cursor_tree site.state) i
@@ -138,8 +115,7 @@ default_named table s None (Some field) kind e out = mark_named table field.shap
 default_named table s None None kind e out = cc
 
 -- What the call comes to, by what the site sees.
-module _ {site : Site} {table : Table} {shape : ShapeId} {seen : Tree}
-    (at : Sees site table shape seen) (i : ℕ) where
+module _ {site : Site} {table : Table} {shape : ShapeId} {seen : Tree} (at : Sees site table shape seen) (i : ℕ) where
   meant_so : (made : Result Val ReflectErrorKind) → default_in table shape.0 seen i ≡ made → (hooks : Meanings)
       → step hooks site.shapes site.root site.state (Call.SetNthFieldToDefault i)
       ≡ puts_child_default site.shapes (shape_at site) site.state i made
@@ -170,8 +146,7 @@ module _ {site : Site} {table : Table} {shape : ShapeId} {seen : Tree}
           describes_here at opening says,
           default_admitted site.shapes (shape_at site) (cursor_tree site.state) i template here,
           ap tokens same ∙ default_empty_here,
-        )
-        (λ hooks.
+        ) (λ hooks.
         meant_so (Ok template) is hooks ∙ ap (λ (v : Val). Ok (puts_child site.shapes (shape_at site) site.state i v)) (sym same))
 
     -- where there is no memory for it

@@ -1,24 +1,17 @@
 -- A dynamic place that is begun as an array or as an object: what of it is kept, and what that means.
 use Rattle.std.proofs.Common.{◌≡◌, true, Option, Some, None, is_some, IsSome, unwrap_or, if◌then◌else◌, refl, ap}
-use Rattle.std.specs.Option.{option_map}
-use Rattle.fr_shape.specs.Val.{Val}
+use Rattle.fr_partial.specs.Common.{Beginning, EntriesKind, ItemsKind, LooksLike, Tracker, Tree, Trees, Val, anew_as, as_entries, as_items, begun, count_trees, entered, hole, holes, is_begun, kept_as, option_map, whole}
 use Rattle.fr_model.specs.DynamicPlaces.{array_anew, array_of, kept_array, kept_object, object_anew, object_of}
 use Rattle.fr_model.specs.Dynamics.{dynamic_in, elements_in, members_of_object}
-use Rattle.fr_model.specs.Tree.{Form, as_dyn_array, as_dyn_object, Tree, hole, entered, whole, begun, Trees, holes, count_trees}
 use Rattle.fr_store.specs.Moves.{around_elements, around_members}
-use Rattle.fr_partial.specs.declared.beginning.Beginning.{Beginning}
 use Rattle.fr_partial.specs.declared.dynamic_places.Parts.{Parts}
-use Rattle.fr_partial.specs.DynamicBeginnings.{anew_as, beginning_as, kept_as}
-use Rattle.fr_partial.specs.Looks.{LooksLike}
-use Rattle.fr_partial.specs.Openings.{is_begun}
+use Rattle.fr_partial.specs.DynamicBeginnings.{beginning_as}
 use Rattle.fr_partial.proofs.LookLaws.{alike_by}
 
 -- a whole value that has such parts
 abbrev pub IsWholeWith : Parts → Tree → Type 0
-IsWholeWith parts hole = ⊥
-IsWholeWith parts entered = ⊥
 IsWholeWith parts (whole v) = IsSome (kept_as parts (whole v))
-IsWholeWith parts (begun form ts) = ⊥
+IsWholeWith parts _ = ⊥
 
 -- What begins as it is is kept so, a whole value that begins in place has such parts, and of what starts anew nothing is kept.
 abbrev pub BeginsSo : Parts → Beginning → Tree → Type 0
@@ -26,10 +19,10 @@ BeginsSo parts Beginning.AsItIs tree = tree ≡ unwrap_or (kept_as parts tree) (
 BeginsSo parts Beginning.InPlace tree = IsWholeWith parts tree
 BeginsSo parts Beginning.Anew tree = anew_as parts ≡ unwrap_or (kept_as parts tree) (anew_as parts)
 
-kept_begun : (parts : Parts) (form : Form) (ts : Trees) (t : Tree) → kept_as parts (begun form ts) ≡ Some t → begun form ts ≡ t
-kept_begun Parts.Elements as_dyn_array ts t e = cc
+kept_begun : (parts : Parts) (tracker : Tracker) (ts : Trees) (t : Tree) → kept_as parts (begun tracker ts) ≡ Some t → begun tracker ts ≡ t
+kept_begun Parts.Elements (as_items ItemsKind.Array) ts t e = cc
 kept_begun Parts.Elements _ ts t e = cc
-kept_begun Parts.Entries (as_dyn_object keys) ts t e = cc
+kept_begun Parts.Entries (as_entries (EntriesKind.Object keys)) ts t e = cc
 kept_begun Parts.Entries _ ts t e = cc
 
 pub begins_so : (parts : Parts) (tree : Tree) → BeginsSo parts (beginning_as parts tree) tree
@@ -39,11 +32,11 @@ begins_so parts (whole v) = go (kept_as parts (whole v)) refl
         → BeginsSo parts (if is_some kept then Beginning.InPlace else Beginning.Anew) (whole v)
     go (Some tree) e = ap is_some e
     go None e = rw e refl
-begins_so parts (begun form ts) = go (kept_as parts (begun form ts)) refl
+begins_so parts (begun tracker ts) = go (kept_as parts (begun tracker ts)) refl
   where
-    go : (kept : Option Tree) → kept_as parts (begun form ts) ≡ kept
-        → BeginsSo parts (if is_some kept then Beginning.AsItIs else Beginning.Anew) (begun form ts)
-    go (Some tree) e = rw e (kept_begun parts form ts tree e)
+    go : (kept : Option Tree) → kept_as parts (begun tracker ts) ≡ kept
+        → BeginsSo parts (if is_some kept then Beginning.AsItIs else Beginning.Anew) (begun tracker ts)
+    go (Some tree) e = rw e (kept_begun parts tracker ts tree e)
     go None e = rw e refl
 begins_so Parts.Elements hole = refl
 begins_so Parts.Elements entered = refl
@@ -71,17 +64,16 @@ entries_kept tree h = either_way (kept_object tree) tree object_anew (some_kept 
 
 -- By the looks of the place.
 
-parts_told : (parts : Parts) (form : Form) (one other : Trees)
-    → is_some (kept_as parts (begun form one)) ≡ is_some (kept_as parts (begun form other))
-parts_told Parts.Elements as_dyn_array one other = refl
+parts_told : (parts : Parts) (tracker : Tracker) (one other : Trees)
+    → is_some (kept_as parts (begun tracker one)) ≡ is_some (kept_as parts (begun tracker other))
+parts_told Parts.Elements (as_items ItemsKind.Array) one other = refl
 parts_told Parts.Elements _ one other = refl
-parts_told Parts.Entries (as_dyn_object keys) one other = refl
+parts_told Parts.Entries (as_entries (EntriesKind.Object keys)) one other = refl
 parts_told Parts.Entries _ one other = refl
 
-pub as_alike : (one other : Tree) → LooksLike one other → (parts : Parts)
-    → beginning_as parts one ≡ beginning_as parts other
+pub as_alike : (one other : Tree) → LooksLike one other → (parts : Parts) → beginning_as parts one ≡ beginning_as parts other
 as_alike one other alike parts =
-    alike_by (beginning_as parts) (λ form ts. rw (parts_told parts form ts (holes (count_trees ts))) refl) one other alike
+    alike_by (beginning_as parts) (λ tracker ts. rw (parts_told parts tracker ts (holes (count_trees ts))) refl) one other alike
 
 -- What a value holds that has such parts.
 

@@ -1,37 +1,16 @@
 -- Completing the place on top of the stack: whether it may be, and the value that it comes to hold.
 use Rattle.std.proofs.Common.{◌≡◌, ℕ, ◌+◌, true, false, List, [], Option, Some, None, option_map, Result, Ok, Err, OnErr, OnOk, IfErr, refl, sym, ◌∙◌, ap, subst, arith}
-use Rattle.std.specs.Prelude.{is_some, IsSome, IsSomeAnd}
-use Rattle.fr_shape.specs.declared.error.ReflectErrorKind.{ReflectErrorKind}
-use Rattle.fr_shape.specs.Hooks.{Meanings}
-use Rattle.fr_shape.specs.Released.{Conserved, Room, RoseBy}
-use Rattle.fr_shape.specs.TokenLaws.{Conserved_same, Room_same, RoseBy_same}
-use Rattle.fr_shape.specs.Tokens.{occurs}
-use Rattle.fr_shape.specs.Val.{Val}
-use Rattle.fr_model.specs.Complete.{complete}
-use Rattle.fr_model.specs.Places.{Place}
-use Rattle.fr_model.specs.Tree.{Tree, change_at, strict, tree_at, tree_occurs}
-use Rattle.fr_plan.specs.LookupLaws.{LookupsAgree, LookupPathsAgree}
-use Rattle.fr_plan.specs.TypePlan.{Plan}
-use Rattle.fr_frame.specs.declared.places.Slot.{Slot}
-use Rattle.fr_frame.specs.Bodies.{Body, body_occurs, own_tree, takes_memory, value_of, IsClosed}
-use Rattle.fr_frame.specs.Defaults.{KeepsForm}
-use Rattle.fr_frame.specs.Changes.{IfInUse, IsInUse, SameMarks, Shows}
-use Rattle.fr_frame.specs.Completing.{shape_of, FillsAt, MayComplete, WhyNot as WhyNotAt}
-use Rattle.fr_frame.specs.Heap.{Node, heap_of, slots_occur, stored_in, with_body, with_slot}
-use Rattle.fr_frame.specs.Kids.{Plot, body_in}
+use Rattle.fr_partial.specs.Common.{Along, AtTop, Body, Conserved, Conserved_same, Frames, HoldsItsValue, IsAtWork, IsLast, IsOpen, IsOpenAt, IsSome, IsSomeAnd, KeepsTracker, LookupPathsAgree, LookupsAgree, MayHaveIts, Meanings, Node, Place, Plan, Plot, ReflectErrorKind, Room, Room_same, RoseBy, RoseBy_same, Rules, SameMarks, Shows, Slot, Tree, Val, WhyNot, body_in, change_at, complete, heap_of, held_in, is_some, mode_of, needs_none_by, occurs, open_top, own_tree, shape_of, slots_tokens, strict, takes_memory, top_place, top_shape, top_tree, tree_at, tree_occurs, value_of, whole_tree}
+use Rattle.fr_frame.specs.Bodies.{body_occurs, IsClosed}
+use Rattle.fr_frame.specs.Changes.{IfInUse, IsInUse}
+use Rattle.fr_frame.specs.Completing.{FillsAt, MayComplete, WhyNot as WhyNotAt}
+use Rattle.fr_frame.specs.Heap.{slots_occur, stored_in, with_body, with_slot}
 use Rattle.fr_store.specs.HereLaws.{body_back, closed_plot, tree_back, value_closed}
-use Rattle.fr_store.specs.MoveLaws.{closed_open, open_top, same_last, slots_tokens, so_top, top_changed_held, top_node, top_so, top_tokens}
-use Rattle.fr_store.specs.Moves.{node_here as node_on_top, AtTop, IsOpenAt}
-use Rattle.fr_store.specs.Numbers.{IsLast}
-use Rattle.fr_store.specs.ShapeLaws.{Along}
-use Rattle.fr_store.specs.Stands.{IsOpen}
-use Rattle.fr_store.specs.TopLaws.{closed_tree, held_may_have, keeps_closed, loses_none, marked_body, slot_here, MayHaveIts}
+use Rattle.fr_store.specs.MoveLaws.{closed_open, same_last, so_top, top_changed_held, top_node, top_so, top_tokens}
+use Rattle.fr_store.specs.Moves.{node_here as node_on_top}
+use Rattle.fr_store.specs.TopLaws.{closed_tree, held_may_have, keeps_closed, loses_none, marked_body, slot_here}
 use Rattle.fr_store.specs.TurnedLaws.{may_complete as node_may_complete, shape_along}
-use Rattle.fr_partial.specs.declared.moves.Rules.{Rules}
-use Rattle.fr_partial.specs.declared.work.Frames.{Frames}
-use Rattle.fr_partial.specs.Ending.{column_of, needs_none_by, HoldsItsValue, WhyNot}
-use Rattle.fr_partial.specs.Modes.{mode_of}
-use Rattle.fr_partial.specs.Underway.{held_in, top_place, top_shape, top_tree, whole_tree, IsAtWork}
+use Rattle.fr_partial.specs.Ending.{column_of}
 use Rattle.fr_partial.proofs.BodyLaws.{keeps_may, unboxed, why_of}
 use Rattle.fr_partial.proofs.KeepLaws.{are_open, became_marked}
 use Rattle.fr_partial.proofs.HereLaws.{top_body}
@@ -119,28 +98,25 @@ module _ {plan : Plan} {frames : Frames} {n : ℕ} (top : IsTop plan frames n) w
   -- It was completed by these rules.
   module _ (rules : Rules) (means : Meanings) (after : List Slot)
       (filled : IfInUse frames.slots n (FillsAt (column_of rules) means frames.table.now plan frames.slots after n))
-      (form : IfInUse frames.slots n (λ (at : Node). IfInUse after n (λ (now : Node). KeepsForm at.body now.body))) where
+      (tracker : IfInUse frames.slots n (λ (at : Node). IfInUse after n (λ (now : Node). KeepsTracker at.body now.body))) where
     unfoldable fills : FillsAt (column_of rules) means frames.table.now plan frames.slots after n here
     fills = here_so (FillsAt (column_of rules) means frames.table.now plan frames.slots after n) filled
 
     found_after : heap_of after n ≡ Some (record here { body = fills.body })
     found_after = fills.becomes n ∙ slot_here (heap_of frames.slots) n (Some (record here { body = fills.body }))
 
-    keeps : KeepsForm here.body fills.body
+    keeps : KeepsTracker here.body fills.body
     keeps =
-        subst (λ (node : Option Node). IsSomeAnd node (λ (now : Node). KeepsForm here.body now.body)) found_after
-        (here_so (λ (at : Node). IfInUse after n (λ (now : Node). KeepsForm at.body now.body)) form)
+        subst (λ (node : Option Node). IsSomeAnd node (λ (now : Node). KeepsTracker here.body now.body)) found_after
+        (here_so (λ (at : Node). IfInUse after n (λ (now : Node). KeepsTracker at.body now.body)) tracker)
 
     at_top : (So : Node → Type 0) → So (record here { body = fills.body }) → AtTop after frames.stack So
     at_top So so = on_top after top.last So (subst (λ (node : Option Node). IsSomeAnd node So) (sym found_after) so)
 
     shows : Shows after (with_body (heap_of frames.slots) n (λ old. fills.body))
     shows m =
-        fills.becomes m
-        ∙ ap
-        (λ (node : Option Node). with_slot (heap_of frames.slots) n
-        (option_map (λ (x : Node). record x { body = fills.body }) node) m)
-        (sym found)
+        fills.becomes m ∙ ap (λ (node : Option Node). with_slot (heap_of frames.slots) n
+        (option_map (λ (x : Node). record x { body = fills.body }) node) m) (sym found)
 
     marks : SameMarks frames.slots after
     marks m = ap stored_in (shows m) ∙ marked_body (heap_of frames.slots) n (λ old. fills.body) m
@@ -152,17 +128,13 @@ module _ {plan : Plan} {frames : Frames} {n : ℕ} (top : IsTop plan frames n) w
         let new : Plot = closed_plot fills.body in
         let closed : IsClosed fills.body = value_closed fills.body fills.filled.value fills.filled.held in
         let is : body_in new ≡ fills.body = body_back fills.body closed in
-        let may : MayHaveIts fills.body
-        = keeps_may here.body fills.body keeps
+        let may : MayHaveIts fills.body = keeps_may here.body fills.body keeps
         (held_may_have plan (heap_of frames.slots) _ above.slot _ above.plot above.children) in
-        subst
-        (λ (t : Tree). IsOpenAt plan after frames.stack (top_place frames)
-        (change_at (top_place frames) (λ old. t) (whole_tree frames)))
-        (tree_back fills.body)
+        subst (λ (t : Tree). IsOpenAt plan after frames.stack (top_place frames)
+        (change_at (top_place frames) (λ old. t) (whole_tree frames))) (tree_back fills.body)
         (top_changed_held plan frames.slots after frames.stack top.at_work.ready.shown n top.last (λ old. fills.body) new is
         (keeps_closed above.plot new (subst MayHaveIts (sym is) may) (subst IsClosed (sym is) closed)
-        (held_left above.plot fills.body fills.filled.value keeps fills.filled.held))
-        (loses_none above.plot new top.shut) shows)
+        (held_left above.plot fills.body fills.filled.value keeps fills.filled.held)) (loses_none above.plot new top.shut) shows)
 
     -- it holds its value then
     pub holds : HoldsItsValue rules means plan frames (record frames { slots = after })
@@ -170,14 +142,11 @@ module _ {plan : Plan} {frames : Frames} {n : ℕ} (top : IsTop plan frames n) w
       value = fills.filled.value;
       meant =
           ap (λ (s : ℕ). complete (column_of rules) means frames.table.now s (top_tree frames)) (sym shape_is)
-          ∙ ap (complete (column_of rules) means frames.table.now (shape_of plan here.node)) (sym own_is)
-          ∙ fills.filled.meant;
+          ∙ ap (complete (column_of rules) means frames.table.now (shape_of plan here.node)) (sym own_is) ∙ fills.filled.meant;
       now = own_tree fills.body;
       changed = became_marked (are_open top.at_work) marks stands;
       held = at_top (λ (at : Node). value_of at.body ≡ Some fills.filled.value) fills.filled.held;
-      unboxed = λ none.
-          at_top (λ (at : Node). takes_memory at.body ≡ false)
-          (unboxed rules here.body fills.body keeps
+      unboxed = λ none. at_top (λ (at : Node). takes_memory at.body ≡ false) (unboxed rules here.body fills.body keeps
           (subst (λ (t : Tree). needs_none_by rules t ≡ true) (sym own_is) none));
     }
 
@@ -191,8 +160,7 @@ module _ {plan : Plan} (frames : Frames) (shown : IsOpen plan frames.slots frame
   all_there : (t : ℕ) → body_occurs (top_node plan frames.slots frames.stack shown n last).body t ≡ held_in frames t
   all_there t =
       let body = (open_top plan frames.slots frames.stack shown).plot in
-      top_tokens plan frames.slots frames.stack shown n last
-      (go (value_of (body_in body)) refl
+      top_tokens plan frames.slots frames.stack shown n last (go (value_of (body_in body)) refl
       (top_body plan frames.slots frames.stack shown (λ (b : Body). IsSome (value_of b)) held)) t
       ∙ ap (λ (p : Place). tree_occurs (tree_at p (whole_tree frames)) t) at_root
       ∙ sym (slots_tokens plan frames.slots frames.stack shown t)

@@ -1,32 +1,17 @@
 -- Entering a child: the place may be begun, is begun around it, and the child's node is the plan's.
 use Rattle.std.proofs.Common.{◌≡◌, ℕ, zero, suc, ◌<◌, true, List, [], ◌∷◌, length, Option, Some, None, nat_lt, nat_le, if◌then◌else◌, option_map, unwrap_or, refl, sym, ◌∙◌, ap, subst, arith}
-use Rattle.std.specs.Option.{option_or}
-use Rattle.std.specs.Prelude.{is_some}
-use Rattle.fr_shape.specs.declared.error.Operation.{Operation}
-use Rattle.fr_shape.specs.declared.shape.Def.{Def}
-use Rattle.fr_shape.specs.declared.shape.Field.{Field}
+use Rattle.fr_partial.specs.Common.{Def, Field, HasChild, IsFullAs, IsOfShape, Kid, Leads, MayOpen, Mode, NodeId, Operation, Place, Plan, Plot, Suits, Table, Tracker, Tree, TypePlanNode, Val, Vals, as_fields, at, begun, begun_plot, body_in, change_at, child_node, child_tree, count_trees, def_of, entered, entered_plot, field_refusal, fits, hole, holes, is_some, no_vals, node_along, opened_as, opened_value, option_or, parts_as, selected, shape_of, tree_in, tree_nth, tree_of, trees_in, unit, whole, whole_plot}
 use Rattle.fr_shape.specs.declared.shape.StructDef.{StructDef}
-use Rattle.fr_shape.specs.Fits.{fits, fields_fit, count_vals}
-use Rattle.fr_shape.specs.Look.{Table, def_of}
-use Rattle.fr_shape.specs.Val.{Val, Vals, unit, product, no_vals, first}
-use Rattle.fr_model.specs.Places.{Place, array_limit}
-use Rattle.fr_model.specs.Step.{field_refusal, opened_as, opened_value, parts_as}
-use Rattle.fr_model.specs.Tree.{Form, as_struct, as_variant, selected, Tree, hole, entered, whole, begun, tree_nth, child_tree, change_at, wholes, holes, count_trees, Mode}
-use Rattle.fr_model.specs.Well.{IsFullAs, Suits, Leads}
-use Rattle.fr_plan.specs.declared.nodes.NodeId.{NodeId}
-use Rattle.fr_plan.specs.TypePlan.{Plan}
-use Rattle.fr_frame.specs.Bodies.{MayOpen}
-use Rattle.fr_frame.specs.Kids.{Kid, at, Plot, entered_plot, whole_plot, begun_plot, tree_of, tree_in, trees_in, body_in, child_node}
-use Rattle.fr_store.specs.Moves.{HasChild}
-use Rattle.fr_store.specs.Ways.{kid_below, node_below, node_along}
+use Rattle.fr_shape.specs.Fits.{fields_fit, count_vals}
+use Rattle.fr_shape.specs.Val.{product, first}
+use Rattle.fr_model.specs.Places.{array_limit}
+use Rattle.fr_model.specs.Tree.{wholes}
+use Rattle.fr_store.specs.Ways.{kid_below, node_below}
 use Rattle.fr_store.specs.WayLaws.{tree_of_below}
-use Rattle.fr_plan.specs.declared.nodes.TypePlanNode.{TypePlanNode}
-use Rattle.fr_frame.specs.Completing.{shape_of}
 use Rattle.fr_partial.proofs.Converted.{settled_plain}
 use Rattle.fr_partial.proofs.FitLaws.{both_true}
-use Rattle.fr_partial.proofs.FormLaws.{struct_form, begun_as, over_so}
+use Rattle.fr_partial.proofs.TrackerLaws.{struct_tracker, begun_as, over_so}
 use Rattle.fr_partial.proofs.TreeLaws.{nth_changed, nth_leads}
-use Rattle.fr_store.specs.ShapeLaws.{IsOfShape}
 
 -- What may be begun.
 
@@ -44,13 +29,13 @@ count_fields table (field ∷ fields) (first v vs) h =
     ap suc (count_fields table fields vs (both_true (fits table field.shape.0 v) (fields_fit table fields vs) h).1)
 
 -- a whole struct has as many parts as fields
-record Parts (form : Form) (v : Val) (count : ℕ) : Type 0 where
+record Parts (tracker : Tracker) (v : Val) (count : ℕ) : Type 0 where
   parts : Vals
-  are : parts_as form v ≡ Some parts
+  are : parts_as tracker v ≡ Some parts
   counts : count_vals parts ≡ count
 
 struct_parts : (table : Table) (s : ℕ) (struct : StructDef) → def_of table s ≡ Def.Struct struct → (v : Val)
-    → fits table s v ≡ true → Parts as_struct v (length struct.fields)
+    → fits table s v ≡ true → Parts (as_fields None) v (length struct.fields)
 struct_parts table s struct is (product vs) h = record {
   parts = vs;
   are = refl;
@@ -61,18 +46,17 @@ struct_parts table s struct is _ h =
     let no = rw (settled_plain table s (Def.Struct struct) is (λ other. cc)) at h in
     cc
 
-whole_parts : (table : Table) (s i : ℕ) (v : Val) (form : Form) (count : ℕ) → IsFullAs (def_of table s) form count
-    → fits table s v ≡ true → field_refusal (def_of table s) (whole v) i ≡ None → Parts form v count
-whole_parts table s i v form count full fit may = go (def_of table s) refl full may
+whole_parts : (table : Table) (s i : ℕ) (v : Val) (tracker : Tracker) (count : ℕ) → IsFullAs (def_of table s) tracker count
+    → fits table s v ≡ true → field_refusal (def_of table s) (whole v) i ≡ None → Parts tracker v count
+whole_parts table s i v tracker count full fit may = go (def_of table s) refl full may
   where
-    go : (def : Def) → def_of table s ≡ def → IsFullAs def form count → field_refusal def (whole v) i ≡ None → Parts form v count
+    go : (def : Def) → def_of table s ≡ def → IsFullAs def tracker count → field_refusal def (whole v) i ≡ None → Parts tracker v count
     go (Def.Struct struct) e b none =
-        subst (λ (n : ℕ). Parts form v n) (sym (struct_form struct form count b).1)
-        (subst (λ (f : Form). Parts f v (length struct.fields)) (sym (struct_form struct form count b).0)
+        subst (λ (n : ℕ). Parts tracker v n) (sym (struct_tracker struct tracker count b).1)
+        (subst (λ (f : Tracker). Parts f v (length struct.fields)) (sym (struct_tracker struct tracker count b).0)
         (struct_parts table s struct e v fit))
     go (Def.Array t n) e b none =
-        absurd
-        (both_none (if nat_lt i n then None else Some Operation.ArrayIndexOutOfBounds)
+        absurd (both_none (if nat_lt i n then None else Some Operation.ArrayIndexOutOfBounds)
         (if nat_le n array_limit then None else Some Operation.ArrayTooLarge) Operation.ElementOfWholeArray none)
     go _ e b none = cc
 
@@ -84,32 +68,30 @@ count_wholes : (vs : Vals) → count_trees (wholes vs) ≡ count_vals vs
 count_wholes no_vals = refl
 count_wholes (first v vs) = ap suc (count_wholes vs)
 
-pub may_open : (table : Table) (s i : ℕ) (form : Form) (count : ℕ) (plot : Plot) → IsFullAs (def_of table s) form count
-    → Suits table s (tree_in plot) → field_refusal (def_of table s) (tree_in plot) i ≡ None → MayOpen form (body_in plot)
-may_open table s i form count (whole_plot v) full suits may =
-    let parts = whole_parts table s i v form count full suits may in
+pub may_open : (table : Table) (s i : ℕ) (tracker : Tracker) (count : ℕ) (plot : Plot) → IsFullAs (def_of table s) tracker count
+    → Suits table s (tree_in plot) → field_refusal (def_of table s) (tree_in plot) i ≡ None → MayOpen tracker (body_in plot)
+may_open table s i tracker count (whole_plot v) full suits may =
+    let parts = whole_parts table s i v tracker count full suits may in
     ap is_some parts.are
-may_open table s i form count _ full suits may = tt
+may_open table s i tracker count _ full suits may = tt
 
-pub has_child : (table : Table) (s i : ℕ) (form : Form) (count : ℕ) (plot : Plot) → IsFullAs (def_of table s) form count
-    → ((k : ℕ) → form ≡ as_variant k → selected (tree_in plot) ≡ Some k) → i < count → Suits table s (tree_in plot)
-    → field_refusal (def_of table s) (tree_in plot) i ≡ None → HasChild form i (opened_as form count (tree_in plot))
-has_child table s i form count entered_plot full variant below suits may = (refl, omega (arith, count_holes count))
-has_child table s i form count (begun_plot made kids) full variant below suits may =
-    let same = begun_as (def_of table s) made (trees_in kids) form count i full variant suits.0.0 may in
+pub has_child : (table : Table) (s i : ℕ) (tracker : Tracker) (count : ℕ) (plot : Plot) → IsFullAs (def_of table s) tracker count
+    → ((k : ℕ) → tracker ≡ as_fields (Some k) → selected (tree_in plot) ≡ Some k) → i < count → Suits table s (tree_in plot)
+    → field_refusal (def_of table s) (tree_in plot) i ≡ None → HasChild tracker i (opened_as tracker count (tree_in plot))
+has_child table s i tracker count entered_plot full variant below suits may = (refl, omega (arith, count_holes count))
+has_child table s i tracker count (begun_plot made kids) full variant below suits may =
+    let same = begun_as (def_of table s) made (trees_in kids) tracker count i full variant suits.0.0 may in
     (sym same.0, omega (arith, same.1))
-has_child table s i form count (whole_plot v) full variant below suits may =
-    let parts = whole_parts table s i v form count full suits may in
-    subst (λ (found : Option Vals). HasChild form i (opened_value form v found)) (sym parts.are)
-    (over_so (def_of table s) (whole v) form count i full may v, omega (arith, count_wholes parts.parts, parts.counts))
+has_child table s i tracker count (whole_plot v) full variant below suits may =
+    let parts = whole_parts table s i v tracker count full suits may in
+    subst (λ (found : Option Vals). HasChild tracker i (opened_value tracker v found)) (sym parts.are)
+    (over_so (def_of table s) (whole v) tracker count i full may v, omega (arith, count_wholes parts.parts, parts.counts))
 
 -- The plan's node at a place, by the tree.
 
 abbrev node_by : Plan → NodeId → ℕ → Tree → NodeId
-node_by plan node i hole = node
-node_by plan node i entered = node
-node_by plan node i (whole v) = node
-node_by plan node i (begun form ts) = child_node plan node form i
+node_by plan node i (begun tracker ts) = child_node plan node tracker i
+node_by plan node i _ = node
 
 node_in_tree : Plan → NodeId → Place → Tree → NodeId
 node_in_tree plan node [] t = node
@@ -134,10 +116,10 @@ same_node : (mode : Mode) (plan : Plan) (node : NodeId) (place : Place) (change 
     → node_in_tree plan node place (change_at place change t) ≡ node_in_tree plan node place t
 unfolding node_in_tree
 same_node mode plan node [] change t leads = refl
-same_node mode plan node (i ∷ place) change (begun form ts) leads =
-    ap (node_in_tree plan (child_node plan node form i) place)
+same_node mode plan node (i ∷ place) change (begun tracker ts) leads =
+    ap (node_in_tree plan (child_node plan node tracker i) place)
     (nth_changed mode i (λ child. Leads mode place child) (λ child. change_at place change child) ts leads)
-    ∙ same_node mode plan (child_node plan node form i) place change (tree_nth i ts)
+    ∙ same_node mode plan (child_node plan node tracker i) place change (tree_nth i ts)
     (nth_leads mode i (λ child. Leads mode place child) ts leads)
 same_node mode plan node (i ∷ place) change _ leads = absurd leads
 
@@ -146,10 +128,8 @@ pub node_stays : (mode : Mode) (plan : Plan) (node : NodeId) (place now : Place)
     → now ≡ place → Leads mode place (tree_of before) → tree_of after ≡ change_at place change (tree_of before)
     → node_along plan node now after ≡ node_along plan node place before
 node_stays mode plan node place now change before after same leads is =
-    ap (λ (p : Place). node_along plan node p after) same
-    ∙ along_tree plan node place after
-    ∙ ap (node_in_tree plan node place) is
-    ∙ same_node mode plan node place change (tree_of before) leads
+    ap (λ (p : Place). node_along plan node p after) same ∙ along_tree plan node place after
+    ∙ ap (node_in_tree plan node place) is ∙ same_node mode plan node place change (tree_of before) leads
     ∙ sym (along_tree plan node place before)
 
 -- The definition of a place that is built by a node.
@@ -157,6 +137,5 @@ pub def_entered : (table : Table) (plan : Plan) (node : NodeId) (s : ℕ) → Is
     → def_of table (shape_of plan node) ≡ def_of table s
 def_entered table plan node s shaped =
     ap (λ (found : Option TypePlanNode). def_of table
-    (unwrap_or (option_map (λ (n : TypePlanNode). n.shape) found) (record { 0 = 0 })).0)
-    shaped.there
+    (unwrap_or (option_map (λ (n : TypePlanNode). n.shape) found) (record { 0 = 0 })).0) shaped.there
     ∙ ap (def_of table) shaped.shape

@@ -1,30 +1,13 @@
 -- The end of deferred mode: what it means, and what it is refused for.
 use Rattle.std.proofs.Common.{◌≡◌, ℕ, List, [], Option, Some, unwrap_or, Ok, Err, sym, ◌∙◌, ap, subst}
-use Rattle.fr_shape.specs.declared.error.ReflectErrorKind.{ReflectErrorKind}
-use Rattle.fr_shape.specs.declared.shape.ShapeId.{ShapeId}
-use Rattle.fr_shape.specs.Checked.{IsChecked}
-use Rattle.fr_shape.specs.Hooks.{Meanings}
-use Rattle.fr_shape.specs.Look.{Table, IsIn}
+use Rattle.fr_partial.specs.Common.{Frames, IsAtWork, IsChecked, IsIn, IsKept, IsMeant, IsOpen, IsPlanOf, IsSound, LookupPathsAgree, Meanings, Move, NothingStored, Parts, Plan, ReflectErrorKind, ShapeId, Slot, State, Suits, Table, meant_by, one_more_call, plan_in, site, strict, top_place, whole_tree}
 use Rattle.fr_model.specs.Finish.{finished, finish_cause}
 use Rattle.fr_model.specs.Laws.{StepKeepsOrder, StepKeepsRest}
 use Rattle.fr_model.specs.PathLaws.{FinishingKeepsThePath}
 use Rattle.fr_model.specs.Step.{finishes}
-use Rattle.fr_model.specs.Tree.{strict, State, one_more_call}
-use Rattle.fr_model.specs.Well.{Suits}
-use Rattle.fr_plan.specs.LookupLaws.{LookupPathsAgree}
-use Rattle.fr_plan.specs.TypePlan.{Plan, IsPlanOf}
-use Rattle.fr_frame.specs.declared.places.Slot.{Slot}
-use Rattle.fr_store.specs.Stands.{IsOpen}
-use Rattle.fr_store.specs.Stored.{IsKept, NothingStored}
 use Rattle.fr_store.specs.Turns.{root_shape, IsFinished, IsHeldUp}
 use Rattle.fr_partial.specs.declared.mode.Mode.{Mode}
-use Rattle.fr_partial.specs.declared.moves.Move.{Move}
-use Rattle.fr_partial.specs.declared.work.Frames.{Frames}
-use Rattle.fr_partial.specs.declared.work.Parts.{Parts}
-use Rattle.fr_partial.specs.HeldPlan.{plan_in}
-use Rattle.fr_partial.specs.Moving.{meant_by, IsMeant}
-use Rattle.fr_partial.specs.Underway.{state_of, top_place, whole_tree, IsAtWork}
-use Rattle.fr_partial.specs.Works.{site, IsSound}
+use Rattle.fr_partial.specs.Underway.{state_of}
 use Rattle.fr_partial.proofs.StateLaws.{kept_none, order_after, rest_after, sound_so, state_is, state_then}
 
 -- the root's shape is the plan's
@@ -42,8 +25,7 @@ module _ (paths : LookupPathsAgree) {plan : Plan} {frames : Frames} (at_work : I
 
 module _ (paths : LookupPathsAgree) (means : Meanings) (parts : Parts) {plan : Plan} (at_work : IsAtWork plan parts.frames) where
   -- what it is refused for
-  pub held_up : (kind : ReflectErrorKind)
-      → IsHeldUp means parts.frames.table.now plan parts.frames.slots parts.frames.stack kind
+  pub held_up : (kind : ReflectErrorKind) → IsHeldUp means parts.frames.table.now plan parts.frames.slots parts.frames.stack kind
       → meant_by means (site parts) Move.Finish ≡ Err kind
   held_up kind held =
       let cursor = top_place parts.frames in
@@ -60,8 +42,7 @@ module _ (paths : LookupPathsAgree) (means : Meanings) (parts : Parts) {plan : P
         ≡ Some done.tree
     finished_so =
         ap (λ (s : ℕ). finished means parts.frames.table.now s (top_place parts.frames) (whole_tree parts.frames))
-        (sym (root_of paths at_work))
-        ∙ done.meant
+        (sym (root_of paths at_work)) ∙ done.meant
 
     -- the state with it
     pub ends : meant_by means (site parts) Move.Finish
@@ -87,8 +68,6 @@ module _ (paths : LookupPathsAgree) (means : Meanings) (parts : Parts) {plan : P
         (subst (λ (p : Plan). IsOpen p after next) same done.stands.open_still)
         (subst (λ (listed : List ℕ). IsKept listed after) (sym empty) (kept_none after none)) empty (ended_is more)
         (order_after sound keeps_order means state meant.0 meant.1.fitting steps)
-        (rest_after sound keeps_rest means state meant.0 meant.1.fitting steps)
-        (sound.path
-        ∙ sym
+        (rest_after sound keeps_rest means state meant.0 meant.1.fitting steps) (sound.path ∙ sym
         (keeps_path means parts.frames.table.now parts.frames.root.0 (top_place parts.frames) (whole_tree parts.frames) done.tree
         finished_so))

@@ -1,22 +1,13 @@
 -- The first place: the root's, in a slot by itself.
-use Rattle.std.proofs.Common.{◌≡◌, ◌≢◌, ◌⊎◌, ℕ, ◌<◌, ◌≤◌, Bool, true, false, List, [], ◌∷◌, nat_eq, Some, None, inl, inr, refl, sym, ◌∙◌, ap, arith}
-use Rattle.std.specs.Prelude.{IsSome, if◌then◌else◌}
+use Rattle.std.proofs.Common.{◌≡◌, ◌≢◌, ◌⊎◌, ℕ, ◌<◌, ◌≤◌, Bool, true, false, List, [], ◌∷◌, nat_eq, Some, None, inl, inr, refl, sym, ◌∙◌, ap, arith, if◌then◌else◌}
+use Rattle.fr_partial.specs.Common.{Body, Def, FrameOwner, IsOpenAt, IsSome, MayHaveIts, NothingStored, Plan, Plot, Shows, Slot, at, body_in, entered_plot, fresh, heap_of, no_vals, whole_plot}
 use Rattle.fr_shape.specs.Fills.{is_empty_struct}
-use Rattle.fr_shape.specs.declared.shape.Def.{Def}
-use Rattle.fr_shape.specs.Val.{no_vals, product}
-use Rattle.fr_model.specs.Tree.{fresh}
-use Rattle.fr_plan.specs.TypePlan.{Plan}
-use Rattle.fr_frame.specs.declared.places.FrameOwner.{FrameOwner}
-use Rattle.fr_frame.specs.declared.places.Slot.{Slot}
-use Rattle.fr_frame.specs.Bodies.{Body}
-use Rattle.fr_frame.specs.Changes.{Shows}
-use Rattle.fr_frame.specs.Heap.{heap_of, entered_node, with_entered, depth_limit, stored_in}
-use Rattle.fr_frame.specs.Kids.{at, Plot, entered_plot, whole_plot, body_in, AreLeftIn}
+use Rattle.fr_shape.specs.Val.{product}
+use Rattle.fr_frame.specs.Heap.{entered_node, with_entered, depth_limit, stored_in}
+use Rattle.fr_frame.specs.Kids.{AreLeftIn}
 use Rattle.fr_store.specs.EnterLaws.{fresh_closed, fresh_plot, fresh_same, fresh_tree}
 use Rattle.fr_store.specs.MoveLaws.{open_at_held}
-use Rattle.fr_store.specs.Moves.{IsOpenAt}
-use Rattle.fr_store.specs.Stored.{NothingStored}
-use Rattle.fr_store.specs.TopLaws.{free_unused, slot_here, slot_other, closed_uses, closed_holds, closed_marked, MayHaveIts}
+use Rattle.fr_store.specs.TopLaws.{free_unused, slot_here, slot_other, closed_uses, closed_holds, closed_marked}
 use Rattle.fr_store.specs.Ways.{counts_if}
 use Rattle.fr_store.specs.WayLaws.{counts_same, same_or_other}
 
@@ -50,9 +41,7 @@ module _ (plan : Plan) (def : Def) (before after : List Slot) (n : ℕ) (free : 
     where
       go : (m ≡ n) ⊎ (m ≢ n) → m ≡ n
       go (inl e) = e
-      go (inr ne) =
-          absurd
-          (free_unused (heap_of after) m (shows m ∙ slot_other (heap_of before) n _ m ne ∙ free m) used)
+      go (inr ne) = absurd (free_unused (heap_of after) m (shows m ∙ slot_other (heap_of before) n _ m ne ∙ free m) used)
 
   -- the builder works there
   pub first_open : 0 < depth_limit → {stack : List ℕ} → stack ≡ n ∷ [] → IsOpenAt plan after stack [] (fresh def)
@@ -61,9 +50,7 @@ module _ (plan : Plan) (def : Def) (before after : List Slot) (n : ℕ) (free : 
       open_at_held plan after stack [] (at n false plot) (fresh def)
       (record {
         holds = (
-          shows n
-              ∙ slot_here (heap_of before) n (Some (entered_node def (heap_of before) plan.root FrameOwner.Root))
-              ∙ ap
+          shows n ∙ slot_here (heap_of before) n (Some (entered_node def (heap_of before) plan.root FrameOwner.Root)) ∙ ap
               (λ (body : Body).
               Some (record { node = plan.root; owner = FrameOwner.Root; stored = false; depth = 0; body = body }))
               (sym (fresh_same def)),
@@ -75,8 +62,6 @@ module _ (plan : Plan) (def : Def) (before after : List Slot) (n : ℕ) (free : 
         leads = (refl, closed_marked true plot (fresh_closed def));
         along = alone;
         left = fresh_so AreLeftIn tt tt def;
-      })
-      (λ m used.
+      }) (λ m used.
       let one : counts_if (nat_eq n m) ≡ 1 = ap (λ (x : ℕ). counts_if (nat_eq n x)) (first_only m used) ∙ counts_same n in
-      omega (arith, one))
-      (fresh_tree def)
+      omega (arith, one)) (fresh_tree def)

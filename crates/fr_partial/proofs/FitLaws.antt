@@ -1,10 +1,7 @@
 -- What fits a shape of a table has its shape in the table.
 use Rattle.std.proofs.Common.{◌≡◌, ℕ, Bool, true, false, ◌&&◌, [], ◌∷◌, Option, Some, None, slice_get, refl, sym, ◌∙◌}
-use Rattle.fr_shape.specs.declared.shape.Def.{Def}
+use Rattle.fr_partial.specs.Common.{Def, IsIn, Table, Val, fits, settled, unit}
 use Rattle.fr_shape.specs.declared.shape.Shape.{Shape}
-use Rattle.fr_shape.specs.Fits.{fits}
-use Rattle.fr_shape.specs.Look.{Table, IsIn, settled}
-use Rattle.fr_shape.specs.Val.{Val, unit}
 pub use Rattle.fr_store.specs.TurnedLaws.{is_there}
 
 pub both_true : (a b : Bool) → (a && b) ≡ true → (a ≡ true) × (b ≡ true)

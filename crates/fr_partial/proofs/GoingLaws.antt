@@ -1,45 +1,23 @@
 -- Going on to a child, whichever way: the plan's node of the child, what the place becomes, and the step to the child.
-use Rattle.std.proofs.Common.{◌≡◌, ℕ, suc, ◌<◌, true, false, List, [], ◌∷◌, ◌++◌, length, None, refl, sym, ◌∙◌, ap, subst, arith}
+use Rattle.std.proofs.Common.{◌≡◌, ℕ, suc, ◌<◌, true, false, List, [], ◌∷◌, ◌++◌, length, None, refl, sym, ◌∙◌, ap, subst, arith, Some}
 use Rattle.std.specs.Borrow.{Bor}
-use Rattle.fr_shape.specs.declared.shape.Def.{Def}
-use Rattle.fr_shape.specs.Look.{Table, def_of}
-use Rattle.fr_shape.specs.Val.{Val}
-use Rattle.fr_model.specs.Collections.{is_map, is_map_form}
-use Rattle.fr_model.specs.DynamicPlaces.{entry_refusal, is_begun_object, keys_here}
+use Rattle.fr_partial.specs.Common.{Along, AtTop, Became, Changed, Def, Describes, Frames, HasChild, HasItems, IsAtWork, IsFullAs, IsOfShape, IsOpen, ItemsKind, Leads, LookupPathsAgree, LookupsAgree, MayGo, MayOpen, Node, NodeId, Opening, Place, Plan, PointsRightly, Suits, Table, Tracker, Tree, Val, Way, as_elements, as_fields, as_items, as_tracker, begun, begun_by, change_at, change_child, child_as, child_node, child_tree, count_below, def_of, deferred, enter, entry_refusal, field_refusal, heap_of, hole, is_map, is_map_tracker, kid_shown, no_trees, node_here, number_told, onward, opened_as, put_child, shape_of, step_as, takes_at_end, top_place, top_shape, top_tree, tracker_at, tree_at, tree_in, whole, whole_tree}
+use Rattle.fr_model.specs.DynamicPlaces.{is_begun_object, keys_here}
 use Rattle.fr_model.specs.Dynamics.{keys_apart}
 use Rattle.fr_model.specs.Entering.{entered_on, number_on}
 use Rattle.fr_model.specs.PathLaws.{step_on, HasBegun, IsAdmittedOn}
-use Rattle.fr_model.specs.Paths.{step_as}
-use Rattle.fr_model.specs.Places.{Place}
-use Rattle.fr_model.specs.Step.{enter, field_refusal, opened_as, put_child}
-use Rattle.fr_model.specs.Tree.{Form, as_struct, as_array, as_variant, as_dyn_array, child_as, child_tree, form_at, Tree, hole, whole, begun, no_trees, change_at, change_child, count_below, deferred, tree_at}
-use Rattle.fr_model.specs.Well.{IsFullAs, Leads, Suits}
-use Rattle.fr_plan.specs.declared.nodes.NodeId.{NodeId}
-use Rattle.fr_plan.specs.LookupLaws.{LookupsAgree, LookupPathsAgree}
-use Rattle.fr_plan.specs.TypePlan.{Plan}
-use Rattle.fr_frame.specs.Bodies.{MayOpen}
-use Rattle.fr_frame.specs.Completing.{shape_of}
-use Rattle.fr_frame.specs.Heap.{Node, as_form, heap_of}
-use Rattle.fr_frame.specs.Kids.{child_node, tree_in}
-use Rattle.fr_store.specs.Moves.{entry_here, node_here, takes_at_end, with_entry_of, with_item_of, with_key_of, AtTop, HasChild}
-use Rattle.fr_store.specs.ShapeLaws.{child_shaped, Along, IsOfShape, PointsRightly}
-use Rattle.fr_store.specs.Stands.{kid_shown, IsOpen}
-use Rattle.fr_partial.specs.declared.admitting.Opening.{Opening}
-use Rattle.fr_partial.specs.declared.moves.Way.{Way}
-use Rattle.fr_partial.specs.declared.work.Frames.{Frames}
-use Rattle.fr_partial.specs.Beginnings.{begun_by}
-use Rattle.fr_partial.specs.Entering.{Describes}
-use Rattle.fr_partial.specs.Moving.{number_told, onward, step_told, MayGo}
-use Rattle.fr_partial.specs.Openings.{HasItems}
-use Rattle.fr_partial.specs.Underway.{top_place, top_shape, top_tree, whole_tree, Became, Changed, IsAtWork}
+use Rattle.fr_frame.specs.declared.places.ChildWay.{ChildWay}
+use Rattle.fr_store.specs.Moves.{child_number, tree_here, with_entry_of, with_item_of, with_key_of}
+use Rattle.fr_store.specs.ShapeLaws.{child_shaped}
+use Rattle.fr_partial.specs.Moving.{step_told}
 use Rattle.fr_partial.proofs.BeginLaws.{opened_within}
 use Rattle.fr_partial.proofs.BelowLaws.{changed_takes, never_map}
 use Rattle.fr_partial.proofs.EnterLaws.{def_entered, has_child, may_open, node_stays}
 use Rattle.fr_partial.proofs.FitLaws.{is_there}
-use Rattle.fr_partial.proofs.FormLaws.{form_is_at, full_tree, of_fields, opened_same, points_so}
+use Rattle.fr_partial.proofs.TrackerLaws.{tracker_is_at, full_tree, of_fields, opened_same, points_so}
 use Rattle.fr_partial.proofs.HereLaws.{body_here, by_plot}
 use Rattle.fr_partial.proofs.KeepLaws.{became_after, changed_as}
-use Rattle.fr_partial.proofs.KeptLaws.{content_so, kept_as_form, points_around}
+use Rattle.fr_partial.proofs.KeptLaws.{content_so, kept_as_tracker, points_around}
 use Rattle.fr_partial.proofs.ListLaws.{any_count, by_items, has_count, item_so, item_step, room_for_all}
 use Rattle.fr_partial.proofs.MapLaws.{key_so, more_entries, value_so}
 use Rattle.fr_partial.proofs.ObjectLaws.{apart_here, counted_here, entered_so, entry_object, number_so}
@@ -58,111 +36,106 @@ pub record Goes (plan : Plan) (frames : Frames) (met way : Way) : Type 0 where
   pub above_is : above ≡ node_here plan frames.slots frames.stack
 
 -- as what the place is begun then; each entry of a dynamic object lies as an element lies in an array
-abbrev pub form_on : Way → Form
-form_on (Way.Child i opening) = as_form opening.form
-form_on (Way.Item opening) = as_form opening.form
-form_on (Way.Key opening) = as_form opening.form
-form_on (Way.Value opening) = as_form opening.form
-form_on (Way.Entry key) = as_dyn_array
-form_on (Way.Content form beginning) = as_form form
+abbrev pub tracker_on : Way → Tracker
+tracker_on (Way.Child i opening) = as_tracker opening.tracker
+tracker_on (Way.Item opening) = as_tracker opening.tracker
+tracker_on (Way.Key opening) = as_tracker opening.tracker
+tracker_on (Way.Value opening) = as_tracker opening.tracker
+tracker_on (Way.Entry key) = as_items ItemsKind.Array
+tracker_on (Way.Content tracker beginning) = as_tracker tracker
 
 -- what is made of the place, where the child has this definition
 abbrev pub done_on : Way → Def → Tree → Tree
-done_on (Way.Child i opening) def = λ old. change_child i (enter def) (opened_as (as_form opening.form) opening.count old)
+done_on (Way.Child i opening) def = λ old. change_child i (enter def) (opened_as (as_tracker opening.tracker) opening.count old)
 done_on (Way.Item opening) def = with_item_of def
 done_on (Way.Key opening) def = with_key_of def
 done_on (Way.Value opening) def = change_child opening.count (enter def)
 done_on (Way.Entry key) def = with_entry_of def key.now
-done_on (Way.Content form beginning) def = λ old. change_child 0 (enter def) (begun_by beginning (as_form form) 1 old)
+done_on (Way.Content tracker beginning) def = λ old. change_child 0 (enter def) (begun_by beginning (as_tracker tracker) 1 old)
 
 -- so many children the place may have, and this is one of them
-record Holds (table : Table) (s : ℕ) (form : Form) (i : ℕ) : Type 0 where
+record Holds (table : Table) (s : ℕ) (tracker : Tracker) (i : ℕ) : Type 0 where
   count : ℕ
-  full : IsFullAs (def_of table s) form count
-  points : PointsRightly table s form
+  full : IsFullAs (def_of table s) tracker count
+  points : PointsRightly table s tracker
   below : i < count
 
 dynamic_holds : (table : Table) (s : ℕ) (def : Def) (tree : Tree) → def_of table s ≡ def → entry_refusal def tree ≡ None
-    → Holds table s as_dyn_array 0
+    → Holds table s (as_items ItemsKind.Array) 0
 dynamic_holds table s Def.Dynamic tree is may =
-    record { count = 1; full = subst (λ (d : Def). IsFullAs d as_dyn_array 1) (sym is) tt; points = tt; below = omega arith }
+    record { count = 1; full = subst (λ (d : Def). IsFullAs d (as_items ItemsKind.Array) 1) (sym is) tt; points = tt; below = omega arith }
 dynamic_holds table s _ tree is may = cc
 
 module _ (table : Table) (s : ℕ) (tree : Tree) (suits : Suits table s tree) where
-  holds : (way : Way) → MayGo table s tree way → Holds table s (form_on way) (number_told way)
+  holds : (way : Way) → MayGo table s tree way → Holds table s (tracker_on way) (number_told way)
   holds (Way.Child i opening) may = record {
     count = opening.count;
     full = may.0.begun;
-    points = points_so table s (def_of table s) tree (as_form opening.form) opening.count i may.0.begun may.1;
+    points = points_so table s (def_of table s) tree (as_tracker opening.tracker) opening.count i may.0.begun may.1;
     below = opened_within table s tree i opening may.0 may.1;
   }
   holds (Way.Item opening) may =
-      let room = room_for_all table s (as_form opening.form) opening.count tree may.0 suits in
-      let full = any_count (def_of table s) (as_form opening.form) opening.count (suc opening.count) may.1 room.0 in
+      let room = room_for_all table s (as_tracker opening.tracker) opening.count tree may.0 suits in
+      let full = any_count (def_of table s) (as_tracker opening.tracker) opening.count (suc opening.count) may.1 room.0 in
       record { count = suc opening.count; full = full; points = room.1; below = omega arith }
   holds (Way.Key opening) may =
-      let room = room_for_all table s (as_form opening.form) opening.count tree may.0 suits in
-      let full = more_entries (def_of table s) opening.count (as_form opening.form) may.1 room.0 in
+      let room = room_for_all table s (as_tracker opening.tracker) opening.count tree may.0 suits in
+      let full = more_entries (def_of table s) opening.count (as_tracker opening.tracker) may.1 room.0 in
       record { count = suc (suc opening.count); full = full; points = room.1; below = omega arith }
   holds (Way.Value opening) may =
-      let room = room_for_all table s (as_form opening.form) (suc opening.count) tree may.0 suits in
+      let room = room_for_all table s (as_tracker opening.tracker) (suc opening.count) tree may.0 suits in
       record { count = suc opening.count; full = room.0; points = room.1; below = omega arith }
   holds (Way.Entry key) may = dynamic_holds table s (def_of table s) tree refl may
-  holds (Way.Content form beginning) may =
-      record { count = 1; full = may.1; points = points_around table s (as_form form) may.0; below = omega arith }
+  holds (Way.Content tracker beginning) may =
+      record { count = 1; full = may.1; points = points_around table s (as_tracker tracker) may.0; below = omega arith }
 
   -- what is made of the place is just what the way means
-  done_is : (way : Way) → MayGo table s tree way → (def : Def) → def ≡ def_of table (child_as table s (form_on way) (number_told way))
+  done_is : (way : Way) → MayGo table s tree way → (def : Def) → def ≡ def_of table (child_as table s (tracker_on way) (number_told way))
       → done_on way def tree ≡ entered_on table s (onward way tree) tree
   done_is (Way.Child i opening) may def is =
-      let form : Form = as_form opening.form in
-      ap (λ (d : Def). change_child i (enter d) (opened_as form opening.count tree))
-      (is
-      ∙ ap (λ (f : Form). def_of table (child_as table s f i))
-      (form_is_at (def_of table s) tree form opening.count i may.0.begun may.0.variant (full_tree table s tree suits) may.1))
-      ∙ ap (change_child i (enter (def_of table (child_as table s (form_at (def_of table s) tree) i))))
-      (opened_same (def_of table s) tree form opening.count i may.0.begun may.1)
-  done_is (Way.Item opening) may def is = item_so table s def (as_form opening.form) opening.count tree may.0 is
-  done_is (Way.Key opening) may def is = key_so table s def (as_form opening.form) opening.count tree may.0 is
+      let tracker : Tracker = as_tracker opening.tracker in
+      ap (λ (d : Def). change_child i (enter d) (opened_as tracker opening.count tree)) (is
+      ∙ ap (λ (f : Tracker). def_of table (child_as table s f i))
+      (tracker_is_at (def_of table s) tree tracker opening.count i may.0.begun may.0.variant (full_tree table s tree suits) may.1))
+      ∙ ap (change_child i (enter (def_of table (child_as table s (tracker_at (def_of table s) tree) i))))
+      (opened_same (def_of table s) tree tracker opening.count i may.0.begun may.1)
+  done_is (Way.Item opening) may def is = item_so table s def (as_tracker opening.tracker) opening.count tree may.0 is
+  done_is (Way.Key opening) may def is = key_so table s def (as_tracker opening.tracker) opening.count tree may.0 is
   done_is (Way.Value opening) may def is =
-      value_so table s opening.count def (as_form opening.form) (suc opening.count) tree may.0 is
-  done_is (Way.Entry key) may def is =
-      entered_so table s tree (entry_object (def_of table s) tree may) suits key.now def is
-  done_is (Way.Content form beginning) may def is =
-      content_so table s beginning (as_form form) may.0 tree may.2 suits def is
+      value_so table s opening.count def (as_tracker opening.tracker) (suc opening.count) tree may.0 is
+  done_is (Way.Entry key) may def is = entered_so table s tree (entry_object (def_of table s) tree may) suits key.now def is
+  done_is (Way.Content tracker beginning) may def is =
+      content_so table s beginning (as_tracker tracker) may.0 tree may.2 suits def is
 
   -- The model admits the way, by the step that it tells.
 
-  item_steps : (opening : Opening) → HasItems (as_form opening.form) opening.count tree
-      → step_as (form_at (def_of table s) tree) (count_below tree) ≡ step_as (as_form opening.form) opening.count
+  item_steps : (opening : Opening) → HasItems (as_tracker opening.tracker) opening.count tree
+      → step_as (tracker_at (def_of table s) tree) (count_below tree) ≡ step_as (as_tracker opening.tracker) opening.count
   item_steps opening has =
-      ap (step_as (form_at (def_of table s) tree)) (has_count (as_form opening.form) opening.count tree has)
-      ∙ item_step (def_of table s) opening.count (as_form opening.form) opening.count tree has
+      ap (step_as (tracker_at (def_of table s) tree)) (has_count (as_tracker opening.tracker) opening.count tree has)
+      ∙ item_step (def_of table s) opening.count (as_tracker opening.tracker) opening.count tree has
 
   -- it is admitted
   pub admitted : (way : Way) → MayGo table s tree way → IsAdmittedOn tree (onward way tree)
-  admitted (Way.Child i opening) may = tt
   admitted (Way.Item opening) may =
-      by_items (λ form count t. HasBegun t) (λ made ts. tt) (as_form opening.form) opening.count tree may.0
+      by_items (λ tracker count t. HasBegun t) (λ made ts. tt) (as_tracker opening.tracker) opening.count tree may.0
   admitted (Way.Key opening) may =
-      by_items (λ form count t. HasBegun t) (λ made ts. tt) (as_form opening.form) opening.count tree may.0
-  admitted (Way.Value opening) may = tt
+      by_items (λ tracker count t. HasBegun t) (λ made ts. tt) (as_tracker opening.tracker) opening.count tree may.0
   admitted (Way.Entry key) may = entry_object (def_of table s) tree may
-  admitted (Way.Content form beginning) may = kept_as_form beginning (as_form form) tree may.2
+  admitted (Way.Content tracker beginning) may = kept_as_tracker beginning (as_tracker tracker) tree may.2
+  admitted _ may = tt
 
   -- and tells the step
   pub step_is : (way : Way) → MayGo table s tree way → step_on (def_of table s) tree (onward way tree) ≡ step_told way
   step_is (Way.Child i opening) may =
-      ap (λ (f : Form). step_as f i)
-      (sym
-      (form_is_at (def_of table s) tree (as_form opening.form) opening.count i may.0.begun may.0.variant
+      ap (λ (f : Tracker). step_as f i) (sym
+      (tracker_is_at (def_of table s) tree (as_tracker opening.tracker) opening.count i may.0.begun may.0.variant
       (full_tree table s tree suits) may.1))
   step_is (Way.Item opening) may = item_steps opening may.0
   step_is (Way.Key opening) may = item_steps opening may.0
   step_is (Way.Value opening) may =
-      item_step (def_of table s) opening.count (as_form opening.form) (suc opening.count) tree may.0
-  step_is (Way.Entry key) may = refl
-  step_is (Way.Content form beginning) may = refl
+      item_step (def_of table s) opening.count (as_tracker opening.tracker) (suc opening.count) tree may.0
+  step_is _ may = refl
 
 -- At the place on top of the stack.
 
@@ -174,19 +147,18 @@ module _ {plan : Plan} {frames : Frames} {met way : Way} (goes : Goes plan frame
   here : Along frames.table.now plan (node_here plan frames.slots frames.stack) (top_shape frames) (top_tree frames)
   here = here_along goes.agree goes.paths _ _ _ _ _ goes.work.ready
 
-  module _ {node : NodeId} (is : node ≡ child_node plan goes.above (form_on way) (number_told way)) where
+  module _ {node : NodeId} (is : node ≡ child_node plan goes.above (tracker_on way) (number_told way)) where
     -- the child's node is that of the place on top
-    pub node_is : node ≡ child_node plan (node_here plan frames.slots frames.stack) (form_on way) (number_told way)
-    node_is = is ∙ ap (λ (n : NodeId). child_node plan n (form_on way) (number_told way)) goes.above_is
+    pub node_is : node ≡ child_node plan (node_here plan frames.slots frames.stack) (tracker_on way) (number_told way)
+    node_is = is ∙ ap (λ (n : NodeId). child_node plan n (tracker_on way) (number_told way)) goes.above_is
 
-    shaped : IsOfShape plan node (child_as frames.table.now (top_shape frames) (form_on way) (number_told way))
+    shaped : IsOfShape plan node (child_as frames.table.now (top_shape frames) (tracker_on way) (number_told way))
     shaped =
         let held = holds frames.table.now (top_shape frames) (top_tree frames) here.suits way may_go in
         let ready = goes.work.ready in
-        subst (λ (n : NodeId). IsOfShape plan n (child_as frames.table.now (top_shape frames) (form_on way) (number_told way)))
-        (sym node_is)
-        (child_shaped goes.agree frames.table.now frames.root plan ready.checked ready.inside ready.planned _
-        (top_shape frames) (form_on way) held.count (number_told way) here.node_is held.full held.points held.below)
+        subst (λ (n : NodeId). IsOfShape plan n (child_as frames.table.now (top_shape frames) (tracker_on way) (number_told way)))
+        (sym node_is) (child_shaped goes.agree frames.table.now frames.root plan ready.checked ready.inside ready.planned _
+        (top_shape frames) (tracker_on way) held.count (number_told way) here.node_is held.full held.points held.below)
 
     -- it is one of the plan's
     pub is_planned : node.0 < length plan.nodes
@@ -201,9 +173,7 @@ module _ {plan : Plan} {frames : Frames} {met way : Way} (goes : Goes plan frame
     went {after} done =
         subst (λ (w : Way). Became plan (top_place frames ++ number_on (onward w (top_tree frames)) (top_tree frames) ∷ [])
         (change_at (top_place frames) (entered_on frames.table.now (top_shape frames) (onward w (top_tree frames)))
-        (whole_tree frames)) frames after)
-        (sym goes.is)
-        (changed_as (done_on way (def_of frames.table.now (shape_of plan node)))
+        (whole_tree frames)) frames after) (sym goes.is) (changed_as (done_on way (def_of frames.table.now (shape_of plan node)))
         (entered_on frames.table.now (top_shape frames) (onward way (top_tree frames)))
         (done_is frames.table.now (top_shape frames) (top_tree frames) here.suits way may_go _
         (def_entered frames.table.now plan node _ shaped)) done)
@@ -223,58 +193,50 @@ module _ {plan : Plan} {frames : Frames} {met : Way} {key : Bor (List ℕ)} (goe
   keys_are_counted = counted_here _ _ (top_tree frames) is_object (here goes).suits
 
   -- the entry is the one that is found, or the last
-  pub went_entry : {after : Frames} → Became plan (top_place frames ++ entry_here key.now frames.slots frames.stack ∷ [])
+  pub went_entry : {after : Frames} → Became plan (top_place frames ++ child_number (ChildWay.Entry key) (tree_here frames.slots frames.stack) ∷ [])
       (change_at (top_place frames) (with_entry_of (def_of frames.table.now (shape_of plan goes.above)) key.now) (whole_tree frames))
-      frames after
-      → Became plan (top_place frames ++ number_on (onward met (top_tree frames)) (top_tree frames) ∷ [])
+      frames after → Became plan (top_place frames ++ number_on (onward met (top_tree frames)) (top_tree frames) ∷ [])
       (change_at (top_place frames) (entered_on frames.table.now (top_shape frames) (onward met (top_tree frames)))
       (whole_tree frames)) frames after
   went_entry {after} done =
-      went goes refl
-      (subst (λ (n : ℕ). Became plan (top_place frames ++ n ∷ [])
+      went goes refl (subst (λ (n : ℕ). Became plan (top_place frames ++ n ∷ [])
       (change_at (top_place frames) (with_entry_of (def_of frames.table.now (shape_of plan goes.above)) key.now) (whole_tree frames))
-      frames after)
-      (number_so _ _ (top_tree frames) is_object (here goes).suits key.now) done)
+      frames after) (number_so _ _ (top_tree frames) is_object (here goes).suits key.now) done)
 
 -- a field or an element: the place may be begun for it, and has it then
 module _ {plan : Plan} {frames : Frames} {met : Way} {i : ℕ} {opening : Opening} (goes : Goes plan frames met (Way.Child i opening)) where
   -- so it is of the form
-  pub of_opening : (So : Form → Type 0) → So as_struct → So as_array → ((k : ℕ) → So (as_variant k)) → So (as_form opening.form)
+  pub of_opening : (So : Tracker → Type 0) → So (as_fields None) → So as_elements → ((k : ℕ) → So (as_fields (Some k))) → So (as_tracker opening.tracker)
   of_opening So of_struct of_array of_variant =
       of_fields So of_struct of_array of_variant (def_of frames.table.now (top_shape frames)) (top_tree frames)
-      (as_form opening.form) opening.count i (may_go goes).0.begun (may_go goes).1
+      (as_tracker opening.tracker) opening.count i (may_go goes).0.begun (may_go goes).1
 
   -- it may be begun so
-  pub opens : AtTop frames.slots frames.stack (λ (at : Node). MayOpen (as_form opening.form) at.body)
+  pub opens : AtTop frames.slots frames.stack (λ (at : Node). MayOpen (as_tracker opening.tracker) at.body)
   opens =
-      body_here goes.work.ready.shown
-      (λ t. Suits frames.table.now (top_shape frames) t
-      × (field_refusal (def_of frames.table.now (top_shape frames)) t i ≡ None))
-      (MayOpen (as_form opening.form))
-      (λ plot so. may_open _ _ i (as_form opening.form) opening.count plot (may_go goes).0.begun so.0 so.1)
+      body_here goes.work.ready.shown (λ t. Suits frames.table.now (top_shape frames) t
+      × (field_refusal (def_of frames.table.now (top_shape frames)) t i ≡ None)) (MayOpen (as_tracker opening.tracker))
+      (λ plot so. may_open _ _ i (as_tracker opening.tracker) opening.count plot (may_go goes).0.begun so.0 so.1)
       ((here goes).suits, (may_go goes).1)
 
   -- and has the child then
-  pub opened_has : HasChild (as_form opening.form) i (opened_as (as_form opening.form) opening.count (top_tree frames))
+  pub opened_has : HasChild (as_tracker opening.tracker) i (opened_as (as_tracker opening.tracker) opening.count (top_tree frames))
   opened_has =
-      by_plot goes.work.ready.shown
-      (λ t. Describes frames.table.now (top_shape frames) t opening
+      by_plot goes.work.ready.shown (λ t. Describes frames.table.now (top_shape frames) t opening
       → field_refusal (def_of frames.table.now (top_shape frames)) t i ≡ None → Suits frames.table.now (top_shape frames) t
-      → HasChild (as_form opening.form) i (opened_as (as_form opening.form) opening.count t))
-      (λ plot says may suits.
-      has_child _ _ i (as_form opening.form) opening.count plot says.begun says.variant
-      (opened_within _ _ (tree_in plot) i opening says may) suits may)
-      (may_go goes).0 (may_go goes).1 (here goes).suits
+      → HasChild (as_tracker opening.tracker) i (opened_as (as_tracker opening.tracker) opening.count t)) (λ plot says may suits.
+      has_child _ _ i (as_tracker opening.tracker) opening.count plot says.begun says.variant
+      (opened_within _ _ (tree_in plot) i opening says may) suits may) (may_go goes).0 (may_go goes).1 (here goes).suits
 
   -- a value that is put there isn't completed as it is left
   pub put_no_item : (v : Val)
       → takes_at_end (put_child (def_of frames.table.now (top_shape frames)) i v (top_tree frames)) ≡ false
   put_no_item v =
-      changed_takes (as_form opening.form) i (λ old. whole v) _
-      (subst (λ (t : Tree). HasChild (as_form opening.form) i t)
-      (opened_same (def_of frames.table.now (top_shape frames)) (top_tree frames) (as_form opening.form) opening.count i
+      changed_takes (as_tracker opening.tracker) i (λ old. whole v) _
+      (subst (λ (t : Tree). HasChild (as_tracker opening.tracker) i t)
+      (opened_same (def_of frames.table.now (top_shape frames)) (top_tree frames) (as_tracker opening.tracker) opening.count i
       (may_go goes).0.begun (may_go goes).1) opened_has)
-      ∙ of_opening (λ form. takes_at_end (begun form no_trees) ≡ false) refl refl (λ k. refl)
+      ∙ of_opening (λ tracker. takes_at_end (begun tracker no_trees) ≡ false) refl refl (λ k. refl)
 
 -- What stands there after a change.
 module _ {plan : Plan} (frames : Frames) (shown : IsOpen plan frames.slots frames.stack) (change : Tree → Tree) where
@@ -288,8 +250,7 @@ module _ {plan : Plan} (frames : Frames) (shown : IsOpen plan frames.slots frame
   -- and where the open places became so
   pub tree_then : {between : Frames} → Changed plan change frames between → top_tree between ≡ change (top_tree frames)
   tree_then {between} made =
-      ap (λ (p : Place). tree_at p (whole_tree between)) made.stands.cursor
-      ∙ ap (tree_at (top_place frames)) made.stands.built
+      ap (λ (p : Place). tree_at p (whole_tree between)) made.stands.cursor ∙ ap (tree_at (top_place frames)) made.stands.built
       ∙ made_here
 
 -- What was begun so, without going on yet.
@@ -302,18 +263,18 @@ module _ {plan : Plan} {frames between : Frames} (shown : IsOpen plan frames.slo
       (leads frames shown change) made.stands.built
 
   -- the node that was looked up is that of the child still
-  pub node_after : {node : NodeId} (form : Form) (i : ℕ) → node ≡ child_node plan (node_here plan frames.slots frames.stack) form i
-      → node ≡ child_node plan (node_here plan between.slots between.stack) form i
-  node_after form i is = is ∙ ap (λ (n : NodeId). child_node plan n form i) (sym node_then)
+  pub node_after : {node : NodeId} (tracker : Tracker) (i : ℕ) → node ≡ child_node plan (node_here plan frames.slots frames.stack) tracker i
+      → node ≡ child_node plan (node_here plan between.slots between.stack) tracker i
+  node_after tracker i is = is ∙ ap (λ (n : NodeId). child_node plan n tracker i) (sym node_then)
 
   -- the child is there
-  pub has_then : (form : Form) (i : ℕ) → HasChild form i (change (top_tree frames)) → HasChild form i (top_tree between)
-  has_then form i has = subst (λ (t : Tree). HasChild form i t) (sym (tree_then frames shown change made)) has
+  pub has_then : (tracker : Tracker) (i : ℕ) → HasChild tracker i (change (top_tree frames)) → HasChild tracker i (top_tree between)
+  has_then tracker i has = subst (λ (t : Tree). HasChild tracker i t) (sym (tree_then frames shown change made)) has
 
   -- no map was begun so
-  pub none_then : (form : Form) (i : ℕ) → HasChild form i (change (top_tree frames)) → is_map_form form ≡ false
+  pub none_then : (tracker : Tracker) (i : ℕ) → HasChild tracker i (change (top_tree frames)) → is_map_tracker tracker ≡ false
       → is_map (top_tree between) ≡ true → child_tree i (top_tree between) ≡ hole
-  none_then form i has other of_map = absurd (never_map form i (top_tree between) (has_then form i has) other of_map)
+  none_then tracker i has other of_map = absurd (never_map tracker i (top_tree between) (has_then tracker i has) other of_map)
 
   -- and then one of its children was changed
   pub went_after : {after : Frames} (i : ℕ) (further : Tree → Tree)

@@ -1,35 +1,13 @@
 -- Handing over the value that the place on top holds: whether it may be, what comes of it, and the path and the state then.
 use Rattle.std.proofs.Common.{◌≡◌, ℕ, Bool, true, false, List, [], ◌∷◌, ◌++◌, Result, Ok, Err, OnOk, Some, None, Option, IsErr, IsSome, IsOk, inl, inr, refl, sym, ◌∙◌, ap, subst}
-use Rattle.std.specs.Prelude.{is_some, IsSomeAnd}
-use Rattle.fr_shape.specs.declared.error.ReflectErrorKind.{ReflectErrorKind}
-use Rattle.fr_shape.specs.Hooks.{Meanings}
-use Rattle.fr_shape.specs.Look.{Table}
-use Rattle.fr_shape.specs.Val.{Val}
-use Rattle.fr_path.specs.declared.path_steps.PathStep.{PathStep}
-use Rattle.fr_model.specs.Collections.{is_set, number_in, with_ended_item}
-use Rattle.fr_model.specs.Complete.{complete}
+use Rattle.fr_partial.specs.Common.{AreOpen, AtTop, Became, Body, Frames, HoldsItsValue, IsOpenAt, IsServed, IsSomeAnd, MayReceive, Meanings, Node, PathStep, Place, Plan, ReflectErrorKind, Rules, SameMarks, Slot, State, Table, Tree, Val, body_in, change_at, complete, cursor_tree, heap_of, is_root, is_set, is_some, mode_of, needs_none_by, one_more_call, open_top, path_of, strict_column, takes_memory, takes_no_memory, top_place, top_shape, top_tree, tree_at, up, value_of, whole, whole_tree}
+use Rattle.fr_model.specs.Collections.{number_in, with_ended_item}
 use Rattle.fr_model.specs.PathLaws.{ChangingKeepsThePath, LeadAbove, LeavingDropsAStep, PathIsAsDeep}
-use Rattle.fr_model.specs.Paths.{path_of, steps_in}
-use Rattle.fr_model.specs.Places.{strict_column, Place, is_root, up}
-use Rattle.fr_model.specs.Served.{IsServed}
-use Rattle.fr_model.specs.Tree.{State, Tree, change_at, cursor_tree, one_more_call, tree_at, whole}
-use Rattle.fr_plan.specs.TypePlan.{Plan}
-use Rattle.fr_frame.specs.declared.places.Slot.{Slot}
-use Rattle.fr_frame.specs.Bodies.{Body, takes_memory, value_of}
-use Rattle.fr_frame.specs.Changes.{SameMarks}
-use Rattle.fr_frame.specs.Heap.{Node, heap_of}
-use Rattle.fr_frame.specs.Kids.{body_in}
+use Rattle.fr_model.specs.Paths.{steps_in}
 use Rattle.fr_store.specs.LeaveLaws.{below_root}
-use Rattle.fr_store.specs.MoveLaws.{open_top}
-use Rattle.fr_store.specs.Moves.{AtTop, IsOpenAt}
-use Rattle.fr_partial.specs.declared.moves.Rules.{Rules}
 use Rattle.fr_partial.specs.declared.moves.Taker.{Taker}
-use Rattle.fr_partial.specs.declared.work.Frames.{Frames}
-use Rattle.fr_partial.specs.Ending.{column_of, needs_none_by, place_then, tree_then, Handed, HoldsItsValue, IsCompleted, IsHandedOver, IsPathThen, IsUncompleted, MayReceive}
-use Rattle.fr_partial.specs.Filling.{takes_no_memory}
+use Rattle.fr_partial.specs.Ending.{column_of, place_then, tree_then, Handed, IsCompleted, IsHandedOver, IsPathThen, IsUncompleted}
 use Rattle.fr_partial.specs.Moving.{completes, handed, handed_if, is_late_by, MayTake}
-use Rattle.fr_partial.specs.Modes.{mode_of}
-use Rattle.fr_partial.specs.Underway.{top_place, top_shape, top_tree, whole_tree, AreOpen, Became}
 use Rattle.fr_partial.proofs.HereLaws.{top_body}
 use Rattle.fr_partial.proofs.KeepLaws.{became_after, became_marked}
 use Rattle.fr_partial.proofs.LackLaws.{only_wants}
@@ -49,8 +27,7 @@ pub handed_over : {A E : Type 0} (result : Result A E) {taker by : Taker} {plan 
     → OnOk result (IsHandedOver taker plan frames (record frames { slots = slots; stack = stack }))
 handed_over (Err e) slots stack is shown marks over = over
 handed_over (Ok done) {taker} {by} {plan} {frames} slots stack is shown marks over =
-    subst (λ (x : Taker). IsHandedOver x plan frames (record frames { slots = slots; stack = stack })) (sym is)
-    (λ n last.
+    subst (λ (x : Taker). IsHandedOver x plan frames (record frames { slots = slots; stack = stack })) (sym is) (λ n last.
     some_then (heap_of frames.slots n) (λ (at : Node) ended v held. became_marked shown marks (ended v held)) (over n last))
 
 -- what stood there before doesn't matter
@@ -58,8 +35,7 @@ handed_twice : (taker : Taker) (now : Tree) (v : Val) (frames : Frames) → MayR
     → tree_then taker (top_place frames) v (change_at (top_place frames) (λ old. now) (whole_tree frames))
     ≡ tree_then taker (top_place frames) v (whole_tree frames)
 handed_twice Taker.Set now v frames may = item_over (top_place frames) v (λ old. now) (whole_tree frames) may.0
-handed_twice Taker.Above now v frames may = changed_twice (top_place frames) (λ old. whole v) (λ old. now) (whole_tree frames)
-handed_twice Taker.Itself now v frames may = changed_twice (top_place frames) (λ old. whole v) (λ old. now) (whole_tree frames)
+handed_twice _ now v frames may = changed_twice (top_place frames) (λ old. whole v) (λ old. now) (whole_tree frames)
 
 false_by : (b : Bool) → (b ≡ true → ⊥) → b ≡ false
 false_by false not = refl
@@ -74,8 +50,7 @@ module _ {rules : Rules} {means : Meanings} {plan : Plan} {before between : Fram
     ap is_root holds.changed.stands.cursor ∙ may.0,
     ap (λ (p : Place). is_set (tree_at (up p) (whole_tree between))) holds.changed.stands.cursor
         ∙ ap (λ (t : Tree). is_set (tree_at (up (top_place before)) t)) holds.changed.stands.built
-        ∙ set_stays (top_place before) (λ old. holds.now) (whole_tree before) may.0
-        ∙ may.1,
+        ∙ set_stays (top_place before) (λ old. holds.now) (whole_tree before) may.0 ∙ may.1,
   )
   may_receive Taker.Itself may = ap (λ (f : Frames). mode_of f.mode) holds.changed.same ∙ may
 
@@ -109,14 +84,12 @@ module _ {rules : Rules} {means : Meanings} {plan : Plan} {before between : Fram
       → IsUncompleted rules means before.table.now (top_shape before) (top_tree before) ReflectErrorKind.OutOfMemory
   not_handed {A} {E} {result} {e} is memory =
       go rules holds.meant (λ none.
-      let ok : IsOk result
-      = at_top (λ (body : Body). takes_memory body ≡ false → IsOk result) memory
+      let ok : IsOk result = at_top (λ (body : Body). takes_memory body ≡ false → IsOk result) memory
       (at_top (λ (body : Body). takes_memory body ≡ false) (holds.unboxed none)) in
       let no = rw is at ok in
       cc)
     where
-      go : (by : Rules)
-          → complete (column_of by) means before.table.now (top_shape before) (top_tree before) ≡ Some holds.value
+      go : (by : Rules) → complete (column_of by) means before.table.now (top_shape before) (top_tree before) ≡ Some holds.value
           → (needs_none_by by (top_tree before) ≡ true → ⊥)
           → IsUncompleted by means before.table.now (top_shape before) (top_tree before) ReflectErrorKind.OutOfMemory
       go Rules.Strict meant never =
@@ -124,8 +97,7 @@ module _ {rules : Rules} {means : Meanings} {plan : Plan} {before between : Fram
           (record {
             memory = refl;
             needed =
-                inl
-                (ap (λ (v : Option Val). is_some v) meant, false_by (takes_no_memory (top_tree before)) never);
+                inl (ap (λ (v : Option Val). is_some v) meant, false_by (takes_no_memory (top_tree before)) never);
           })
       go Rules.Deferred meant never = inl refl
 
@@ -141,8 +113,7 @@ handed_is _ state v = refl
 
 -- where it makes this value, that state is meant
 pub is_meant : (rules : Rules) (taker : Taker) (hooks : Meanings) (table : Table) (s : ℕ) (state : State) (v : Val)
-    → complete (column_of rules) hooks table s (cursor_tree state) ≡ Some v
-    → completes rules taker hooks table s state
+    → complete (column_of rules) hooks table s (cursor_tree state) ≡ Some v → completes rules taker hooks table s state
     ≡ Ok (record state {
       tree = tree_then taker state.cursor v state.tree;
       cursor = place_then taker state.cursor;

@@ -1,19 +1,7 @@
 -- The body of the place on top, by what stands there.
 use Rattle.std.proofs.Common.{◌≡◌, ℕ, false, List, Option, Some, IsSome, is_some, sym, ◌∙◌, ap, subst}
-use Rattle.std.specs.Prelude.{IsSomeAnd}
-use Rattle.fr_shape.specs.declared.shape.Def.{Def}
-use Rattle.fr_shape.specs.Val.{Val}
-use Rattle.fr_model.specs.Tree.{Form, Tree, whole}
-use Rattle.fr_plan.specs.TypePlan.{Plan}
-use Rattle.fr_frame.specs.declared.places.Slot.{Slot}
-use Rattle.fr_frame.specs.Bodies.{Body, takes_memory, value_of, HoldsArray, HoldsObject, HoldsSome, MayOpen}
-use Rattle.fr_frame.specs.Heap.{Node}
-use Rattle.fr_frame.specs.Kids.{Plot, entered_plot, whole_plot, begun_plot, tree_in, body_in}
-use Rattle.fr_store.specs.MoveLaws.{open_top}
-use Rattle.fr_store.specs.Moves.{tree_here, AtTop}
-use Rattle.fr_store.specs.Stands.{IsOpen}
-use Rattle.fr_partial.specs.Beginnings.{IsWholeSome}
-use Rattle.fr_partial.specs.Openings.{MayOpenAs}
+use Rattle.fr_partial.specs.Common.{AtTop, Body, Def, IsOpen, IsSomeAnd, IsWholeSome, MayOpen, MayOpenAs, Node, Plan, Plot, Slot, Tracker, Tree, Val, begun_plot, body_in, entered_plot, open_top, takes_memory, tree_here, tree_in, value_of, whole, whole_plot}
+use Rattle.fr_frame.specs.Bodies.{HoldsArray, HoldsObject, HoldsSome}
 use Rattle.fr_partial.specs.declared.dynamic_places.Parts.{Parts}
 use Rattle.fr_partial.proofs.DynamicLaws.{has_elements, has_entries, IsWholeWith}
 use Rattle.fr_partial.proofs.PlaceLaws.{here_found, plot_here}
@@ -34,11 +22,10 @@ value_plot : (plot : Plot) (v : Val) → tree_in plot ≡ whole v → plot ≡ w
 value_plot (whole_plot w) v e = let same : w ≡ v = cc in ap whole_plot same
 value_plot _ v e = cc
 
-may_plot : (def : Def) (form : Form) (count : ℕ) (plot : Plot) → MayOpenAs def form count (tree_in plot)
-    → MayOpen form (body_in plot)
-may_plot def form count entered_plot may = tt
-may_plot def form count (whole_plot v) may = may.1
-may_plot def form count (begun_plot made kids) may = tt
+may_plot : (def : Def) (tracker : Tracker) (count : ℕ) (plot : Plot) → MayOpenAs def tracker count (tree_in plot)
+    → MayOpen tracker (body_in plot)
+may_plot def tracker count (whole_plot v) may = may.1
+may_plot def tracker count _ may = tt
 
 -- the body on top, of which this holds
 pub top_body : (plan : Plan) (slots : List Slot) (stack : List ℕ) (shown : IsOpen plan slots stack) (So : Body → Type 0)
@@ -69,9 +56,9 @@ module _ {plan : Plan} {slots : List Slot} {stack : List ℕ} (shown : IsOpen pl
   pub holds_entries : IsWholeWith Parts.Entries (tree_here slots stack) → AtTop slots stack (λ (at : Node). HoldsObject at.body)
   holds_entries = body_here (IsWholeWith Parts.Entries) HoldsObject entries_plot
 
-  pub may_open_here : (def : Def) (form : Form) (count : ℕ) → MayOpenAs def form count (tree_here slots stack)
-      → AtTop slots stack (λ (at : Node). MayOpen form at.body)
-  may_open_here def form count = body_here (MayOpenAs def form count) (MayOpen form) (may_plot def form count)
+  pub may_open_here : (def : Def) (tracker : Tracker) (count : ℕ) → MayOpenAs def tracker count (tree_here slots stack)
+      → AtTop slots stack (λ (at : Node). MayOpen tracker at.body)
+  may_open_here def tracker count = body_here (MayOpenAs def tracker count) (MayOpen tracker) (may_plot def tracker count)
 
   module _ (v : Val) (is : tree_here slots stack ≡ whole v) where
     whole_top : (open_top plan slots stack shown).plot ≡ whole_plot v

@@ -1,20 +1,10 @@
 -- What slots hold and what the ledger counts, together, while the place on top changes; and what becomes of the open places.
 use Rattle.std.proofs.Common.{◌≡◌, ℕ, ◌+◌, List, Result, Ok, Err, OnOk, OnErr, refl, sym, ◌∙◌, ap, subst, arith}
-use Rattle.fr_shape.specs.Released.{Conserved, Room, RoseBy}
-use Rattle.fr_shape.specs.TokenLaws.{Conserved_same, Room_fewer}
-use Rattle.fr_model.specs.Places.{Place}
-use Rattle.fr_model.specs.Tree.{Tree, hole, change_at, tree_occurs, deferred}
-use Rattle.fr_plan.specs.TypePlan.{Plan}
-use Rattle.fr_frame.specs.declared.places.Slot.{Slot}
-use Rattle.fr_frame.specs.Changes.{SameMarks, SameTokens}
-use Rattle.fr_frame.specs.Heap.{heap_of, slots_occur}
-use Rattle.fr_store.specs.MoveLaws.{slots_tokens}
-use Rattle.fr_store.specs.Moves.{changed_here, cursor_in, tokens_here, tree_here, tree_in_slots, IsOpenAt}
-use Rattle.fr_store.specs.Stands.{kid_shown, IsOpen}
-use Rattle.fr_store.specs.Stored.{IsKept, StoresNoMore}
-use Rattle.fr_partial.specs.declared.work.Frames.{Frames}
-use Rattle.fr_partial.specs.Modes.{mode_of}
-use Rattle.fr_partial.specs.Underway.{top_place, top_tree, whole_tree, AreOpen, Became, Changed, IsAtWork}
+use Rattle.fr_partial.specs.Common.{AreOpen, Became, Changed, Conserved, Conserved_same, Frames, IsAtWork, IsKept, IsOpen, IsOpenAt, Place, Plan, Room, RoseBy, SameMarks, SameTokens, Slot, Tree, change_at, cursor_in, deferred, heap_of, hole, kid_shown, mode_of, slots_tokens, top_place, top_tree, tree_here, tree_occurs, whole_tree}
+use Rattle.fr_shape.specs.TokenLaws.{Room_fewer}
+use Rattle.fr_frame.specs.Heap.{slots_occur}
+use Rattle.fr_store.specs.Moves.{changed_here, tokens_here, tree_in_slots}
+use Rattle.fr_store.specs.Stored.{StoresNoMore}
 use Rattle.fr_partial.proofs.ReachLaws.{tree_leads}
 use Rattle.fr_partial.proofs.StateLaws.{became_through, stores_after}
 use Rattle.fr_partial.proofs.TreeLaws.{alike_here, changed_occur, unchanged}
@@ -29,8 +19,7 @@ kept_same before after ledger same = record {
 }
 
 -- where the same places are stored, the store lists them still
-marks_kept : (store : List ℕ) (before after : List Slot) → SameMarks before after → IsKept store before
-    → IsKept store after
+marks_kept : (store : List ℕ) (before after : List Slot) → SameMarks before after → IsKept store before → IsKept store after
 marks_kept store before after same kept n =
     ((λ stored. (kept n).0 (sym (same n) ∙ stored)), (λ listed. same n ∙ (kept n).1 listed))
 
@@ -73,13 +62,11 @@ module _ {plan : Plan} {before after : List Slot} {stack next : List ℕ} (shown
 pub room_here : (plan : Plan) (slots : List Slot) (stack ledger : List ℕ) → IsOpen plan slots stack
     → Room (slots_occur slots) ledger → Room (tokens_here slots stack) ledger
 room_here plan slots stack ledger shown room =
-    Room_fewer (tokens_here slots stack) (slots_occur slots) ledger
-    (λ t.
+    Room_fewer (tokens_here slots stack) (slots_occur slots) ledger (λ t.
     let was : slots_occur slots t ≡ tree_occurs (tree_in_slots slots stack) t = slots_tokens plan slots stack shown t in
     let moved = changed_occur (deferred 0) (cursor_in slots stack) (λ old. hole) (tree_in_slots slots stack) t
     (tree_leads 0 (cursor_in slots stack) (kid_shown (heap_of slots) stack) shown.stands.leads) in
-    omega (arith, was, moved))
-    room
+    omega (arith, was, moved)) room
 
 -- what follows where there is an answer, and holds where there is none
 pub ok_or : {A E P Q S : Type 0} (result : Result A E) → OnOk result P → OnOk result Q → OnErr result S → (P → Q → S) → S
@@ -116,8 +103,7 @@ pub became_after : {plan : Plan} {place : Place} {tree : Tree} {before between a
     → Became plan (next (top_place between)) (change (top_place between) (whole_tree between)) between after
     → Became plan (next place) (change place tree) before after
 became_after {plan} {place} {tree} {before} {between} {after} next change first second =
-    became_through first
-    (subst (λ (t : Tree). Became plan (next place) (change place t) between after) first.stands.built
+    became_through first (subst (λ (t : Tree). Became plan (next place) (change place t) between after) first.stands.built
     (subst (λ (p : Place). Became plan (next p) (change p (whole_tree between)) between after) first.stands.cursor second))
 
 -- another change by which the same comes to stand there

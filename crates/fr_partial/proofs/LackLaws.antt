@@ -1,19 +1,9 @@
 -- What a place of a served table lacks is a field or a value: never memory, and never a value that passes a validator.
 use Rattle.std.proofs.Common.{◌≡◌, ℕ, zero, suc, Bool, true, false, Option, Some, None, IsSome, inl, inr, refl, sym, ◌∙◌, ap, subst}
-use Rattle.std.specs.Option.{option_or}
-use Rattle.fr_shape.specs.declared.shape.Def.{Def}
-use Rattle.fr_shape.specs.declared.error.ReflectErrorKind.{ReflectErrorKind}
-use Rattle.fr_shape.specs.Fills.{preset_of}
-use Rattle.fr_shape.specs.Hooks.{Meanings}
-use Rattle.fr_shape.specs.Look.{Table, def_of}
-use Rattle.fr_model.specs.Served.{IsServed}
-use Rattle.fr_shape.specs.Val.{Val}
-use Rattle.fr_model.specs.Complete.{complete, lack, lack_among, lack_of_hole, lack_of_holes, lack_of_entered, lack_by, unless_there, missing_child, missing_value, hole_takes, failing_child}
-use Rattle.fr_model.specs.Places.{strict_column, child_count}
+use Rattle.fr_partial.specs.Common.{Def, IsServed, Meanings, ReflectErrorKind, Table, Tracker, Tree, Trees, Val, WhyNot, as_fields, begun, branch, child_as, complete, def_of, entered, hole, no_trees, option_or, preset_of, strict_column, takes_no_memory, whole}
+use Rattle.fr_model.specs.Complete.{lack, lack_among, lack_of_hole, lack_of_holes, lack_of_entered, lack_by, unless_there, missing_child, missing_value, hole_takes, failing_child}
+use Rattle.fr_model.specs.Places.{child_count}
 use Rattle.fr_model.specs.Step.{cause}
-use Rattle.fr_model.specs.Tree.{Form, as_struct, Tree, hole, entered, whole, begun, Trees, no_trees, branch, child_as}
-use Rattle.fr_partial.specs.Filling.{takes_no_memory}
-use Rattle.fr_partial.specs.Ending.{WhyNot}
 use Rattle.fr_partial.proofs.TemplateLaws.{none_failing}
 
 -- a field or a value is lacking
@@ -37,8 +27,8 @@ either_missing : (a b : Option ReflectErrorKind) → AreMissing a → AreMissing
 either_missing (Some kind) b first second = first
 either_missing None b first second = second
 
-child_missing : (s : ℕ) (form : Form) (i : ℕ) → is_missing (missing_child s form i) ≡ true
-child_missing s as_struct i = refl
+child_missing : (s : ℕ) (tracker : Tracker) (i : ℕ) → is_missing (missing_child s tracker i) ≡ true
+child_missing s (as_fields None) i = refl
 child_missing s _ i = refl
 
 value_missing : (s : ℕ) → is_missing (missing_value s) ≡ true
@@ -49,27 +39,26 @@ there_missing (Some v) kind h = nothing_missing
 there_missing None kind h = some_missing kind h
 
 module _ (hooks : Meanings) (table : Table) (served : IsServed table) where
-  failing_missing : (s : ℕ) (form : Form) (i : ℕ) (value : Option Val) → AreMissing (failing_child hooks table s form i value)
-  failing_missing s form i value =
-      subst AreMissing (sym (none_failing hooks table s form i value served)) nothing_missing
+  failing_missing : (s : ℕ) (tracker : Tracker) (i : ℕ) (value : Option Val) → AreMissing (failing_child hooks table s tracker i value)
+  failing_missing s tracker i value = subst AreMissing (sym (none_failing hooks table s tracker i value served)) nothing_missing
 
-  hole_missing : (s : ℕ) (form : Form) (i : ℕ) → AreMissing (lack_of_hole hooks table s form i)
-  hole_missing s form i =
-      either_missing (unless_there (hole_takes strict_column table s form i) (missing_child s form i))
-      (failing_child hooks table s form i (hole_takes strict_column table s form i))
-      (there_missing (hole_takes strict_column table s form i) (missing_child s form i) (child_missing s form i))
-      (failing_missing s form i (hole_takes strict_column table s form i))
+  hole_missing : (s : ℕ) (tracker : Tracker) (i : ℕ) → AreMissing (lack_of_hole hooks table s tracker i)
+  hole_missing s tracker i =
+      either_missing (unless_there (hole_takes strict_column table s tracker i) (missing_child s tracker i))
+      (failing_child hooks table s tracker i (hole_takes strict_column table s tracker i))
+      (there_missing (hole_takes strict_column table s tracker i) (missing_child s tracker i) (child_missing s tracker i))
+      (failing_missing s tracker i (hole_takes strict_column table s tracker i))
 
-  holes_missing : (s : ℕ) (form : Form) (count i : ℕ) → AreMissing (lack_of_holes hooks table s form count i)
-  holes_missing s form zero i = nothing_missing
-  holes_missing s form (suc count) i =
-      either_missing (lack_of_hole hooks table s form i) (lack_of_holes hooks table s form count (suc i))
-      (hole_missing s form i) (holes_missing s form count (suc i))
+  holes_missing : (s : ℕ) (tracker : Tracker) (count i : ℕ) → AreMissing (lack_of_holes hooks table s tracker count i)
+  holes_missing s tracker zero i = nothing_missing
+  holes_missing s tracker (suc count) i =
+      either_missing (lack_of_hole hooks table s tracker i) (lack_of_holes hooks table s tracker count (suc i))
+      (hole_missing s tracker i) (holes_missing s tracker count (suc i))
 
   entered_missing : (s : ℕ) → AreMissing (lack_of_entered hooks table s)
   entered_missing s =
-      go (def_of table s) (preset_of table s) (lack_of_holes hooks table s as_struct (child_count table s) 0)
-      (holes_missing s as_struct (child_count table s) 0)
+      go (def_of table s) (preset_of table s) (lack_of_holes hooks table s (as_fields None) (child_count table s) 0)
+      (holes_missing s (as_fields None) (child_count table s) 0)
     where
       go : (def : Def) (preset : Option Val) (of_holes : Option ReflectErrorKind) → AreMissing of_holes
           → AreMissing (lack_by def preset of_holes (missing_value s))
@@ -83,22 +72,22 @@ module _ (hooks : Meanings) (table : Table) (served : IsServed table) where
     lack_missing s hole = some_missing (missing_value s) (value_missing s)
     lack_missing s entered = entered_missing s
     lack_missing s (whole v) = nothing_missing
-    lack_missing s (begun form ts) = among_missing s form 0 ts
+    lack_missing s (begun tracker ts) = among_missing s tracker 0 ts
 
-    among_missing : (s : ℕ) (form : Form) (i : ℕ) (ts : Trees) → AreMissing (lack_among hooks table s form i ts)
-    among_missing s form i no_trees = nothing_missing
-    among_missing s form i (branch hole ts) =
-        either_missing (lack_of_hole hooks table s form i) (lack_among hooks table s form (suc i) ts)
-        (hole_missing s form i) (among_missing s form (suc i) ts)
-    among_missing s form i (branch entered ts) =
-        either_missing _ _ (lack_missing (child_as table s form i) entered)
-        (either_missing _ _ (failing_missing s form i _) (among_missing s form (suc i) ts))
-    among_missing s form i (branch (whole v) ts) =
-        either_missing _ _ (lack_missing (child_as table s form i) (whole v))
-        (either_missing _ _ (failing_missing s form i _) (among_missing s form (suc i) ts))
-    among_missing s form i (branch (begun made us) ts) =
-        either_missing _ _ (lack_missing (child_as table s form i) (begun made us))
-        (either_missing _ _ (failing_missing s form i _) (among_missing s form (suc i) ts))
+    among_missing : (s : ℕ) (tracker : Tracker) (i : ℕ) (ts : Trees) → AreMissing (lack_among hooks table s tracker i ts)
+    among_missing s tracker i no_trees = nothing_missing
+    among_missing s tracker i (branch hole ts) =
+        either_missing (lack_of_hole hooks table s tracker i) (lack_among hooks table s tracker (suc i) ts)
+        (hole_missing s tracker i) (among_missing s tracker (suc i) ts)
+    among_missing s tracker i (branch entered ts) =
+        either_missing _ _ (lack_missing (child_as table s tracker i) entered)
+        (either_missing _ _ (failing_missing s tracker i _) (among_missing s tracker (suc i) ts))
+    among_missing s tracker i (branch (whole v) ts) =
+        either_missing _ _ (lack_missing (child_as table s tracker i) (whole v))
+        (either_missing _ _ (failing_missing s tracker i _) (among_missing s tracker (suc i) ts))
+    among_missing s tracker i (branch (begun made us) ts) =
+        either_missing _ _ (lack_missing (child_as table s tracker i) (begun made us))
+        (either_missing _ _ (failing_missing s tracker i _) (among_missing s tracker (suc i) ts))
 
   cause_missing : (s : ℕ) (t : Tree) → is_missing (cause hooks table s t) ≡ true
   cause_missing s t = go (lack hooks table s t) refl
@@ -109,8 +98,7 @@ module _ (hooks : Meanings) (table : Table) (served : IsServed table) where
 
   -- where a place isn't completed since there is no memory, it makes a value and takes a template
   pub only_wants : (s : ℕ) (t : Tree) (kind : ReflectErrorKind) → WhyNot hooks table s t kind
-      → kind ≡ ReflectErrorKind.OutOfMemory
-      → IsSome (complete strict_column hooks table s t) × (takes_no_memory t ≡ false)
+      → kind ≡ ReflectErrorKind.OutOfMemory → IsSome (complete strict_column hooks table s t) × (takes_no_memory t ≡ false)
   only_wants s t kind (inl lacking) memory =
       let no : true ≡ false = sym (cause_missing s t) ∙ ap is_missing (sym lacking.lacks ∙ memory) in
       cc

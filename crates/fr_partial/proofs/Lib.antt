@@ -5,6 +5,7 @@ pub mod BeneathLaws
 pub mod BodyLaws
 pub mod BuildLaws
 pub mod CallLaws
+pub mod ChildLaws
 pub mod ChoiceLaws
 pub mod ContentLaws
 pub mod Converted
@@ -17,7 +18,7 @@ pub mod EnterLaws
 pub mod FinishLaws
 pub mod FirstLaws
 pub mod FitLaws
-pub mod FormLaws
+pub mod TrackerLaws
 pub mod GoingLaws
 pub mod HandingLaws
 pub mod HereLaws

@@ -1,50 +1,44 @@
 -- Maps and sets: how they come to be begun, what a key, a value and an item add, and what each is refused for.
 use Rattle.std.proofs.Common.{◌≡◌, ℕ, zero, suc, ◌-◌, ◌%◌, Bool, true, false, List, [], ◌∷◌, length, slice_get, Some, None, refl, ◌∙◌, ap, arith}
-use Rattle.fr_shape.specs.declared.error.Operation.{Operation}
-use Rattle.fr_shape.specs.declared.shape.Def.{Def}
-use Rattle.fr_shape.specs.Look.{Table, def_of}
-use Rattle.fr_shape.specs.Val.{Val}
-use Rattle.fr_model.specs.Collections.{ends_in_hole, is_hole, is_map, is_map_form, lacks_value, last_of, value_refusal, with_key}
+use Rattle.fr_partial.specs.Common.{Cell, Def, EntriesKind, HasChild, HasItems, IsFullAs, Operation, Table, Tracker, Tree, Trees, Val, absent, and_last, as_entries, begun, branch, change_child, child_as, child_tree, count_below, count_trees, def_of, ends_absent, enter, fresh, given, hole, is_map, is_map_tracker, lacks_value, no_trees, placed, tree_nth, value_refusal}
+use Rattle.fr_model.specs.Collections.{ends_in_hole, is_hole, last_of, with_key}
 use Rattle.fr_model.specs.Places.{is_key}
-use Rattle.fr_model.specs.Step.{enter, enter_child}
-use Rattle.fr_model.specs.Tree.{Form, as_map, child_as, fresh, Tree, hole, begun, Trees, no_trees, branch, and_last, change_child, child_tree, count_below, count_trees, tree_nth}
-use Rattle.fr_model.specs.Well.{IsFullAs}
-use Rattle.fr_frame.specs.Cells.{Cell, absent, given, placed, slot_of_cell, value_of_cell}
-use Rattle.fr_store.specs.Moves.{with_key_of, HasChild}
-use Rattle.fr_partial.specs.Looks.{ends_absent, is_absent}
-use Rattle.fr_partial.specs.Openings.{HasItems}
+use Rattle.fr_model.specs.Step.{enter_child}
+use Rattle.fr_frame.specs.Cells.{slot_of_cell, value_of_cell}
+use Rattle.fr_store.specs.Moves.{with_key_of}
+use Rattle.fr_partial.specs.Looks.{is_absent}
 use Rattle.fr_partial.proofs.ListLaws.{by_items}
 
 -- A form.
 
-pub map_form : (form : Form) → is_map_form form ≡ true → (base : ℕ) × (form ≡ as_map base)
-map_form (as_map base) h = (base, refl)
-map_form _ h = cc
+pub map_tracker : (tracker : Tracker) → is_map_tracker tracker ≡ true → (base : ℕ) × (tracker ≡ as_entries (EntriesKind.Map base))
+map_tracker (as_entries (EntriesKind.Map base)) h = (base, refl)
+map_tracker _ h = cc
 
 -- Keys and values.
 
-pub has_map : (form : Form) (count : ℕ) (tree : Tree) → HasItems form count tree → is_map_form form ≡ true
+pub has_map : (tracker : Tracker) (count : ℕ) (tree : Tree) → HasItems tracker count tree → is_map_tracker tracker ≡ true
     → is_map tree ≡ true
-has_map = by_items (λ form count tree. is_map_form form ≡ true → is_map tree ≡ true) (λ made ts h. h)
+has_map = by_items (λ tracker count tree. is_map_tracker tracker ≡ true → is_map tree ≡ true) (λ made ts h. h)
 
 -- there is room for a key and a value behind its children
-pub more_entries : (def : Def) (n : ℕ) (form : Form) → is_map_form form ≡ true → IsFullAs def form n
-    → IsFullAs def form (suc (suc n))
-more_entries (Def.Map key item) n (as_map base) h full = full
-more_entries _ n (as_map base) h full = absurd full
+pub more_entries : (def : Def) (n : ℕ) (tracker : Tracker) → is_map_tracker tracker ≡ true → IsFullAs def tracker n
+    → IsFullAs def tracker (suc (suc n))
+more_entries (Def.Map key item) n (as_entries (EntriesKind.Map base)) h full = full
+more_entries _ n (as_entries (EntriesKind.Map base)) h full = absurd full
 more_entries def n _ h full = cc
 
 -- a new entry, whose key has this definition
-pub key_so : (table : Table) (s : ℕ) (def : Def) (form : Form) (count : ℕ) (tree : Tree) → HasItems form count tree
-    → def ≡ def_of table (child_as table s form count) → with_key_of def tree ≡ with_key table s tree
+pub key_so : (table : Table) (s : ℕ) (def : Def) (tracker : Tracker) (count : ℕ) (tree : Tree) → HasItems tracker count tree
+    → def ≡ def_of table (child_as table s tracker count) → with_key_of def tree ≡ with_key table s tree
 key_so table s def =
-    by_items (λ form count tree. def ≡ def_of table (child_as table s form count) → with_key_of def tree ≡ with_key table s tree)
+    by_items (λ tracker count tree. def ≡ def_of table (child_as table s tracker count) → with_key_of def tree ≡ with_key table s tree)
     (λ made ts is. ap (λ (d : Def). begun made (and_last (and_last ts (fresh d)) hole)) is)
 
 -- the last child is there
-pub has_last : (form : Form) (i : ℕ) (tree : Tree) → HasItems form (suc i) tree → HasChild form i tree
-has_last form i (begun made ts) has = (has.0, omega (arith, has.1))
-has_last form i _ has = has
+pub has_last : (tracker : Tracker) (i : ℕ) (tree : Tree) → HasItems tracker (suc i) tree → HasChild tracker i tree
+has_last tracker i (begun made ts) has = (has.0, omega (arith, has.1))
+has_last tracker i _ has = has
 
 -- where a value is lacking, it is the last child
 a_hole : (t : Tree) → is_hole t ≡ true → t ≡ hole
@@ -66,23 +60,22 @@ lacking tree may = go (is_map tree) (lacks_value tree) refl refl
     go true false e h = let no : Some Operation.ValueBeforeKey ≡ None = rw (e, h) at may in cc
     go false c e h = let no : Some Operation.ValueBeforeKey ≡ None = rw e at may in cc
 
-pub value_lacks : (form : Form) (i : ℕ) (tree : Tree) → HasItems form (suc i) tree → value_refusal tree ≡ None
+pub value_lacks : (tracker : Tracker) (i : ℕ) (tree : Tree) → HasItems tracker (suc i) tree → value_refusal tree ≡ None
     → child_tree i tree ≡ hole
-value_lacks form i (begun made ts) has may = last_hole ts i (lacking (begun made ts) may) has.1
-value_lacks form i _ has may = refl
+value_lacks tracker i (begun made ts) has may = last_hole ts i (lacking (begun made ts) may) has.1
+value_lacks tracker i _ has may = refl
 
 -- the value is entered, of this definition
-pub value_so : (table : Table) (s i : ℕ) (def : Def) (form : Form) (count : ℕ) (tree : Tree) → HasItems form count tree
-    → def ≡ def_of table (child_as table s form i) → change_child i (enter def) tree ≡ enter_child table s i tree
+pub value_so : (table : Table) (s i : ℕ) (def : Def) (tracker : Tracker) (count : ℕ) (tree : Tree) → HasItems tracker count tree
+    → def ≡ def_of table (child_as table s tracker i) → change_child i (enter def) tree ≡ enter_child table s i tree
 value_so table s i def =
-    by_items
-    (λ form count tree.
-    def ≡ def_of table (child_as table s form i) → change_child i (enter def) tree ≡ enter_child table s i tree)
+    by_items (λ tracker count tree.
+    def ≡ def_of table (child_as table s tracker i) → change_child i (enter def) tree ≡ enter_child table s i tree)
     (λ made ts is. ap (λ (d : Def). change_child i (enter d) (begun made ts)) is)
 
-pub last_is : (form : Form) (i : ℕ) (tree : Tree) → HasItems form (suc i) tree → last_of (count_below tree) ≡ i
-last_is form i (begun made ts) has = ap last_of has.1
-last_is form i _ has = absurd has
+pub last_is : (tracker : Tracker) (i : ℕ) (tree : Tree) → HasItems tracker (suc i) tree → last_of (count_below tree) ≡ i
+last_is tracker i (begun made ts) has = ap last_of has.1
+last_is tracker i _ has = absurd has
 
 -- Which children are keys.
 
@@ -115,15 +108,12 @@ ends_some (c ∷ cells) h = omega arith
 
 pub absent_cell : (c : Cell) → value_of_cell c ≡ None → slot_of_cell c ≡ None → is_absent c ≡ true
 absent_cell absent v s = refl
-absent_cell (given u) v s = cc
-absent_cell (placed n) v s = cc
+absent_cell _ v s = cc
 
 pub given_cell : (c : Cell) (u : Val) → value_of_cell c ≡ Some u → is_absent c ≡ false
 given_cell absent u v = cc
-given_cell (given w) u v = refl
-given_cell (placed n) u v = refl
+given_cell _ u v = refl
 
 pub placed_cell : (c : Cell) (n : ℕ) → slot_of_cell c ≡ Some n → is_absent c ≡ false
 placed_cell absent n s = cc
-placed_cell (given w) n s = refl
-placed_cell (placed m) n s = refl
+placed_cell _ n s = refl

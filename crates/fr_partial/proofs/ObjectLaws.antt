@@ -1,17 +1,11 @@
 -- Entries of a dynamic object: which one is entered, what that means, and what it is refused for.
 use Rattle.std.proofs.Common.{◌≡◌, ℕ, zero, suc, Bool, true, false, List, [], ◌∷◌, ◌++◌, length, Option, Some, None, refl, sym, ap}
-use Rattle.fr_shape.specs.declared.error.Operation.{Operation}
-use Rattle.fr_shape.specs.declared.shape.Def.{Def}
-use Rattle.fr_shape.specs.declared.shape.ShapeId.{ShapeId}
-use Rattle.fr_shape.specs.Look.{Table, def_of}
-use Rattle.fr_model.specs.DynamicPlaces.{entry_found, entry_number, entry_refusal, is_begun_object, keys_here, number_or_last, with_entry}
+use Rattle.fr_partial.specs.Common.{Def, EntriesKind, Operation, Sees, ShapeId, Site, Suits, Table, Tree, Trees, and_last, as_entries, begun, branch, count_below, count_trees, cursor_tree, def_of, enter, entry_refusal, fresh, hole, no_trees, shape_at}
+use Rattle.fr_model.specs.DynamicPlaces.{entry_found, entry_number, is_begun_object, keys_here, number_or_last, with_entry}
 use Rattle.fr_model.specs.Dynamics.{keys_apart}
-use Rattle.fr_model.specs.Step.{enter}
-use Rattle.fr_model.specs.Tree.{as_dyn_object, Tree, hole, begun, Trees, no_trees, branch, and_last, change_nth, count_below, count_trees, fresh, cursor_tree}
-use Rattle.fr_model.specs.Well.{AreTouched, HasKeys, IsTouched, Suits}
+use Rattle.fr_model.specs.Tree.{change_nth}
+use Rattle.fr_model.specs.Well.{AreTouched, HasEntries, IsTouched}
 use Rattle.fr_store.specs.Moves.{with_entry_of}
-use Rattle.fr_partial.specs.Sites.{Site, shape_at}
-use Rattle.fr_partial.specs.Looks.{Sees}
 use Rattle.fr_partial.proofs.LookLaws.{AsBegun}
 use Rattle.fr_partial.proofs.SeenLaws.{seen_by}
 
@@ -29,26 +23,26 @@ touched_nth (suc i) def (branch t ts) all = ap (branch t) (touched_nth i def ts 
 -- An object.
 
 -- what holds of each holds of what is begun as one
-by_object : (So : Tree → Type 0) → ((keys : List (List ℕ)) (ts : Trees) → So (begun (as_dyn_object keys) ts)) → (tree : Tree)
+by_object : (So : Tree → Type 0) → ((keys : List (List ℕ)) (ts : Trees) → So (begun (as_entries (EntriesKind.Object keys)) ts)) → (tree : Tree)
     → is_begun_object tree ≡ true → So tree
-by_object So each (begun (as_dyn_object keys) ts) h = each keys ts
+by_object So each (begun (as_entries (EntriesKind.Object keys)) ts) h = each keys ts
 by_object So each _ h = cc
 
 -- it has one child for each key
-counted_keys : (def : Def) (keys : List (List ℕ)) (count : ℕ) → HasKeys def keys count → count ≡ length keys
+counted_keys : (def : Def) (keys : List (List ℕ)) (count : ℕ) → HasEntries def (EntriesKind.Object keys) count → count ≡ length keys
 counted_keys Def.Dynamic keys count has = has
 counted_keys _ keys count has = absurd has
 
 module _ (table : Table) (s : ℕ) where
-  entry_so : (keys : List (List ℕ)) (ts : Trees) → Suits table s (begun (as_dyn_object keys) ts) → (key : List ℕ) (def : Def)
+  entry_so : (keys : List (List ℕ)) (ts : Trees) → Suits table s (begun (as_entries (EntriesKind.Object keys)) ts) → (key : List ℕ) (def : Def)
       → def ≡ def_of table s
-      → with_entry_of def key (begun (as_dyn_object keys) ts) ≡ with_entry table s key (begun (as_dyn_object keys) ts)
+      → with_entry_of def key (begun (as_entries (EntriesKind.Object keys)) ts) ≡ with_entry table s key (begun (as_entries (EntriesKind.Object keys)) ts)
   entry_so keys ts suits key def is = go (entry_found key keys) refl
     where
       go : (found : Option ℕ) → entry_found key keys ≡ found
-          → with_entry_of def key (begun (as_dyn_object keys) ts) ≡ with_entry table s key (begun (as_dyn_object keys) ts)
-      go (Some i) e = rw e (ap (begun (as_dyn_object keys)) (touched_nth i def ts suits.2.0))
-      go None e = rw e (ap (λ (d : Def). begun (as_dyn_object (keys ++ key ∷ [])) (and_last ts (fresh d))) is)
+          → with_entry_of def key (begun (as_entries (EntriesKind.Object keys)) ts) ≡ with_entry table s key (begun (as_entries (EntriesKind.Object keys)) ts)
+      go (Some i) e = rw e (ap (begun (as_entries (EntriesKind.Object keys))) (touched_nth i def ts suits.2.0))
+      go None e = rw e (ap (λ (d : Def). begun (as_entries (EntriesKind.Object (keys ++ key ∷ []))) (and_last ts (fresh d))) is)
 
   -- no key twice
   pub apart_here : (tree : Tree) → is_begun_object tree ≡ true → Suits table s tree → keys_apart (keys_here tree) ≡ true
@@ -63,15 +57,13 @@ module _ (table : Table) (s : ℕ) where
   pub entered_so : (tree : Tree) → is_begun_object tree ≡ true → Suits table s tree → (key : List ℕ) (def : Def)
       → def ≡ def_of table s → with_entry_of def key tree ≡ with_entry table s key tree
   entered_so =
-      by_object
-      (λ tree. Suits table s tree → (key : List ℕ) (def : Def) → def ≡ def_of table s
+      by_object (λ tree. Suits table s tree → (key : List ℕ) (def : Def) → def ≡ def_of table s
       → with_entry_of def key tree ≡ with_entry table s key tree) entry_so
 
   -- and its number
   pub number_so : (tree : Tree) → is_begun_object tree ≡ true → Suits table s tree → (key : List ℕ)
       → number_or_last (entry_found key (keys_here tree)) (count_below tree) ≡ entry_number key tree
-  number_so tree object suits key =
-      ap (number_or_last (entry_found key (keys_here tree))) (sym (counted_here tree object suits))
+  number_so tree object suits key = ap (number_or_last (entry_found key (keys_here tree))) (sym (counted_here tree object suits))
 
 -- What it means.
 
@@ -86,8 +78,8 @@ entry_object _ tree e = cc
 -- By what the site sees.
 
 begun_entry : (def : Def) → AsBegun (entry_refusal def)
-begun_entry Def.Dynamic form ts = refl
-begun_entry _ form ts = refl
+begun_entry Def.Dynamic tracker ts = refl
+begun_entry _ tracker ts = refl
 
 pub entry_seen : {site : Site} {table : Table} {shape : ShapeId} {seen : Tree} → Sees site table shape seen
     → entry_refusal (def_of table shape.0) seen ≡ entry_refusal (def_of site.shapes (shape_at site)) (cursor_tree site.state)

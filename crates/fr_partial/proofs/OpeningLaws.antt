@@ -1,28 +1,15 @@
 -- Beginning a list, an array, a map or a set, as a place's definition tells: what it comes to.
 use Rattle.std.proofs.Common.{◌≡◌, ℕ, Bool, true, false, Option, Some, None, IsSome, refl, sym, ◌∙◌, ap, subst}
-use Rattle.std.specs.Option.{option_or}
-use Rattle.fr_shape.specs.declared.error.Operation.{Operation}
-use Rattle.fr_shape.specs.declared.shape.Def.{Def}
-use Rattle.fr_shape.specs.declared.shape.ShapeId.{ShapeId}
-use Rattle.fr_shape.specs.Fits.{fits}
-use Rattle.fr_shape.specs.Look.{Table, def_of}
-use Rattle.fr_shape.specs.Plannable.{is_dynamic}
-use Rattle.fr_shape.specs.Val.{Val, list_of, map_of, set_of, unit}
+use Rattle.fr_partial.specs.Common.{Call, Change, ComesTo, Def, EntriesKind, ItemsKind, MayOpenAs, Move, Operation, Place, Sees, ShapeId, Site, Suits, Table, Tracker, Tree, Val, as_elements, as_entries, as_items, at_shape, begun, change_at, cursor_tree, def_of, entered, fits, hole, holes, init_array_refusal, init_list_refusal, init_map_refusal, init_set_refusal, is_begun, is_dynamic, list_of, opened, opened_as, opened_value, option_or, parts_as, shape_at, tracker_of, tree_at, unit, whole}
+use Rattle.fr_shape.specs.Val.{map_of, set_of}
 use Rattle.fr_model.specs.Collections.{unless_map, unless_set}
-use Rattle.fr_model.specs.Commands.{Call}
-use Rattle.fr_model.specs.Items.{init_array_refusal, unless_list}
-use Rattle.fr_model.specs.Places.{count_children, entries_of, items_of, set_items_of, Place}
-use Rattle.fr_model.specs.Step.{at_shape, init_list_refusal, init_map_refusal, init_set_refusal, opened, opened_as, opened_value, parts_as}
-use Rattle.fr_model.specs.Tree.{Form, as_array, as_list, as_set, as_map, form_of, Tree, hole, entered, whole, begun, holes, change_at, tree_at, cursor_tree}
-use Rattle.fr_model.specs.Well.{HasElements, Suits}
-use Rattle.fr_frame.specs.declared.places.Form.{Form as Made}
+use Rattle.fr_model.specs.Items.{unless_list}
+use Rattle.fr_model.specs.Places.{count_children, entries_of, items_of, set_items_of}
+use Rattle.fr_model.specs.Well.{HasElements}
+use Rattle.fr_frame.specs.declared.places.EntriesKind.{EntriesKind as MadeEntries}
+use Rattle.fr_frame.specs.declared.places.ItemsKind.{ItemsKind as MadeItems}
+use Rattle.fr_frame.specs.declared.places.Tracker.{Tracker as Made}
 use Rattle.fr_partial.specs.declared.dynamic_places.Parts.{Parts}
-use Rattle.fr_partial.specs.declared.moves.Change.{Change}
-use Rattle.fr_partial.specs.declared.moves.Move.{Move}
-use Rattle.fr_partial.specs.Looks.{Sees}
-use Rattle.fr_partial.specs.Moving.{ComesTo}
-use Rattle.fr_partial.specs.Openings.{is_begun, MayOpenAs}
-use Rattle.fr_partial.specs.Sites.{Site, shape_at}
 use Rattle.fr_partial.proofs.ContentLaws.{suits_here}
 use Rattle.fr_partial.proofs.Converted.{settled_plain}
 use Rattle.fr_partial.proofs.DecidingLaws.{remains}
@@ -32,59 +19,55 @@ use Rattle.fr_partial.proofs.TreeLaws.{alike_here, unchanged}
 
 -- A place that is opened so is opened as its definition tells.
 
-opened_alike : (def : Def) (form : Form) (count : ℕ) (tree : Tree) → MayOpenAs def form count tree
-    → opened_as form count tree ≡ opened def tree
-opened_alike def form count hole may = refl
-opened_alike def form count entered may =
-    ap (λ (f : Form). begun f (holes count)) may.0 ∙ ap (λ (n : ℕ). begun (form_of def) (holes n)) may.1
-opened_alike def form count (whole v) may = ap (λ (f : Form). opened_value f v (parts_as f v)) may.0
-opened_alike def form count (begun made ts) may = refl
+opened_alike : (def : Def) (tracker : Tracker) (count : ℕ) (tree : Tree) → MayOpenAs def tracker count tree
+    → opened_as tracker count tree ≡ opened def tree
+opened_alike def tracker count entered may =
+    ap (λ (f : Tracker). begun f (holes count)) may.0 ∙ ap (λ (n : ℕ). begun (tracker_of def) (holes n)) may.1
+opened_alike def tracker count (whole v) may = ap (λ (f : Tracker). opened_value f v (parts_as f v)) may.0
+opened_alike def tracker count _ may = refl
 
-pub opened_so : (def : Def) (form : Form) (count : ℕ) (place : Place) (tree : Tree) → MayOpenAs def form count (tree_at place tree)
-    → change_at place (opened_as form count) tree ≡ change_at place (opened def) tree
-opened_so def form count place tree may =
-    alike_here place (opened_as form count) (opened def) tree (opened_alike def form count (tree_at place tree) may)
+pub opened_so : (def : Def) (tracker : Tracker) (count : ℕ) (place : Place) (tree : Tree) → MayOpenAs def tracker count (tree_at place tree)
+    → change_at place (opened_as tracker count) tree ≡ change_at place (opened def) tree
+opened_so def tracker count place tree may =
+    alike_here place (opened_as tracker count) (opened def) tree (opened_alike def tracker count (tree_at place tree) may)
 
 -- one that is begun stays as it is
 begun_stays : (def : Def) (tree : Tree) → is_begun tree ≡ true → tree ≡ opened def tree
-begun_stays def (begun form ts) is = refl
+begun_stays def (begun tracker ts) is = refl
 begun_stays def _ is = cc
 
 pub stays_so : (def : Def) (place : Place) (tree : Tree) → is_begun (tree_at place tree) ≡ true
     → tree ≡ change_at place (opened def) tree
 stays_so def place tree is =
-    sym (unchanged place tree)
-    ∙ alike_here place (λ old. old) (opened def) tree (begun_stays def (tree_at place tree) is)
+    sym (unchanged place tree) ∙ alike_here place (λ old. old) (opened def) tree (begun_stays def (tree_at place tree) is)
 
 -- Which may be opened.
 
 -- a place of shape s, which isn't begun, is begun so, with as many parts as a whole value has
-record Gathers (table : Table) (s : ℕ) (form : Form) : Type 0 where
-  form_is : form ≡ form_of (def_of table s)
+record Gathers (table : Table) (s : ℕ) (tracker : Tracker) : Type 0 where
+  tracker_is : tracker ≡ tracker_of (def_of table s)
   none_yet : 0 ≡ count_children (def_of table s)
-  parts : (v : Val) → fits table s v ≡ true → IsSome (parts_as form v)
+  parts : (v : Val) → fits table s v ≡ true → IsSome (parts_as tracker v)
 
-gathers_list : (table : Table) (s : ℕ) (t : ShapeId) → def_of table s ≡ Def.List t → Gathers table s as_list
-gathers_list table s t is =
-    record { form_is = ap form_of (sym is); none_yet = ap count_children (sym is); parts = parts }
+gathers_list : (table : Table) (s : ℕ) (t : ShapeId) → def_of table s ≡ Def.List t → Gathers table s (as_items ItemsKind.List)
+gathers_list table s t is = record { tracker_is = ap tracker_of (sym is); none_yet = ap count_children (sym is); parts = parts }
   where
     parts : (v : Val) → fits table s v ≡ true → IsSome (items_of v)
     parts (list_of vs) h = refl
     parts unit h = cc
     parts _ h = let no = rw (settled_plain table s (Def.List t) is (λ other. cc)) at h in cc
 
-gathers_map : (table : Table) (s : ℕ) (key item : ShapeId) → def_of table s ≡ Def.Map key item → Gathers table s (as_map 0)
+gathers_map : (table : Table) (s : ℕ) (key item : ShapeId) → def_of table s ≡ Def.Map key item → Gathers table s (as_entries (EntriesKind.Map 0))
 gathers_map table s key item is =
-    record { form_is = ap form_of (sym is); none_yet = ap count_children (sym is); parts = parts }
+    record { tracker_is = ap tracker_of (sym is); none_yet = ap count_children (sym is); parts = parts }
   where
     parts : (v : Val) → fits table s v ≡ true → IsSome (entries_of v)
     parts (map_of es) h = refl
     parts unit h = cc
     parts _ h = let no = rw (settled_plain table s (Def.Map key item) is (λ other. cc)) at h in cc
 
-gathers_set : (table : Table) (s : ℕ) (t : ShapeId) → def_of table s ≡ Def.Set t → Gathers table s as_set
-gathers_set table s t is =
-    record { form_is = ap form_of (sym is); none_yet = ap count_children (sym is); parts = parts }
+gathers_set : (table : Table) (s : ℕ) (t : ShapeId) → def_of table s ≡ Def.Set t → Gathers table s (as_items ItemsKind.Set)
+gathers_set table s t is = record { tracker_is = ap tracker_of (sym is); none_yet = ap count_children (sym is); parts = parts }
   where
     parts : (v : Val) → fits table s v ≡ true → IsSome (set_items_of v)
     parts (set_of vs) h = refl
@@ -93,53 +76,52 @@ gathers_set table s t is =
 
 -- by its refusal
 of_list : (table : Table) (s : ℕ) (operation : Operation) → is_dynamic (def_of table s) ≡ false
-    → at_shape s (unless_list operation (def_of table s)) ≡ None → Gathers table s as_list
+    → at_shape s (unless_list operation (def_of table s)) ≡ None → Gathers table s (as_items ItemsKind.List)
 of_list table s operation other e = go (def_of table s) refl other e
   where
     go : (def : Def) → def_of table s ≡ def → is_dynamic def ≡ false → at_shape s (unless_list operation def) ≡ None
-        → Gathers table s as_list
+        → Gathers table s (as_items ItemsKind.List)
     go (Def.List t) is other e = gathers_list table s t is
     go _ is other e = cc
 
 of_map : (table : Table) (s : ℕ) → is_dynamic (def_of table s) ≡ false
-    → at_shape s (unless_map Operation.InitMapOfOther (def_of table s)) ≡ None → Gathers table s (as_map 0)
+    → at_shape s (unless_map Operation.InitMapOfOther (def_of table s)) ≡ None → Gathers table s (as_entries (EntriesKind.Map 0))
 of_map table s other e = go (def_of table s) refl other e
   where
     go : (def : Def) → def_of table s ≡ def → is_dynamic def ≡ false
-        → at_shape s (unless_map Operation.InitMapOfOther def) ≡ None → Gathers table s (as_map 0)
+        → at_shape s (unless_map Operation.InitMapOfOther def) ≡ None → Gathers table s (as_entries (EntriesKind.Map 0))
     go (Def.Map key item) is other e = gathers_map table s key item is
     go _ is other e = cc
 
 of_set : (table : Table) (s : ℕ) → at_shape s (unless_set Operation.InitSetOfOther (def_of table s)) ≡ None
-    → Gathers table s as_set
+    → Gathers table s (as_items ItemsKind.Set)
 of_set table s e = go (def_of table s) refl e
   where
     go : (def : Def) → def_of table s ≡ def → at_shape s (unless_set Operation.InitSetOfOther def) ≡ None
-        → Gathers table s as_set
+        → Gathers table s (as_items ItemsKind.Set)
     go (Def.Set t) is e = gathers_set table s t is
     go _ is e = cc
 
-opens : (table : Table) (s : ℕ) (form : Form) (tree : Tree) → (is_begun tree ≡ false → Gathers table s form)
-    → Suits table s tree → MayOpenAs (def_of table s) form 0 tree
-opens table s form hole gathers suits = tt
-opens table s form entered gathers suits = ((gathers refl).form_is, (gathers refl).none_yet)
-opens table s form (whole v) gathers suits = ((gathers refl).form_is, (gathers refl).parts v suits)
-opens table s form (begun made ts) gathers suits = tt
+opens : (table : Table) (s : ℕ) (tracker : Tracker) (tree : Tree) → (is_begun tree ≡ false → Gathers table s tracker)
+    → Suits table s tree → MayOpenAs (def_of table s) tracker 0 tree
+opens table s tracker entered gathers suits = ((gathers refl).tracker_is, (gathers refl).none_yet)
+opens table s tracker (whole v) gathers suits = ((gathers refl).tracker_is, (gathers refl).parts v suits)
+opens table s tracker _ gathers suits = tt
 
 list_opens : (table : Table) (s : ℕ) (tree : Tree) → is_dynamic (def_of table s) ≡ false
-    → None ≡ init_list_refusal s (def_of table s) tree → is_begun tree ≡ false → Gathers table s as_list
+    → None ≡ init_list_refusal s (def_of table s) tree → is_begun tree ≡ false → Gathers table s (as_items ItemsKind.List)
 list_opens table s (whole v) other may not = of_list table s Operation.InitListOfWholeOther other (sym may)
-list_opens table s (begun form ts) other may not = cc
+list_opens table s (begun tracker ts) other may not = cc
 list_opens table s _ other may not = of_list table s Operation.InitListOfOther other (sym may)
 
 map_opens : (table : Table) (s : ℕ) (tree : Tree) → is_dynamic (def_of table s) ≡ false
-    → None ≡ init_map_refusal s (def_of table s) tree → is_begun tree ≡ false → Gathers table s (as_map 0)
-map_opens table s (begun form ts) other may not = cc
+    → None ≡ init_map_refusal s (def_of table s) tree → is_begun tree ≡ false → Gathers table s (as_entries (EntriesKind.Map 0))
+map_opens table s (begun tracker ts) other may not = cc
 map_opens table s _ other may not = of_map table s other (sym may)
 
 set_opens : (table : Table) (s : ℕ) (tree : Tree) → None ≡ init_set_refusal s (def_of table s) tree
-    → is_begun tree ≡ false → Gathers table s as_set
-set_opens table s (begun form ts) may not = cc
+    → is_begun tree ≡ false → Gathers table s (as_items ItemsKind.Set)
+set_opens table s (begun tracker ts) may not = cc
 set_opens table s _ may not = of_set table s (sym may)
 
 never_whole : (first : Option Operation) (operation : Operation) → option_or first (Some operation) ≡ None → ⊥
@@ -147,7 +129,7 @@ never_whole (Some refused) operation e = cc
 never_whole None operation e = cc
 
 array_opens : (def : Def) (count : ℕ) (tree : Tree) → HasElements def count → init_array_refusal def tree ≡ None
-    → MayOpenAs def as_array count tree
+    → MayOpenAs def as_elements count tree
 array_opens (Def.Array t n) count entered has may = (refl, has)
 array_opens (Def.Array t n) count (whole v) has may = absurd (never_whole _ Operation.InitArrayOfBegun may)
 array_opens def count hole has may = tt
@@ -158,7 +140,7 @@ array_opens _ count _ has may = absurd has
 module _ {site : Site} {table : Table} {shape : ShapeId} {seen : Tree} (at : Sees site table shape seen) where
   pub array_begins : (count : ℕ) → HasElements (def_of table shape.0) count
       → None ≡ init_array_refusal (def_of table shape.0) seen
-      → ComesTo site Call.InitArray (Move.Stay (Change.Open (record { form = Made.Array; count = count })))
+      → ComesTo site Call.InitArray (Move.Stay (Change.Open (record { tracker = Made.Elements; count = count })))
   array_begins count has is =
       let may = sym (is ∙ array_seen at) in
       remains site Call.InitArray _ refl (λ t. refl) (
@@ -170,17 +152,17 @@ module _ {site : Site} {table : Table} {shape : ShapeId} {seen : Tree} (at : See
 
   -- a set, a list or a map, where the state is in order
   module _ (ordered : IsSiteInOrder site) where
-    opens_here : (form : Form) → (is_begun (cursor_tree site.state) ≡ false → Gathers site.shapes (shape_at site) form)
-        → MayOpenAs (def_of site.shapes (shape_at site)) form 0 (cursor_tree site.state)
-    opens_here form gathers =
-        opens site.shapes (shape_at site) form (cursor_tree site.state) gathers (suits_here site ordered)
+    opens_here : (tracker : Tracker) → (is_begun (cursor_tree site.state) ≡ false → Gathers site.shapes (shape_at site) tracker)
+        → MayOpenAs (def_of site.shapes (shape_at site)) tracker 0 (cursor_tree site.state)
+    opens_here tracker gathers =
+        opens site.shapes (shape_at site) tracker (cursor_tree site.state) gathers (suits_here site ordered)
 
     pub set_begins : None ≡ init_set_refusal shape.0 (def_of table shape.0) seen
-        → ComesTo site Call.InitSet (Move.Stay (Change.Open (record { form = Made.Set; count = 0 })))
+        → ComesTo site Call.InitSet (Move.Stay (Change.Open (record { tracker = Made.Items MadeItems.Set; count = 0 })))
     set_begins is =
         let may = is ∙ set_seen at in
         remains site Call.InitSet _ refl (λ t. refl)
-        (opens_here as_set (set_opens site.shapes (shape_at site) (cursor_tree site.state) may), tt, refl)
+        (opens_here (as_items ItemsKind.Set) (set_opens site.shapes (shape_at site) (cursor_tree site.state) may), tt, refl)
         (λ hooks. rw (← may) refl)
 
     of_dynamic : (known : Bool) → known ≡ is_dynamic (def_of table shape.0)
@@ -188,21 +170,21 @@ module _ {site : Site} {table : Table} {shape : ShapeId} {seen : Tree} (at : See
     of_dynamic known is = sym (is ∙ dynamic_seen at)
 
     pub list_begins : false ≡ is_dynamic (def_of table shape.0) → None ≡ init_list_refusal shape.0 (def_of table shape.0) seen
-        → ComesTo site Call.InitList (Move.Stay (Change.Open (record { form = Made.List; count = 0 })))
+        → ComesTo site Call.InitList (Move.Stay (Change.Open (record { tracker = Made.Items MadeItems.List; count = 0 })))
     list_begins other is =
         let may = is ∙ list_seen at in
         let plain = of_dynamic false other in
         remains site Call.InitList _ refl (λ t. refl)
-        (opens_here as_list (list_opens site.shapes (shape_at site) (cursor_tree site.state) plain may), tt, refl)
+        (opens_here (as_items ItemsKind.List) (list_opens site.shapes (shape_at site) (cursor_tree site.state) plain may), tt, refl)
         (λ hooks. rw (← may, plain) refl)
 
     pub map_begins : false ≡ is_dynamic (def_of table shape.0) → None ≡ init_map_refusal shape.0 (def_of table shape.0) seen
-        → ComesTo site Call.InitMap (Move.Stay (Change.Open (record { form = Made.Map 0; count = 0 })))
+        → ComesTo site Call.InitMap (Move.Stay (Change.Open (record { tracker = Made.Entries (MadeEntries.Map 0); count = 0 })))
     map_begins other is =
         let may = is ∙ map_seen at in
         let plain = of_dynamic false other in
         remains site Call.InitMap _ refl (λ t. refl)
-        (opens_here (as_map 0) (map_opens site.shapes (shape_at site) (cursor_tree site.state) plain may), tt, refl)
+        (opens_here (as_entries (EntriesKind.Map 0)) (map_opens site.shapes (shape_at site) (cursor_tree site.state) plain may), tt, refl)
         (λ hooks. rw (← may, plain) refl)
 
     -- a dynamic place gathers elements or entries instead

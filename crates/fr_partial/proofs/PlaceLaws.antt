@@ -1,35 +1,23 @@
 -- The place on top of the stack: its shape, and what stands there.
-use Rattle.std.proofs.Common.{◌≡◌, ℕ, suc, ◌<◌, Bool, true, false, List, length, Some, None, option_map, refl, sym, ◌∙◌, ap, subst}
-use Rattle.std.specs.Prelude.{replicate, if◌then◌else◌}
+use Rattle.std.proofs.Common.{◌≡◌, ℕ, suc, ◌<◌, Bool, true, false, List, length, Some, None, option_map, refl, sym, ◌∙◌, ap, subst, if◌then◌else◌}
+use Rattle.fr_partial.specs.Common.{Along, Body, EntriesKind, FrameOwner, IsLast, IsOfShape, IsOpen, Kid, LooksLike, LookupPathsAgree, LookupsAgree, Node, Plan, Plot, ShapeId, Slot, Table, Tracker, TypePlanNode, absent, as_entries, at, begun, begun_body, begun_plot, body_in, body_of, count_trees, cursor_in, ends_absent, entered_body, entered_plot, heap_of, holes, is_map, is_map_tracker, kid_shown, lacks_last, lacks_value, node_along, open_top, own_tree, tree_here, tree_in, tree_of, trees_in, trees_of, whole_body}
+use Rattle.std.specs.Prelude.{replicate}
 use Rattle.std.proofs.lemmas.List.{length-replicate}
-use Rattle.fr_shape.specs.declared.shape.ShapeId.{ShapeId}
-use Rattle.fr_shape.specs.Look.{Table}
-use Rattle.fr_model.specs.Collections.{ends_in_hole, is_hole, is_map, is_map_form, lacks_value}
-use Rattle.fr_model.specs.Tree.{Form, as_map, begun, holes, count_trees}
-use Rattle.fr_plan.specs.declared.nodes.TypePlanNode.{TypePlanNode}
+use Rattle.fr_model.specs.Collections.{ends_in_hole, is_hole}
 use Rattle.fr_plan.specs.Lookups.{node_at}
-use Rattle.fr_plan.specs.LookupLaws.{LookupsAgree, LookupPathsAgree}
-use Rattle.fr_plan.specs.TypePlan.{Plan}
 use Rattle.fr_frame.specs.declared.places.Place.{Place as Entry}
-use Rattle.fr_frame.specs.declared.places.Slot.{Slot}
-use Rattle.fr_frame.specs.Bodies.{Body, entered_body, whole_body, begun_body, own_tree, trees_of}
-use Rattle.fr_frame.specs.Cells.{absent}
 use Rattle.fr_frame.specs.Outlines.{has_items, is_list_body, outline, outlined}
 use Rattle.fr_frame.specs.OutlineLaws.{found_outline, same_plain, none_found as no_outline}
-use Rattle.fr_frame.specs.Heap.{Node, body_of, node_of, heap_of}
-use Rattle.fr_frame.specs.declared.places.FrameOwner.{FrameOwner}
-use Rattle.fr_frame.specs.Kids.{Kid, at, Plot, entered_plot, begun_plot, Kids, no_kids, kid, cell_of, tree_of, tree_in, trees_in, body_in, cells_in}
-use Rattle.fr_store.specs.MoveLaws.{open_reach, open_top, top_slot}
-use Rattle.fr_store.specs.Moves.{cursor_in, tree_here}
-use Rattle.fr_store.specs.Numbers.{IsLast}
-use Rattle.fr_store.specs.Stands.{IsOpen, kid_shown}
-use Rattle.fr_store.specs.Ways.{node_along, owner_along}
+use Rattle.fr_frame.specs.Heap.{node_of}
+use Rattle.fr_frame.specs.Kids.{Kids, no_kids, kid, cell_of, cells_in}
+use Rattle.fr_store.specs.MoveLaws.{open_reach, top_slot}
+use Rattle.fr_store.specs.Ways.{owner_along}
 use Rattle.fr_store.specs.TurnedLaws.{count_of}
 use Rattle.fr_store.specs.WayLaws.{tree_of_at}
-use Rattle.fr_partial.specs.Looks.{bare, ends_absent, is_absent, lacks_last, LooksLike}
+use Rattle.fr_partial.specs.Looks.{bare, is_absent}
 use Rattle.fr_partial.specs.Underway.{shape_here, IsReady}
 use Rattle.fr_partial.proofs.FitLaws.{is_there}
-use Rattle.fr_store.specs.ShapeLaws.{IsOfShape, Along, along, root_shaped}
+use Rattle.fr_store.specs.ShapeLaws.{along, root_shaped}
 
 -- what was put at a place tells what is in the slot, but of a list not what its children are
 abbrev pub Tells : List Slot → ℕ → Entry → Type 0
@@ -52,8 +40,7 @@ module _ (plan : Plan) (slots : List Slot) (stack : List ℕ) (shown : IsOpen pl
 
   -- the place that is found there
   pub found_is : (place : Entry) → Tells slots n place → outlined (node_of place) ≡ outlined (node_here plan slots stack shown)
-  found_is place is =
-      found_outline (node_of place) (heap_of slots n) (node_here plan slots stack shown) is here_found
+  found_is place is = found_outline (node_of place) (heap_of slots n) (node_here plan slots stack shown) is here_found
 
   -- there is one
   pub none_found : None ≡ option_map outlined (heap_of slots n) → ⊥
@@ -66,7 +53,7 @@ module _ (plan : Plan) (slots : List Slot) (stack : List ℕ) (shown : IsOpen pl
 bare_outline : (body : Body) → bare (own_tree (outline body)) ≡ bare (own_tree body)
 bare_outline entered_body = refl
 bare_outline (whole_body v) = refl
-bare_outline (begun_body form cells) = ap (λ (n : ℕ). begun form (holes n)) (go (has_items form))
+bare_outline (begun_body tracker cells) = ap (λ (n : ℕ). begun tracker (holes n)) (go (has_items tracker))
   where
     go : (b : Bool) → count_trees (trees_of (if b then replicate (length cells) absent else cells)) ≡ count_trees (trees_of cells)
     go true = count_of (replicate (length cells) absent) ∙ length-replicate (length cells) absent ∙ sym (count_of cells)
@@ -74,12 +61,12 @@ bare_outline (begun_body form cells) = ap (λ (n : ℕ). begun form (holes n)) (
 
 -- a map is told whole
 
-map_has_none : (form : Form) → is_map_form form ≡ true → has_items form ≡ false
-map_has_none (as_map base) is = refl
+map_has_none : (tracker : Tracker) → is_map_tracker tracker ≡ true → has_items tracker ≡ false
+map_has_none (as_entries (EntriesKind.Map base)) is = refl
 map_has_none _ is = cc
 
 map_lists_not : (plot : Plot) → is_map (tree_in plot) ≡ true → is_list_body (body_in plot) ≡ false
-map_lists_not (begun_plot form kids) is = map_has_none form is
+map_lists_not (begun_plot tracker kids) is = map_has_none tracker is
 map_lists_not _ is = refl
 
 count_told : (kids : Kids) → count_trees (trees_of (cells_in kids)) ≡ count_trees (trees_in kids)
@@ -87,7 +74,7 @@ count_told no_kids = refl
 count_told (kid k ks) = ap suc (count_told ks)
 
 own_looks : (plot : Plot) → LooksLike (own_tree (body_in plot)) (tree_in plot)
-own_looks (begun_plot form kids) = ap (λ (n : ℕ). begun form (holes n)) (count_told kids)
+own_looks (begun_plot tracker kids) = ap (λ (n : ℕ). begun tracker (holes n)) (count_told kids)
 own_looks _ = refl
 
 -- the plot on top stands there
@@ -109,7 +96,7 @@ last_told (kid k no_kids) = hole_told k
 last_told (kid k (kid j ks)) = last_told (kid j ks)
 
 plot_told : (plot : Plot) → lacks_last (body_in plot) ≡ lacks_value (tree_in plot)
-plot_told (begun_plot form kids) = last_told kids
+plot_told (begun_plot tracker kids) = last_told kids
 plot_told _ = refl
 
 module _ {plan : Plan} {slots : List Slot} {stack : List ℕ} (shown : IsOpen plan slots stack) {n : ℕ} (last : IsLast stack n)
@@ -120,17 +107,14 @@ module _ {plan : Plan} {slots : List Slot} {stack : List ℕ} (shown : IsOpen pl
       let top = open_top plan slots stack shown in
       sym (bare_outline (body_of place.piece))
       ∙ ap (λ (found : Node). bare (own_tree found.body)) (found_is plan slots stack shown n last place is)
-      ∙ bare_outline (body_in top.plot)
-      ∙ own_looks top.plot
-      ∙ ap bare (plot_here plan slots stack shown)
+      ∙ bare_outline (body_in top.plot) ∙ own_looks top.plot ∙ ap bare (plot_here plan slots stack shown)
 
   -- and of a map its last child is there, or isn't, as in the tree
   pub lacks_found : is_map (tree_here slots stack) ≡ true → lacks_last (body_of place.piece) ≡ lacks_value (tree_here slots stack)
   lacks_found of_map =
       let top = open_top plan slots stack shown in
       let here : tree_in top.plot ≡ tree_here slots stack = plot_here plan slots stack shown in
-      let same : body_of place.piece ≡ body_in top.plot
-      = same_plain (body_of place.piece) (body_in top.plot)
+      let same : body_of place.piece ≡ body_in top.plot = same_plain (body_of place.piece) (body_in top.plot)
       (ap (λ (found : Node). found.body) (found_is plan slots stack shown n last place is))
       (map_lists_not top.plot (ap is_map here ∙ of_map)) in
       ap lacks_last same ∙ plot_told top.plot ∙ ap lacks_value here

@@ -1,32 +1,11 @@
 -- Putting a value or a default at a place: what it comes to, and what it is refused for.
 use Rattle.std.proofs.Common.{◌≡◌, ℕ, Bool, true, false, ◌&&◌, if◌then◌else◌, Option, Some, None, Result, Ok, Err, IsOk, inl, inr, nat_eq, refl, sym, ◌∙◌, ap}
 use Rattle.std.proofs.lemmas.Bool.{eqb-true}
-use Rattle.fr_shape.specs.Checked.{IsChecked}
-use Rattle.fr_shape.specs.declared.error.Operation.{Operation}
-use Rattle.fr_shape.specs.declared.error.ReflectErrorKind.{ReflectErrorKind}
-use Rattle.fr_shape.specs.declared.shape.ShapeId.{ShapeId}
-use Rattle.fr_shape.specs.declared.shape.Def.{Def}
-use Rattle.fr_shape.specs.declared.shape.ScalarKind.{ScalarKind}
-use Rattle.fr_shape.specs.declared.value.Value.{Value}
-use Rattle.fr_shape.specs.Fills.{preset_of}
-use Rattle.fr_shape.specs.Fits.{fits, keys_once}
-use Rattle.fr_shape.specs.Hooks.{Meanings}
-use Rattle.fr_shape.specs.Look.{Table, def_of, settled}
-use Rattle.fr_shape.specs.Plannable.{is_dynamic}
-use Rattle.fr_shape.specs.Tokens.{occurs}
-use Rattle.fr_shape.specs.Val.{Val, Dynamic, dyn, text, unit}
-use Rattle.fr_shape.specs.View.{view}
-use Rattle.fr_model.specs.Commands.{Call}
-use Rattle.fr_model.specs.Converting.{converted}
-use Rattle.fr_model.specs.Step.{is_str, is_owned_string, operation_failed, set, set_refusal, puts, puts_default, puts_dynamic, step, takes_shape, unless_refused}
-use Rattle.fr_model.specs.Tree.{State, Tree}
-use Rattle.fr_partial.specs.declared.moves.Change.{Change}
-use Rattle.fr_partial.specs.declared.moves.Move.{Move}
-use Rattle.fr_partial.specs.Sites.{Site, shape_at}
-use Rattle.fr_partial.specs.Conversions.{copies_to_convert, IsUnconverted}
-use Rattle.fr_partial.specs.Moving.{ComesTo, IsRefusedWith}
-use Rattle.fr_partial.specs.Setting.{copies_at, converts}
-use Rattle.fr_partial.specs.Looks.{Sees}
+use Rattle.fr_partial.specs.Common.{Call, Change, ComesTo, Def, IsChecked, IsRefusedWith, IsUnconverted, Meanings, Move, Operation, ReflectErrorKind, ScalarKind, Sees, ShapeId, Site, State, Table, Tree, Val, Value, converted, converts, copies_to_convert, def_of, fits, is_dynamic, occurs, operation_failed, preset_of, settled, shape_at, step, takes_shape, unit, unless_refused, view}
+use Rattle.fr_shape.specs.Fits.{keys_once}
+use Rattle.fr_shape.specs.Val.{Dynamic, dyn, text}
+use Rattle.fr_model.specs.Step.{is_str, is_owned_string, set, set_refusal, puts, puts_default, puts_dynamic}
+use Rattle.fr_partial.specs.Setting.{copies_at}
 use Rattle.fr_partial.proofs.Converted.{settled_plain}
 use Rattle.fr_partial.proofs.ConvertedLaws.{converted_once}
 use Rattle.fr_partial.proofs.DecidingLaws.{remains}
@@ -104,18 +83,17 @@ module _ {site : Site} {table : Table} {shape : ShapeId} {seen : Tree} (at : See
     (given_is : given ≡ n) where
   pub converts_seen : converts table shape.0 given ≡ converts site.shapes (shape_at site) n
   converts_seen =
-      seen_by at (λ table s tree. converts table s given) (λ table s form ts. refl) ∙ ap (converts site.shapes (shape_at site)) given_is
+      seen_by at (λ table s tree. converts table s given) (λ table s tracker ts. refl) ∙ ap (converts site.shapes (shape_at site)) given_is
 
   pub takes_seen : takes_shape table shape.0 given ≡ takes_shape site.shapes (shape_at site) n
   takes_seen =
-      seen_by at (λ table s tree. takes_shape table s given) (λ table s form ts. refl)
+      seen_by at (λ table s tree. takes_shape table s given) (λ table s tracker ts. refl)
       ∙ ap (takes_shape site.shapes (shape_at site)) given_is
 
-  pub converted_seen : (plain v : Val) → plain ≡ v
-      → converted table shape.0 (def_of table given) plain
+  pub converted_seen : (plain v : Val) → plain ≡ v → converted table shape.0 (def_of table given) plain
       ≡ converted site.shapes (shape_at site) (def_of site.shapes n) v
   converted_seen plain v value_is =
-      seen_by at (λ table s tree. converted table s (def_of table given) plain) (λ table s form ts. refl)
+      seen_by at (λ table s tree. converted table s (def_of table given) plain) (λ table s tracker ts. refl)
       ∙ ap (λ (m : ℕ). converted site.shapes (shape_at site) (def_of site.shapes m) plain) given_is
       ∙ ap (converted site.shapes (shape_at site) (def_of site.shapes n)) value_is
 
@@ -129,8 +107,7 @@ module _ (site : Site) (n : ℕ) (v : Val) where
       same_tokens = λ t. ap (λ (w : Val). occurs w t) (sym is);
       may = ap (fits site.shapes (shape_at site)) is ∙ taken_fits site.shapes (shape_at site) n v takes fit;
       late = λ late. cc;
-      means = λ hooks.
-          set_is site.shapes (shape_at site) n site.state v
+      means = λ hooks. set_is site.shapes (shape_at site) n site.state v
           ∙ rw (as_it_is, takes) (ap (λ (w : Val). Ok (puts site.state w)) (sym is));
     }
 
@@ -140,9 +117,7 @@ module _ (site : Site) (n : ℕ) (v : Val) where
     not_taken expected given same of_given takes =
         inl (
           (λ out. cc),
-          λ hooks.
-              set_is site.shapes (shape_at site) n site.state v
-              ∙ rw (as_it_is, takes)
+          λ hooks. set_is site.shapes (shape_at site) n site.state v ∙ rw (as_it_is, takes)
               (ap (λ (s : ShapeId). Err (ReflectErrorKind.WrongShape s (record { 0 = n }))) (shape_of_number site expected same)
               ∙ ap (λ (m : ℕ). Err (ReflectErrorKind.WrongShape expected (record { 0 = m }))) (sym of_given)),
         )
@@ -164,8 +139,7 @@ module _ (site : Site) (n : ℕ) (v : Val) where
           ∙ dynamic_fits site.shapes (shape_at site) d (both_true (is_dynamic (def_of site.shapes (shape_at site))) _ as_other).0
           (converted_once site.shapes (shape_at site) (def_of site.shapes n) v d made);
       late = λ late. cc;
-      means = λ hooks.
-          means_so hooks ∙ ap (puts_dynamic site.state n) made ∙ ap (λ (w : Val). Ok (puts site.state w)) (sym is);
+      means = λ hooks. means_so hooks ∙ ap (puts_dynamic site.state n) made ∙ ap (λ (w : Val). Ok (puts site.state w)) (sym is);
     }
 
     pub unconverted : (kind : ReflectErrorKind)
@@ -179,23 +153,20 @@ module _ (site : Site) (n : ℕ) (v : Val) where
         go (Err operation) e refused =
             inl (
               (λ out. let no : operation_failed n operation ≡ ReflectErrorKind.OutOfMemory = sym refused ∙ out in cc),
-              λ hooks.
-                  means_so hooks ∙ ap (puts_dynamic site.state n) e ∙ ap (λ (k : ReflectErrorKind). Err k) (sym refused),
+              λ hooks. means_so hooks ∙ ap (puts_dynamic site.state n) e ∙ ap (λ (k : ReflectErrorKind). Err k) (sym refused),
             )
 
 -- What `set_default` comes to.
 module _ {site : Site} {table : Table} {shape : ShapeId} {seen : Tree} (at : Sees site table shape seen) where
-  preset_is : (preset : Option Val) → preset ≡ preset_of table shape.0
-      → preset_of site.shapes (shape_at site) ≡ preset
-  preset_is preset is = sym (is ∙ seen_by at (λ table s tree. preset_of table s) (λ table s form ts. refl))
+  preset_is : (preset : Option Val) → preset ≡ preset_of table shape.0 → preset_of site.shapes (shape_at site) ≡ preset
+  preset_is preset is = sym (is ∙ seen_by at (λ table s tree. preset_of table s) (λ table s tracker ts. refl))
 
   pub default_missing : None ≡ preset_of table shape.0
       → IsRefusedWith site Call.SetDefault (ReflectErrorKind.OperationFailed shape Operation.NoDefault)
   default_missing is =
       inl (
         (λ out. cc),
-        λ hooks.
-            ap (puts_default (shape_at site) site.state) (preset_is None is)
+        λ hooks. ap (puts_default (shape_at site) site.state) (preset_is None is)
             ∙ ap (λ (s : ShapeId). Err (ReflectErrorKind.OperationFailed s Operation.NoDefault)) (shape_seen at),
       )
 
@@ -207,12 +178,10 @@ module _ {site : Site} {table : Table} {shape : ShapeId} {seen : Tree} (at : See
     default_copied value same =
         remains site Call.SetDefault (Change.Put value) refl
         (λ t. ap (λ (v : Val). occurs v t) same ∙ light_occurs template t default_template.light)
-        (ap (fits site.shapes (shape_at site)) same ∙ default_template.fitting)
-        (λ hooks.
+        (ap (fits site.shapes (shape_at site)) same ∙ default_template.fitting) (λ hooks.
         ap (puts_default (shape_at site) site.state) (preset_is (Some template) is)
         ∙ ap (λ (v : Val). Ok (puts site.state v)) (sym same))
 
     -- where there is no memory for the copy
     pub copy_wanted : IsRefusedWith site Call.SetDefault ReflectErrorKind.OutOfMemory
-    copy_wanted =
-        inr (refl, λ hooks. admits (ap (puts_default (shape_at site) site.state) (preset_is (Some template) is)))
+    copy_wanted = inr (refl, λ hooks. admits (ap (puts_default (shape_at site) site.state) (preset_is (Some template) is)))

@@ -1,20 +1,13 @@
 -- The shape of each node of a plan is one that the root reaches, and where slots lead their tree leads.
 use Rattle.std.proofs.Common.{◌≡◌, ℕ, zero, suc, List, [], ◌∷◌, Some, slice_get, refl, sym, ◌∙◌, ap, subst}
 use Rattle.std.specs.List.{AllZip}
-use Rattle.fr_shape.specs.declared.shape.ShapeId.{ShapeId}
-use Rattle.fr_shape.specs.Checked.{IsChecked}
-use Rattle.fr_shape.specs.Look.{Table, IsIn}
+use Rattle.fr_partial.specs.Common.{IsChecked, IsIn, IsOfShape, IsPlanOf, Kid, Leads, NodeId, OffBut, Place, Plan, ShapeId, Table, Trees, at, begun_plot, branch, deferred, entered_plot, gone, no_trees, tree_of, trees_in, whole_plot}
 use Rattle.fr_shape.specs.Plannable.{Reached}
-use Rattle.fr_model.specs.Places.{Place}
-use Rattle.fr_model.specs.Tree.{Trees, no_trees, branch, deferred}
-use Rattle.fr_model.specs.Well.{AllOff, OffBut, Leads}
-use Rattle.fr_plan.specs.declared.nodes.NodeId.{NodeId}
+use Rattle.fr_model.specs.Well.{AllOff}
 use Rattle.fr_plan.specs.declared.outlines.Outline.{Outline}
 use Rattle.fr_plan.specs.Nodes.{IsNode}
 use Rattle.fr_plan.specs.PlanLaws.{PlansAreComplete}
-use Rattle.fr_plan.specs.TypePlan.{Plan, IsPlanOf}
-use Rattle.fr_frame.specs.Kids.{Kid, gone, there, at, entered_plot, whole_plot, begun_plot, Kids, no_kids, kid, tree_of, trees_in}
-use Rattle.fr_store.specs.ShapeLaws.{IsOfShape}
+use Rattle.fr_frame.specs.Kids.{there, Kids, no_kids, kid}
 use Rattle.fr_store.specs.Ways.{StoredBut, Leads as SlotsLead}
 
 -- what stands beside the element of this number
@@ -61,14 +54,12 @@ leads_but start zero place (kid k ks) leads each = (each k leads.0, none_off sta
 leads_but start (suc i) place (kid k ks) leads each = (tt, leads_but start i place ks leads.1 each)
 
 pub tree_leads : (start : ℕ) (place : Place) (k : Kid) → SlotsLead place k → Leads (deferred start) place (tree_of k)
-tree_leads start [] (at slot stored entered_plot) leads = tt
-tree_leads start [] (at slot stored (whole_plot v)) leads = tt
-tree_leads start [] (at slot stored (begun_plot form kids)) leads = none_off start (trees_in kids)
+tree_leads start [] (at slot stored (begun_plot tracker kids)) leads = none_off start (trees_in kids)
 tree_leads start [] gone leads = absurd leads
 tree_leads start [] (there v) leads = absurd leads
-tree_leads start (i ∷ place) (at slot stored (begun_plot form kids)) leads =
+tree_leads start [] _ leads = tt
+tree_leads start (i ∷ place) (at slot stored (begun_plot tracker kids)) leads =
     leads_but start i place kids leads.1 (tree_leads start place)
-tree_leads start (i ∷ place) (at slot stored entered_plot) leads = absurd leads.1
-tree_leads start (i ∷ place) (at slot stored (whole_plot v)) leads = absurd leads.1
 tree_leads start (i ∷ place) gone leads = absurd leads
 tree_leads start (i ∷ place) (there v) leads = absurd leads
+tree_leads start (i ∷ place) _ leads = absurd leads.1

@@ -1,19 +1,9 @@
 -- What a site sees of the place at which it works, as its table and its slots tell it.
-use Rattle.std.proofs.Common.{◌≡◌, ℕ, Bool, true, false, Some, None, refl, sym, ◌∙◌, ap}
-use Rattle.std.specs.Prelude.{if◌then◌else◌}
-use Rattle.fr_shape.specs.declared.error.Operation.{Operation}
-use Rattle.fr_shape.specs.declared.shape.ShapeId.{ShapeId}
-use Rattle.fr_shape.specs.Look.{Table, def_of}
-use Rattle.fr_shape.specs.Plannable.{is_dynamic}
-use Rattle.fr_model.specs.Collections.{is_map, key_refusal, lacks_value, set_item_refusal, value_refusal}
-use Rattle.fr_model.specs.Items.{init_array_refusal, item_refusal}
-use Rattle.fr_model.specs.Step.{field_refusal, init_list_refusal, init_map_refusal, init_set_refusal, named_refusal}
-use Rattle.fr_model.specs.Tree.{Form, Mode, selected, Tree, cursor_tree}
-use Rattle.fr_partial.specs.Beginnings.{beginning_in}
+use Rattle.std.proofs.Common.{◌≡◌, ℕ, Bool, true, false, Some, None, refl, sym, ◌∙◌, ap, if◌then◌else◌}
+use Rattle.fr_partial.specs.Common.{HasItems, Mode, Operation, ShapeId, Site, Table, Tracker, Tree, beginning_in, cursor_tree, def_of, field_refusal, init_array_refusal, init_list_refusal, init_map_refusal, init_set_refusal, is_dynamic, is_map, item_refusal, lacks_value, named_refusal, selected, set_item_refusal, shape_at, value_refusal}
+use Rattle.fr_model.specs.Collections.{key_refusal}
 use Rattle.fr_partial.specs.Entries.{key_refusal_by, value_refusal_by}
 pub use Rattle.fr_partial.specs.Looks.{Sees}
-use Rattle.fr_partial.specs.Openings.{HasItems}
-use Rattle.fr_partial.specs.Sites.{Site, shape_at}
 use Rattle.fr_partial.proofs.LookLaws.{alike_by, begun_array, begun_in, begun_named, begun_refusal, begun_set_item, items_alike, AsBegun}
 
 -- of a map it is known whether its last child is there; where there is no map, that doesn't matter
@@ -27,8 +17,7 @@ pub shape_of_number : (site : Site) (shape : ShapeId) → shape.0 ≡ shape_at s
     → ◌≡◌ {A = ShapeId} (record { 0 = shape_at site }) shape
 shape_of_number site shape e = ap (λ (n : ℕ). record { 0 = n }) (sym e)
 
-module _ {site : Site} {table : Table} {shape : ShapeId} {seen : Tree}
-    (at : Sees site table shape seen) where
+module _ {site : Site} {table : Table} {shape : ShapeId} {seen : Tree} (at : Sees site table shape seen) where
   -- what is told by them is true of the site
   abbrev pub IsSeen : {A : Type 0} → (Table → ℕ → Tree → A) → Type 0
   IsSeen f = f table shape.0 seen ≡ f site.shapes (shape_at site) (cursor_tree site.state)
@@ -44,7 +33,7 @@ module _ {site : Site} {table : Table} {shape : ShapeId} {seen : Tree}
   shape_seen = shape_of_number site shape at.shape_is
 
   pub def_seen : IsSeen (λ table s tree. def_of table s)
-  def_seen = seen_by (λ table s tree. def_of table s) (λ table s form ts. refl)
+  def_seen = seen_by (λ table s tree. def_of table s) (λ table s tracker ts. refl)
 
   pub dynamic_seen : IsSeen (λ table s tree. is_dynamic (def_of table s))
   dynamic_seen = ap is_dynamic def_seen
@@ -56,25 +45,25 @@ module _ {site : Site} {table : Table} {shape : ShapeId} {seen : Tree}
   named_seen = seen_by (λ table s. named_refusal (def_of table s)) (λ table s. begun_named (def_of table s))
 
   pub selected_seen : selected seen ≡ selected (cursor_tree site.state)
-  selected_seen = seen_by (λ table s. selected) (λ table s form ts. refl)
+  selected_seen = seen_by (λ table s. selected) (λ table s tracker ts. refl)
 
-  pub in_seen : (mode : Mode) (form : Form) → beginning_in mode form seen ≡ beginning_in mode form (cursor_tree site.state)
-  in_seen mode form = seen_by (λ table s. beginning_in mode form) (λ table s. begun_in mode form)
+  pub in_seen : (mode : Mode) (tracker : Tracker) → beginning_in mode tracker seen ≡ beginning_in mode tracker (cursor_tree site.state)
+  in_seen mode tracker = seen_by (λ table s. beginning_in mode tracker) (λ table s. begun_in mode tracker)
 
   pub list_seen : IsSeen (λ table s. init_list_refusal s (def_of table s))
-  list_seen = seen_by (λ table s. init_list_refusal s (def_of table s)) (λ table s form ts. refl)
+  list_seen = seen_by (λ table s. init_list_refusal s (def_of table s)) (λ table s tracker ts. refl)
 
   pub map_seen : IsSeen (λ table s. init_map_refusal s (def_of table s))
-  map_seen = seen_by (λ table s. init_map_refusal s (def_of table s)) (λ table s form ts. refl)
+  map_seen = seen_by (λ table s. init_map_refusal s (def_of table s)) (λ table s tracker ts. refl)
 
   pub set_seen : IsSeen (λ table s. init_set_refusal s (def_of table s))
-  set_seen = seen_by (λ table s. init_set_refusal s (def_of table s)) (λ table s form ts. refl)
+  set_seen = seen_by (λ table s. init_set_refusal s (def_of table s)) (λ table s tracker ts. refl)
 
   pub array_seen : IsSeen (λ table s. init_array_refusal (def_of table s))
   array_seen = seen_by (λ table s. init_array_refusal (def_of table s)) (λ table s. begun_array (def_of table s))
 
   pub item_seen : IsSeen (λ table s. item_refusal (def_of table s))
-  item_seen = seen_by (λ table s. item_refusal (def_of table s)) (λ table s form ts. refl)
+  item_seen = seen_by (λ table s. item_refusal (def_of table s)) (λ table s tracker ts. refl)
 
   pub set_item_seen : IsSeen (λ table s. set_item_refusal (def_of table s))
   set_item_seen = seen_by (λ table s. set_item_refusal (def_of table s)) (λ table s. begun_set_item (def_of table s))
@@ -83,15 +72,15 @@ module _ {site : Site} {table : Table} {shape : ShapeId} {seen : Tree}
   module _ (lacks : Bool) (told : is_map (cursor_tree site.state) ≡ true → lacks ≡ lacks_value (cursor_tree site.state)) where
     pub key_seen : key_refusal_by seen lacks ≡ key_refusal (cursor_tree site.state)
     key_seen =
-        seen_by (λ table s tree. key_refusal_by tree lacks) (λ table s form ts. refl)
+        seen_by (λ table s tree. key_refusal_by tree lacks) (λ table s tracker ts. refl)
         ∙ where_map (is_map (cursor_tree site.state)) lacks (lacks_value (cursor_tree site.state))
         (λ (b : Bool). if b then Some Operation.KeyBeforeValue else None) (Some Operation.KeyBeforeInitMap) told
 
     pub value_seen : value_refusal_by seen lacks ≡ value_refusal (cursor_tree site.state)
     value_seen =
-        seen_by (λ table s tree. value_refusal_by tree lacks) (λ table s form ts. refl)
+        seen_by (λ table s tree. value_refusal_by tree lacks) (λ table s tracker ts. refl)
         ∙ where_map (is_map (cursor_tree site.state)) lacks (lacks_value (cursor_tree site.state))
         (λ (b : Bool). if b then None else Some Operation.ValueBeforeKey) (Some Operation.ValueBeforeKey) told
 
-  pub items_seen : (form : Form) (count : ℕ) → HasItems form count seen → HasItems form count (cursor_tree site.state)
-  items_seen form count has = items_alike seen (cursor_tree site.state) at.looks form count has
+  pub items_seen : (tracker : Tracker) (count : ℕ) → HasItems tracker count seen → HasItems tracker count (cursor_tree site.state)
+  items_seen tracker count has = items_alike seen (cursor_tree site.state) at.looks tracker count has

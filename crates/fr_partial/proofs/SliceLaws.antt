@@ -1,27 +1,13 @@
 -- Pointers to slices: how they come to be open for items, and what that means.
 use Rattle.std.proofs.Common.{◌≡◌, ℕ, Bool, true, false, Option, Some, None, is_some, Ok, Err, unwrap_or, if◌then◌else◌, inl, inr, refl, sym, ◌∙◌, ap}
-use Rattle.fr_shape.specs.declared.error.Operation.{Operation}
-use Rattle.fr_shape.specs.declared.error.ReflectErrorKind.{ReflectErrorKind}
-use Rattle.fr_shape.specs.declared.shape.Def.{Def}
+use Rattle.fr_partial.specs.Common.{Call, Change, ComesTo, Def, IsRefusedWith, ItemsKind, Mode, Move, Operation, ReflectErrorKind, ShapeId, Site, Table, Tree, Val, Value, as_items, begun, begun_as, closed_slice, def_of, deferred, fits, hole, is_open_slice, kept_slice, list_of, no_vals, occurs, shape_at, slice_anew, strict, view}
 use Rattle.fr_shape.specs.declared.shape.KnownPointer.{KnownPointer}
 use Rattle.fr_shape.specs.declared.shape.PointerDef.{PointerDef}
-use Rattle.fr_shape.specs.declared.shape.ShapeId.{ShapeId}
-use Rattle.fr_shape.specs.declared.value.Value.{Value}
-use Rattle.fr_shape.specs.Fits.{fits}
-use Rattle.fr_shape.specs.Look.{Table, def_of}
-use Rattle.fr_shape.specs.Tokens.{occurs}
-use Rattle.fr_shape.specs.Val.{Val, list_of, no_vals, ptr}
-use Rattle.fr_shape.specs.View.{view}
-use Rattle.fr_model.specs.Commands.{Call}
-use Rattle.fr_model.specs.Contents.{is_slice, kept_slice, slice_anew}
-use Rattle.fr_model.specs.Items.{closed_slice, is_open_slice, shared_slice_by, shared_slice_refusal}
+use Rattle.fr_shape.specs.Val.{ptr}
+use Rattle.fr_model.specs.Contents.{is_slice}
+use Rattle.fr_model.specs.Items.{shared_slice_by, shared_slice_refusal}
 use Rattle.fr_model.specs.Step.{puts, set_empty_shared_slice}
-use Rattle.fr_model.specs.Tree.{as_slice, as_closed_slice, Tree, hole, begun, Mode, strict, deferred}
-use Rattle.fr_store.specs.Moves.{begun_as, IsBegunSlice}
-use Rattle.fr_partial.specs.declared.moves.Change.{Change}
-use Rattle.fr_partial.specs.declared.moves.Move.{Move}
-use Rattle.fr_partial.specs.Moving.{ComesTo, IsRefusedWith}
-use Rattle.fr_partial.specs.Sites.{Site, shape_at}
+use Rattle.fr_store.specs.Moves.{IsBegunSlice}
 use Rattle.fr_partial.proofs.Converted.{settled_plain}
 use Rattle.fr_partial.proofs.PutLaws.{admits}
 use Rattle.fr_partial.proofs.SeenLaws.{shape_of_number}
@@ -30,16 +16,16 @@ use Rattle.fr_partial.proofs.SeenLaws.{shape_of_number}
 
 -- what is kept is the place, open
 pub slice_kept : (mode : Mode) (tree : Tree) → is_some (kept_slice mode tree) ≡ true
-    → begun_as as_slice tree ≡ unwrap_or (kept_slice mode tree) slice_anew
+    → begun_as (as_items ItemsKind.Slice) tree ≡ unwrap_or (kept_slice mode tree) slice_anew
 slice_kept strict tree is = cc
-slice_kept (deferred start) (begun as_slice ts) is = refl
-slice_kept (deferred start) (begun as_closed_slice ts) is = refl
+slice_kept (deferred start) (begun (as_items ItemsKind.Slice) ts) is = refl
+slice_kept (deferred start) (begun (as_items ItemsKind.ClosedSlice) ts) is = refl
 slice_kept (deferred start) _ is = cc
 
 pub slice_there : (mode : Mode) (tree : Tree) → is_some (kept_slice mode tree) ≡ true → IsBegunSlice tree
 slice_there strict tree is = cc
-slice_there (deferred start) (begun as_slice ts) is = tt
-slice_there (deferred start) (begun as_closed_slice ts) is = tt
+slice_there (deferred start) (begun (as_items ItemsKind.Slice) ts) is = tt
+slice_there (deferred start) (begun (as_items ItemsKind.ClosedSlice) ts) is = tt
 slice_there (deferred start) _ is = cc
 
 -- or it starts anew
@@ -50,10 +36,10 @@ starts_anew None anew none = refl
 -- Closing one.
 
 pub open_there : (tree : Tree) → is_open_slice tree ≡ true → IsBegunSlice tree
-open_there (begun as_slice ts) is = tt
+open_there (begun (as_items ItemsKind.Slice) ts) is = tt
 open_there _ is = cc
 
-pub closed_alike : (tree : Tree) → begun_as as_closed_slice tree ≡ closed_slice tree
+pub closed_alike : (tree : Tree) → begun_as (as_items ItemsKind.ClosedSlice) tree ≡ closed_slice tree
 closed_alike hole = refl
 closed_alike _ = refl
 
@@ -86,8 +72,7 @@ pub no_slice_fits : (table : Table) (s : ℕ) → shared_slice_refusal table (de
     → fits table s (ptr (list_of no_vals)) ≡ true
 no_slice_fits table s may = go (def_of table s) refl may
   where
-    go : (def : Def) → def_of table s ≡ def → shared_slice_refusal table def ≡ None
-        → fits table s (ptr (list_of no_vals)) ≡ true
+    go : (def : Def) → def_of table s ≡ def → shared_slice_refusal table def ≡ None → fits table s (ptr (list_of no_vals)) ≡ true
     go (Def.Pointer pointer) e none = points_fit table s pointer e none
     go _ e none = cc
 
@@ -105,8 +90,7 @@ module _ (site : Site) (table : Table) (shape : ShapeId) (table_is : table ≡ s
   shared_refused operation e =
       inl (
         (λ out. cc),
-        λ hooks.
-            rw (sym shared_seen ∙ e)
+        λ hooks. rw (sym shared_seen ∙ e)
             (ap (λ (s : ShapeId). Err (ReflectErrorKind.OperationFailed s operation)) (shape_of_number site shape shape_is)),
       )
 

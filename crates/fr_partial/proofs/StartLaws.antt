@@ -1,16 +1,11 @@
 -- Starting by a plan that is there: its root's shape, and what is left to refuse.
 use Rattle.std.proofs.Common.{◌≡◌, [], Option, Some, Result, Ok, Err, IfOk, option_map, sym, ap, ◌∙◌}
-use Rattle.std.specs.Option.{option_or}
+use Rattle.fr_partial.specs.Common.{IsChecked, IsPlanFrom, Plan, Table, TypePlanNode, option_or, unsized_refusal}
 use Rattle.fr_shape.specs.declared.error.AllocError.{AllocError}
-use Rattle.fr_shape.specs.Checked.{IsChecked}
-use Rattle.fr_shape.specs.Look.{Table}
-use Rattle.fr_model.specs.Run.{alloc_refusal, unsized_refusal}
-use Rattle.fr_plan.specs.declared.nodes.TypePlanNode.{TypePlanNode}
+use Rattle.fr_model.specs.Run.{alloc_refusal}
 use Rattle.fr_plan.specs.Lookups.{node_at}
 use Rattle.fr_plan.specs.PathLaws.{PathsAgree}
 use Rattle.fr_plan.specs.RefusalLaws.{RefusesFirst, refusal_in}
-use Rattle.fr_plan.specs.TypePlan.{Plan}
-use Rattle.fr_partial.specs.Starting.{IsPlanFrom}
 
 pub if_ok : {A E : Type 0} {P Q : A → Type 0} → (result : Result A E) → ((a : A) → P a → Q a) → IfOk result P → IfOk result Q
 if_ok (Ok a) then holds = then a holds
@@ -20,8 +15,7 @@ if_ok (Err e) then holds = tt
 pub root_shape : PathsAgree → (table : Table) (plan : Plan) (node : TypePlanNode) → IsChecked table
     → (from : IsPlanFrom table plan) → node_at plan plan.root ≡ Some node → node.shape ≡ from.root
 root_shape agree table plan node checked from at =
-    let same : Some node.shape ≡ Some from.root
-    = ap (option_map (λ (n : TypePlanNode). n.shape)) (sym at)
+    let same : Some node.shape ≡ Some from.root = ap (option_map (λ (n : TypePlanNode). n.shape)) (sym at)
     ∙ agree table from.root plan [] checked from.inside from.planned in
     cc
 

@@ -1,36 +1,17 @@
 -- A builder as its open places give it: it is in order and at rest, and stays so from state to state.
 use Rattle.std.proofs.Common.{◌≡◌, ℕ, suc, Bool, true, false, List, [], ◌∷◌, length, Result, Ok, refl, sym, ◌∙◌, ap, subst, arith}
-use Rattle.fr_shape.specs.declared.error.ReflectErrorKind.{ReflectErrorKind}
-use Rattle.fr_shape.specs.Hooks.{Meanings}
-use Rattle.fr_path.specs.declared.path_steps.PathStep.{PathStep}
-use Rattle.fr_model.specs.Commands.{Call}
+use Rattle.fr_partial.specs.Common.{AreOpen, Became, Call, Frames, IsInOrder, IsKept, IsMade, IsMeant, IsOpen, IsOpenAt, IsSound, Kid, Meanings, Move, NothingStored, Parts, PathStep, Place, Plan, ReflectErrorKind, RestsAround, Site, Slot, State, StoresNothing, Tree, at, begun_plot, cursor_in, deferred, heap_of, is_root, kid_shown, meant_by, mode_of, one_more_call, path_of, plan_in, site, step, strict}
 use Rattle.fr_model.specs.Laws.{StepKeepsOrder, StepKeepsRest}
-use Rattle.fr_model.specs.Paths.{path_of, steps_in}
-use Rattle.fr_model.specs.Places.{Place, is_root}
+use Rattle.fr_model.specs.Paths.{steps_in}
 use Rattle.fr_model.specs.Scripts.{IsFitting}
-use Rattle.fr_model.specs.Step.{step}
-use Rattle.fr_model.specs.Tree.{Mode as StateMode, strict, deferred, Tree, State, one_more_call}
-use Rattle.fr_model.specs.Well.{IsInOrder, RestsAround}
-use Rattle.fr_plan.specs.TypePlan.{Plan}
-use Rattle.fr_frame.specs.declared.places.Slot.{Slot}
-use Rattle.fr_frame.specs.Heap.{heap_of, marked}
-use Rattle.fr_frame.specs.Kids.{Kid, at, begun_plot}
-use Rattle.fr_store.specs.Moves.{cursor_in, IsOpenAt}
-use Rattle.fr_store.specs.Stands.{IsOpen, kid_shown}
-use Rattle.fr_store.specs.Stored.{IsKept, NothingStored, StoresNoMore}
+use Rattle.fr_model.specs.Tree.{Mode as StateMode}
+use Rattle.fr_frame.specs.Heap.{marked}
+use Rattle.fr_store.specs.Stored.{StoresNoMore}
 use Rattle.fr_store.specs.Ways.{kid_nth, slots_along, Leads}
 use Rattle.fr_store.specs.WayLaws.{leads_at}
 use Rattle.fr_partial.specs.declared.mode.Mode.{Mode}
-use Rattle.fr_partial.specs.declared.moves.Move.{Move}
-use Rattle.fr_partial.specs.declared.work.Frames.{Frames}
-use Rattle.fr_partial.specs.declared.work.Parts.{Parts}
-use Rattle.fr_partial.specs.HeldPlan.{plan_in}
-use Rattle.fr_partial.specs.Making.{IsMade}
-use Rattle.fr_partial.specs.Modes.{mode_of, IsBelowStart}
-use Rattle.fr_partial.specs.Moving.{meant_by, IsMeant}
-use Rattle.fr_partial.specs.Sites.{Site}
-use Rattle.fr_partial.specs.Underway.{state_of, AreOpen, Became, StoresNothing}
-use Rattle.fr_partial.specs.Works.{site, IsSound}
+use Rattle.fr_partial.specs.Modes.{IsBelowStart}
+use Rattle.fr_partial.specs.Underway.{state_of}
 
 -- what a builder works with is in order
 abbrev pub IsSiteInOrder : Site → Type 0
@@ -126,8 +107,7 @@ module _ {parts : Parts} (sound : IsSound parts) where
         (rest_after keeps_rest hooks next meant.0 meant.1.fitting steps) way)
 
     -- and so the contracts see it
-    pub site_moved : (path : List PathStep)
-        → site (record parts { frames = frames; path = path; calls = calls })
+    pub site_moved : (path : List PathStep) → site (record parts { frames = frames; path = path; calls = calls })
         ≡ record (site parts) { state = state_then parts place tree }
     site_moved path =
         ap (λ (f : Frames). site (record parts { frames = f; path = path; calls = calls })) became.same
@@ -150,8 +130,7 @@ became_through {plan} {place} {other} {tree} {next} {before} {between} {after} f
   kept = second.kept;
   stores = subst (λ (f : Frames). StoresNothing (mode_of f.mode) after.store) first.same second.stores;
   same =
-      second.same
-      ∙ ap (λ (f : Frames). record f { slots = after.slots; stack = after.stack; store = after.store }) first.same;
+      second.same ∙ ap (λ (f : Frames). record f { slots = after.slots; stack = after.stack; store = after.store }) first.same;
 }
 
 -- and they are open then
@@ -189,8 +168,7 @@ none_listed (n ∷ store) slots kept none =
 -- in strict mode nothing is stored
 pub strict_stores : (mode : StateMode) (store : List ℕ) (slots : List Slot) → mode ≡ strict → StoresNothing mode store
     → IsKept store slots → NothingStored slots
-strict_stores strict store slots is stores kept =
-    none_kept slots (subst (λ (listed : List ℕ). IsKept listed slots) stores kept)
+strict_stores strict store slots is stores kept = none_kept slots (subst (λ (listed : List ℕ). IsKept listed slots) stores kept)
 strict_stores (deferred start) store slots is stores kept = cc
 
 -- so it stays where nothing more is stored
@@ -203,8 +181,8 @@ stores_after (deferred start) store next before after stores kept kept_next no_m
 -- the stack has one slot for the root, and one for each step
 along_length : (place : Place) (k : Kid) → Leads place k → length (slots_along place k) ≡ suc (length place)
 along_length [] (at slot stored plot) leads = refl
-along_length (i ∷ place) (at slot stored (begun_plot form kids)) leads =
-    ap suc (along_length place (kid_nth i kids) (leads_at (i ∷ []) place (at slot stored (begun_plot form kids)) leads))
+along_length (i ∷ place) (at slot stored (begun_plot tracker kids)) leads =
+    ap suc (along_length place (kid_nth i kids) (leads_at (i ∷ []) place (at slot stored (begun_plot tracker kids)) leads))
 along_length (i ∷ place) (at slot stored _) leads = absurd leads.1
 along_length _ _ leads = absurd leads
 
@@ -212,8 +190,7 @@ along_length _ _ leads = absurd leads
 pub stack_length : (plan : Plan) (slots : List Slot) (stack : List ℕ) → IsOpen plan slots stack
     → length stack ≡ suc (length (cursor_in slots stack))
 stack_length plan slots stack shown =
-    ap length shown.stands.along
-    ∙ along_length (cursor_in slots stack) (kid_shown (heap_of slots) stack) shown.stands.leads
+    ap length shown.stands.along ∙ along_length (cursor_in slots stack) (kid_shown (heap_of slots) stack) shown.stands.leads
 
 -- what lies deeper than where deferred mode began isn't the root, and there anything may be stored
 pub below_start : (mode : StateMode) (place : Place) → IsBelowStart mode place

@@ -1,14 +1,7 @@
 -- A change of the place on top, whichever it is, as it is met.
 use Rattle.std.proofs.Common.{◌≡◌, ℕ, ◌+◌, true, List, sym, ◌∙◌, refl, ap, subst, arith}
-use Rattle.fr_shape.specs.Released.{Conserved}
-use Rattle.fr_shape.specs.TokenLaws.{Conserved_same}
-use Rattle.fr_model.specs.Tree.{Tree}
-use Rattle.fr_plan.specs.TypePlan.{Plan}
-use Rattle.fr_partial.specs.declared.moves.Change.{Change}
-use Rattle.fr_partial.specs.declared.work.Frames.{Frames}
-use Rattle.fr_partial.specs.Modes.{mode_of}
-use Rattle.fr_partial.specs.Moving.{carried_by, changed, needs_none_for, MayStay}
-use Rattle.fr_partial.specs.Underway.{top_shape, top_tree, Changed}
+use Rattle.fr_partial.specs.Common.{Change, Changed, Conserved, Conserved_same, Frames, MayStay, Plan, Tree, carried_by, changed, mode_of, top_shape, top_tree}
+use Rattle.fr_partial.specs.Moving.{needs_none_for}
 
 module _ {change told : Change} (is : change ≡ told) where
   -- it may be made

@@ -4,29 +4,19 @@ use Rattle.std.specs.List.{flat_map, list_all}
 use Rattle.std.proofs.lemmas.List.Folds.{list_all-append}
 use Rattle.std.specs.Prelude.{option_to_list}
 use Rattle.fr_shape.specs.declared.shape.Shape.{Shape}
-use Rattle.fr_shape.specs.declared.shape.Def.{Def}
-use Rattle.fr_shape.specs.declared.error.ReflectErrorKind.{ReflectErrorKind}
+use Rattle.fr_partial.specs.Common.{Def, EnumDef, Field, IsChecked, IsServed, Meanings, ReflectErrorKind, Table, Tracker, Val, VariantDef, as_fields, def_of, field_default, field_in, fits, occurs, preset_of, tokens}
 use Rattle.fr_shape.specs.declared.shape.DefaultSource.{DefaultSource}
-use Rattle.fr_shape.specs.declared.shape.EnumDef.{EnumDef}
-use Rattle.fr_shape.specs.declared.shape.Field.{Field}
-use Rattle.fr_shape.specs.declared.shape.VariantDef.{VariantDef}
-use Rattle.fr_shape.specs.Checked.{IsChecked, is_template, default_is_template, fields_of}
-use Rattle.fr_shape.specs.Fills.{preset_of}
-use Rattle.fr_shape.specs.Fits.{fits}
-use Rattle.fr_shape.specs.Hooks.{Meanings}
-use Rattle.fr_shape.specs.Look.{Table, def_of, field_in, field_of_variant}
+use Rattle.fr_shape.specs.Checked.{is_template, default_is_template, fields_of}
+use Rattle.fr_shape.specs.Look.{field_of_variant}
 use Rattle.fr_shape.specs.Lists.{is_nil}
-use Rattle.fr_model.specs.Served.{IsServed, serves, serves_def, serves_field, serves_variant}
-use Rattle.fr_shape.specs.Tokens.{tokens, times, occurs}
+use Rattle.fr_model.specs.Served.{serves, serves_def, serves_field, serves_variant}
+use Rattle.fr_shape.specs.Tokens.{times}
 use Rattle.fr_shape.specs.TokenLaws.{occurs_times}
-use Rattle.fr_shape.specs.Val.{Val}
-use Rattle.fr_model.specs.Step.{default_by_mark, default_or, field_default}
+use Rattle.fr_model.specs.Step.{default_by_mark, default_or}
 use Rattle.fr_model.specs.Complete.{failing_child, failing_field_in}
-use Rattle.fr_model.specs.Tree.{Form, as_struct, as_variant}
 use Rattle.fr_partial.proofs.FitLaws.{both_true}
 
-all_at : {X : Type 0} (p : X → Bool) (xs : List X) (i : ℕ) (x : X) → list_all p xs ≡ true → slice_get xs i ≡ Some x
-    → p x ≡ true
+all_at : {X : Type 0} (p : X → Bool) (xs : List X) (i : ℕ) (x : X) → list_all p xs ≡ true → slice_get xs i ≡ Some x → p x ≡ true
 all_at p [] i x h e = cc
 all_at p (y ∷ ys) zero x h e =
     let same : y ≡ x = cc in
@@ -47,8 +37,7 @@ light_occurs v t e = occurs_times v t ∙ ap (λ (ts : List ℕ). times ts t) e
 
 template_is : (table : Table) (s : ℕ) (v : Val) → is_template table s v ≡ true → IsTemplate table s v
 template_is table s v h =
-    let both : (fits table s v ≡ true) × (is_nil (tokens v) ≡ true)
-    = both_true (fits table s v) (is_nil (tokens v)) h in
+    let both : (fits table s v ≡ true) × (is_nil (tokens v) ≡ true) = both_true (fits table s v) (is_nil (tokens v)) h in
     record { fitting = both.0; light = nil_is (tokens v) both.1 }
 
 in_preset : (table : Table) (s : ℕ) (preset : Option Val) (v : Val)
@@ -58,18 +47,15 @@ in_preset table s (Some w) v h e =
     let same : w ≡ v = cc in
     subst (IsTemplate table s) same (template_is table s w (both_true (is_template table s w) true h).0)
 
-pub preset_template : (table : Table) (s : ℕ) (v : Val) → IsChecked table → preset_of table s ≡ Some v
-    → IsTemplate table s v
+pub preset_template : (table : Table) (s : ℕ) (v : Val) → IsChecked table → preset_of table s ≡ Some v → IsTemplate table s v
 preset_template table s v checked e = go (slice_get table s) refl
   where
     go : (found : Option Shape) → slice_get table s ≡ found → IsTemplate table s v
     go None h = let none : preset_of table s ≡ None = rw h refl in cc
     go (Some shape) h =
-        in_preset table s shape.preset v
-        (both_true (list_all (is_template table s) (option_to_list shape.preset))
+        in_preset table s shape.preset v (both_true (list_all (is_template table s) (option_to_list shape.preset))
         (list_all (λ (field : Field). default_is_template table field.shape.0 field.default) (fields_of shape.def))
-        (checked.templates s shape h)).0
-        (rw h at e)
+        (checked.templates s shape h)).0 (rw h at e)
 
 -- a field's own template is one of its shape
 
@@ -109,11 +95,9 @@ field_template table s i selected field checked is_there = go (slice_get table s
     go : (found : Option Shape) → slice_get table s ≡ found → default_is_template table field.shape.0 field.default ≡ true
     go None h = let no : None ≡ Some field = rw h at is_there in cc
     go (Some shape) h =
-        among_fields table shape.def selected i field
-        (both_true (list_all (is_template table s) (option_to_list shape.preset))
+        among_fields table shape.def selected i field (both_true (list_all (is_template table s) (option_to_list shape.preset))
         (list_all (λ (f : Field). default_is_template table f.shape.0 f.default) (fields_of shape.def))
-        (checked.templates s shape h)).1
-        (rw h at is_there)
+        (checked.templates s shape h)).1 (rw h at is_there)
 
 -- what a field is set to by its default holds no token
 pub default_light : (table : Table) (s i : ℕ) (selected : Option ℕ) (field : Field) (v : Val) → IsChecked table
@@ -133,8 +117,7 @@ default_light table s i selected field v checked is_there made = go field.defaul
         let own : default_is_template table field.shape.0 (Some (DefaultSource.Custom w)) ≡ true
         = ap (default_is_template table field.shape.0) (sym is) ∙ field_template table s i selected field checked is_there in
         subst (λ (x : Val). tokens x ≡ []) same (template_is table field.shape.0 w own).light
-    go (Some DefaultSource.FromTrait) is e = by_preset (preset_of table field.shape.0) _ refl e
-    go None is e = by_preset (preset_of table field.shape.0) _ refl e
+    go _ is e = by_preset (preset_of table field.shape.0) _ refl e
 
 -- no validator of a served table is asked
 
@@ -179,8 +162,7 @@ served_field table s i selected field served is_there = go (slice_get table s) r
 
     go : (found : Option Shape) → slice_get table s ≡ found → serves_field field ≡ true
     go None h = let no : None ≡ Some field = rw h at is_there in cc
-    go (Some shape) h =
-        by_def shape.def (served_def shape (all_at serves table s shape served h)) selected (rw h at is_there)
+    go (Some shape) h = by_def shape.def (served_def shape (all_at serves table s shape served h)) selected (rw h at is_there)
 
 none_failing_field : (hooks : Meanings) (table : Table) (s i : ℕ) (selected : Option ℕ) (made : Option Val) → IsServed table
     → failing_field_in hooks table s selected i made ≡ None
@@ -190,11 +172,10 @@ none_failing_field hooks table s i selected made served = go (field_in (def_of t
         → failing_field_in hooks table s selected i made ≡ None
     go None is = rw is refl
     go (Some field) is =
-        none_fails hooks table s i selected field made
-        (no_validators field (served_field table s i selected field served is)) is
+        none_fails hooks table s i selected field made (no_validators field (served_field table s i selected field served is)) is
 
-pub none_failing : (hooks : Meanings) (table : Table) (s : ℕ) (form : Form) (i : ℕ) (made : Option Val) → IsServed table
-    → failing_child hooks table s form i made ≡ None
-none_failing hooks table s as_struct i made served = none_failing_field hooks table s i None made served
-none_failing hooks table s (as_variant k) i made served = none_failing_field hooks table s i (Some k) made served
+pub none_failing : (hooks : Meanings) (table : Table) (s : ℕ) (tracker : Tracker) (i : ℕ) (made : Option Val) → IsServed table
+    → failing_child hooks table s tracker i made ≡ None
+none_failing hooks table s (as_fields None) i made served = none_failing_field hooks table s i None made served
+none_failing hooks table s (as_fields (Some k)) i made served = none_failing_field hooks table s i (Some k) made served
 none_failing hooks table s _ i made served = refl

@@ -1,11 +1,8 @@
 -- Changes at one place of a tree, and how often a token stands there.
 use Rattle.std.proofs.Common.{◌≡◌, ℕ, zero, suc, ◌+◌, false, [], ◌∷◌, ◌++◌, refl, sym, ◌∙◌, ap, arith}
-use Rattle.fr_shape.specs.Look.{Table}
-use Rattle.fr_shape.specs.Val.{Val}
-use Rattle.fr_model.specs.Collections.{and_item, is_set, number_in, with_ended_item, without_nth}
-use Rattle.fr_model.specs.Places.{Place, is_root, up}
-use Rattle.fr_model.specs.Tree.{Tree, hole, entered, whole, begun, Trees, no_trees, branch, tree_nth, change_nth, tree_at, change_child, change_at, child_as, holes, shape_in, tree_occurs, trees_occur, Mode}
-use Rattle.fr_model.specs.Well.{OffBut, Leads}
+use Rattle.fr_partial.specs.Common.{Leads, Mode, OffBut, Place, Table, Tree, Trees, Val, begun, branch, change_at, change_child, child_as, entered, hole, holes, is_root, is_set, no_trees, shape_in, tree_at, tree_nth, tree_occurs, up, whole}
+use Rattle.fr_model.specs.Collections.{and_item, number_in, with_ended_item, without_nth}
+use Rattle.fr_model.specs.Tree.{change_nth, trees_occur}
 
 nth_same : (i : ℕ) (f : Tree → Tree) → ((t : Tree) → f t ≡ t) → (ts : Trees) → change_nth i f ts ≡ ts
 nth_same i f same no_trees = refl
@@ -14,8 +11,8 @@ nth_same (suc i) f same (branch t ts) = ap (branch t) (nth_same i f same ts)
 
 pub unchanged : (place : Place) (t : Tree) → change_at place (λ old. old) t ≡ t
 unchanged [] t = refl
-unchanged (i ∷ place) (begun form ts) =
-    ap (begun form) (nth_same i (λ child. change_at place (λ old. old) child) (unchanged place) ts)
+unchanged (i ∷ place) (begun tracker ts) =
+    ap (begun tracker) (nth_same i (λ child. change_at place (λ old. old) child) (unchanged place) ts)
 unchanged (i ∷ place) _ = refl
 
 nth_alike : (i : ℕ) (f g : Tree → Tree) (ts : Trees) → f (tree_nth i ts) ≡ g (tree_nth i ts)
@@ -28,9 +25,8 @@ nth_alike (suc i) f g (branch t ts) same = ap (branch t) (nth_alike i f g ts sam
 pub alike_here : (place : Place) (f g : Tree → Tree) (t : Tree) → f (tree_at place t) ≡ g (tree_at place t)
     → change_at place f t ≡ change_at place g t
 alike_here [] f g t same = same
-alike_here (i ∷ place) f g (begun form ts) same =
-    ap (begun form)
-    (nth_alike i (λ child. change_at place f child) (λ child. change_at place g child) ts
+alike_here (i ∷ place) f g (begun tracker ts) same =
+    ap (begun tracker) (nth_alike i (λ child. change_at place f child) (λ child. change_at place g child) ts
     (alike_here place f g (tree_nth i ts) same))
 alike_here (i ∷ place) f g _ same = refl
 
@@ -42,8 +38,8 @@ put_again place t here is = alike_here place (λ old. here) (λ old. old) t (sym
 pub changed_below : (place : Place) (i : ℕ) (f : Tree → Tree) (t : Tree)
     → change_at (place ++ i ∷ []) f t ≡ change_at place (change_child i f) t
 changed_below [] i f t = refl
-changed_below (j ∷ place) i f (begun form ts) =
-    ap (begun form)
+changed_below (j ∷ place) i f (begun tracker ts) =
+    ap (begun tracker)
     (nth_alike j (λ child. change_at (place ++ i ∷ []) f child) (λ child. change_at place (change_child i f) child) ts
     (changed_below place i f (tree_nth j ts)))
 changed_below (j ∷ place) i f _ = refl
@@ -58,9 +54,8 @@ nth_both (suc i) f g h same (branch t ts) = ap (branch t) (nth_both i f g h same
 pub changed_twice : (place : Place) (f g : Tree → Tree) (t : Tree)
     → change_at place f (change_at place g t) ≡ change_at place (λ x. f (g x)) t
 changed_twice [] f g t = refl
-changed_twice (i ∷ place) f g (begun form ts) =
-    ap (begun form)
-    (nth_both i (λ child. change_at place f child) (λ child. change_at place g child)
+changed_twice (i ∷ place) f g (begun tracker ts) =
+    ap (begun tracker) (nth_both i (λ child. change_at place f child) (λ child. change_at place g child)
     (λ child. change_at place (λ x. f (g x)) child) (changed_twice place f g) ts)
 changed_twice (i ∷ place) f g _ = refl
 
@@ -79,7 +74,7 @@ nth_leads mode (suc i) Below (branch t ts) off = nth_leads mode i Below ts off.1
 pub changed_at : (mode : Mode) (place : Place) (change : Tree → Tree) (t : Tree) → Leads mode place t
     → tree_at place (change_at place change t) ≡ change (tree_at place t)
 changed_at mode [] change t leads = refl
-changed_at mode (i ∷ place) change (begun form ts) leads =
+changed_at mode (i ∷ place) change (begun tracker ts) leads =
     ap (tree_at place) (nth_changed mode i (λ child. Leads mode place child) (λ child. change_at place change child) ts leads)
     ∙ changed_at mode place change (tree_nth i ts) (nth_leads mode i (λ child. Leads mode place child) ts leads)
 changed_at mode (i ∷ place) change _ leads = absurd leads
@@ -87,8 +82,7 @@ changed_at mode (i ∷ place) change _ leads = absurd leads
 -- a value that is put over whatever became of a child
 pub put_over : (i : ℕ) (v : Val) (change : Tree → Tree) (t : Tree)
     → change_child i (λ old. whole v) (change_child i change t) ≡ change_child i (λ old. whole v) t
-put_over i v change (begun form ts) =
-    ap (begun form) (nth_both i (λ old. whole v) change (λ old. whole v) (λ x. refl) ts)
+put_over i v change (begun tracker ts) = ap (begun tracker) (nth_both i (λ old. whole v) change (λ old. whole v) (λ x. refl) ts)
 put_over i v change _ = refl
 
 -- The end of a set's item.
@@ -98,9 +92,8 @@ without_changed i f no_trees = refl
 without_changed zero f (branch t ts) = refl
 without_changed (suc i) f (branch t ts) = ap (branch t) (without_changed i f ts)
 
-ended_over : (i : ℕ) (v : Val) (f : Tree → Tree) (t : Tree)
-    → with_ended_item i v (change_child i f t) ≡ with_ended_item i v t
-ended_over i v f (begun form ts) = ap (λ (us : Trees). begun form (and_item us v)) (without_changed i f ts)
+ended_over : (i : ℕ) (v : Val) (f : Tree → Tree) (t : Tree) → with_ended_item i v (change_child i f t) ≡ with_ended_item i v t
+ended_over i v f (begun tracker ts) = ap (λ (us : Trees). begun tracker (and_item us v)) (without_changed i f ts)
 ended_over i v f _ = refl
 
 -- whatever became of the item, the set takes the value with which it ends
@@ -109,9 +102,8 @@ pub item_over : (place : Place) (v : Val) (f : Tree → Tree) (t : Tree) → is_
     ≡ change_at (up place) (with_ended_item (number_in place) v) t
 item_over [] v f t below = cc
 item_over (i ∷ []) v f t below = ended_over i v f t
-item_over (i ∷ j ∷ place) v f (begun form ts) below =
-    ap (begun form)
-    (nth_both i (λ child. change_at (up (j ∷ place)) (with_ended_item (number_in (j ∷ place)) v) child)
+item_over (i ∷ j ∷ place) v f (begun tracker ts) below =
+    ap (begun tracker) (nth_both i (λ child. change_at (up (j ∷ place)) (with_ended_item (number_in (j ∷ place)) v) child)
     (λ child. change_at (j ∷ place) f child)
     (λ child. change_at (up (j ∷ place)) (with_ended_item (number_in (j ∷ place)) v) child)
     (λ child. item_over (j ∷ place) v f child refl) ts)
@@ -128,26 +120,21 @@ nth_kept (suc i) So f (branch t ts) then was = nth_kept i So f ts then was
 pub shape_stays : (table : Table) (s : ℕ) (place : Place) (f : Tree → Tree) (t : Tree)
     → shape_in table s place (change_at place f t) ≡ shape_in table s place t
 shape_stays table s [] f t = refl
-shape_stays table s (i ∷ place) f (begun form ts) =
-    nth_kept i
-    (λ (child : Tree). shape_in table (child_as table s form i) place child
-    ≡ shape_in table (child_as table s form i) place (tree_nth i ts))
-    (λ child. change_at place f child) ts
-    (shape_stays table (child_as table s form i) place f (tree_nth i ts)) refl
+shape_stays table s (i ∷ place) f (begun tracker ts) =
+    nth_kept i (λ (child : Tree). shape_in table (child_as table s tracker i) place child
+    ≡ shape_in table (child_as table s tracker i) place (tree_nth i ts)) (λ child. change_at place f child) ts
+    (shape_stays table (child_as table s tracker i) place f (tree_nth i ts)) refl
 shape_stays table s (i ∷ place) f _ = refl
 
 -- what stands above is a set as before
 pub set_stays : (place : Place) (f : Tree → Tree) (t : Tree) → is_root place ≡ false
     → is_set (tree_at (up place) (change_at place f t)) ≡ is_set (tree_at (up place) t)
 set_stays [] f t below = cc
-set_stays (i ∷ j ∷ place) f hole below = refl
-set_stays (i ∷ j ∷ place) f entered below = refl
-set_stays (i ∷ j ∷ place) f (whole v) below = refl
-set_stays (i ∷ j ∷ place) f (begun form ts) below =
-    nth_kept i
-    (λ (child : Tree). is_set (tree_at (up (j ∷ place)) child) ≡ is_set (tree_at (up (j ∷ place)) (tree_nth i ts)))
+set_stays (i ∷ j ∷ place) f (begun tracker ts) below =
+    nth_kept i (λ (child : Tree). is_set (tree_at (up (j ∷ place)) child) ≡ is_set (tree_at (up (j ∷ place)) (tree_nth i ts)))
     (λ child. change_at (j ∷ place) f child) ts (set_stays (j ∷ place) f (tree_nth i ts) refl) refl
-set_stays (i ∷ []) f (begun form ts) below = refl
+set_stays (i ∷ j ∷ place) f _ below = refl
+set_stays (i ∷ []) f (begun tracker ts) below = refl
 set_stays (i ∷ []) f _ below = refl
 
 -- Tokens.
@@ -163,7 +150,7 @@ pub changed_occur : (mode : Mode) (place : Place) (f : Tree → Tree) (t : Tree)
     → tree_occurs (change_at place f t) n + tree_occurs (tree_at place t) n
     ≡ tree_occurs t n + tree_occurs (f (tree_at place t)) n
 changed_occur mode [] f t n leads = omega arith
-changed_occur mode (i ∷ place) f (begun form ts) n leads =
+changed_occur mode (i ∷ place) f (begun tracker ts) n leads =
     omega (
       arith,
       nth_occur mode i (λ child. Leads mode place child) (λ child. change_at place f child) ts n leads,

@@ -1,9 +1,7 @@
 -- The path that a builder keeps, where it goes on and where it goes back.
 use Rattle.std.proofs.Common.{◌≡◌, ℕ, List, [], ◌∷◌, ◌++◌, length, Option, Some, None, IsNone, IfSome, ◌↔◌, refl, sym, ◌∙◌, ap}
-use Rattle.fr_path.specs.declared.path_steps.PathStep.{PathStep}
+use Rattle.fr_partial.specs.Common.{PathStep, State, path_of}
 use Rattle.fr_model.specs.PathLaws.{PathIsAsDeep}
-use Rattle.fr_model.specs.Paths.{path_of}
-use Rattle.fr_model.specs.Tree.{State}
 
 -- a path with a last step isn't empty
 pub never_empty : (before : List PathStep) (last : PathStep) → before ++ last ∷ [] ≡ [] → ⊥
@@ -12,8 +10,7 @@ never_empty (step ∷ before) last e = cc
 
 -- one step back
 pub went_back : (undone : (before after : List PathStep) (step last : PathStep) → before ++ step ∷ [] ≡ after ++ last ∷ []
-    → (after ≡ before) × (last ≡ step))
-    → (taken : Option PathStep) (before old new : List PathStep) (last : PathStep)
+    → (after ≡ before) × (last ≡ step)) → (taken : Option PathStep) (before old new : List PathStep) (last : PathStep)
     → IfSome taken (λ step. old ≡ new ++ step ∷ []) → IsNone taken ↔ (old ≡ []) → old ≡ before ++ last ∷ [] → new ≡ before
 went_back undone (Some step) before old new last split none is = (undone before new last step (sym is ∙ split)).0
 went_back undone None before old new last split none is = absurd (never_empty before last (sym is ∙ none.0 refl))

@@ -1,17 +1,6 @@
 -- What a builder holds is what its slots hold.
 use Rattle.std.proofs.Common.{◌≡◌, ℕ, suc, List, length, ◌∙◌, ap}
-use Rattle.fr_shape.specs.Released.{Room}
-use Rattle.fr_shape.specs.TokenLaws.{Room_same}
-use Rattle.fr_model.specs.Tree.{tree_occurs}
-use Rattle.fr_plan.specs.TypePlan.{Plan}
-use Rattle.fr_store.specs.MoveLaws.{slots_tokens}
-use Rattle.fr_store.specs.Stands.{IsOpen}
-use Rattle.fr_partial.specs.declared.work.Frames.{Frames}
-use Rattle.fr_partial.specs.declared.work.Parts.{Parts}
-use Rattle.fr_partial.specs.HeldPlan.{plan_in}
-use Rattle.fr_partial.specs.Sites.{Site, held_at}
-use Rattle.fr_partial.specs.Underway.{held_in, whole_tree}
-use Rattle.fr_partial.specs.Works.{site, IsSound}
+use Rattle.fr_partial.specs.Common.{Frames, IsOpen, IsSound, Parts, Plan, Room, Room_same, Site, held_at, held_in, plan_in, site, slots_tokens, tree_occurs, whole_tree}
 use Rattle.fr_partial.proofs.StateLaws.{stack_length}
 
 -- as contracts see it

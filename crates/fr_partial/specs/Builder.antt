@@ -70,8 +70,7 @@ meaning_of_build hooks builder = build hooks builder.shapes builder.root builder
 -- `build` did exactly what it means, its value made by as many calls as the builder had, or was out of memory
 abbrev pub IsBuilt : {H : Type 0} → Meanings → Builder H → Result BuiltValue ReflectError → Type 0
 IsBuilt hooks before (Ok built) = (meaning_of_build hooks before ≡ Ok built.value) × (built.calls ≡ before.state.calls)
-IsBuilt hooks before (Err error) =
-    (error.kind ≡ ReflectErrorKind.OutOfMemory) ⊎ (meaning_of_build hooks before ≡ Err error.kind)
+IsBuilt hooks before (Err error) = (error.kind ≡ ReflectErrorKind.OutOfMemory) ⊎ (meaning_of_build hooks before ≡ Err error.kind)
 
 -- whatever its kind, the error names the path of the place at which the builder worked before the call
 abbrev pub TellsPlaceBefore : {H A : Type 0} → Builder H → Result A ReflectError → Type 0

@@ -16,8 +16,7 @@ build_refusal_in strict at_root = at_root
 
 -- why there is nothing to be built yet, if so: deferred mode isn't over, or the builder isn't at the root
 abbrev pub build_refusal : State → Option Invariant
-build_refusal state =
-    build_refusal_in state.mode (if is_root state.cursor then None else Some Invariant.BuildOpenFrames)
+build_refusal state = build_refusal_in state.mode (if is_root state.cursor then None else Some Invariant.BuildOpenFrames)
 
 -- what is meant was built, by as many calls as there were, or it was refused so; or memory ran out
 abbrev pub IsBuiltSo : Meanings → Site → Result BuiltValue ReflectError → Type 0

@@ -11,5 +11,4 @@ pub record BuiltValue : Type 0 where
 
 abbrev pub built_value_code : Coded BuiltValue
 built_value_code =
-    code_by (Val × ℕ) (coded× val_code coded_ℕ) (λ b. (b.value, b.calls))
-    (λ p. record { value = p.0; calls = p.1 }) (λ b. refl)
+    code_by (Val × ℕ) (coded× val_code coded_ℕ) (λ b. (b.value, b.calls)) (λ p. record { value = p.0; calls = p.1 }) (λ b. refl)

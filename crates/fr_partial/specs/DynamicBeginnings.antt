@@ -20,5 +20,4 @@ abbrev pub beginning_as : Parts → Tree → Beginning
 beginning_as parts hole = Beginning.Anew
 beginning_as parts entered = Beginning.Anew
 beginning_as parts (whole v) = if is_some (kept_as parts (whole v)) then Beginning.InPlace else Beginning.Anew
-beginning_as parts (begun form ts) =
-    if is_some (kept_as parts (begun form ts)) then Beginning.AsItIs else Beginning.Anew
+beginning_as parts (begun tracker ts) = if is_some (kept_as parts (begun tracker ts)) then Beginning.AsItIs else Beginning.Anew

@@ -66,8 +66,7 @@ pub record HoldsItsValue (rules : Rules) (means : Meanings) (plan : Plan) (befor
   pub now : Tree
   pub changed : Changed plan (λ old. now) before after
   pub held : AtTop after.slots after.stack (λ at. value_of at.body ≡ Some value)
-  pub unboxed :
-      needs_none_by rules (top_tree before) ≡ true → AtTop after.slots after.stack (λ at. takes_memory at.body ≡ false)
+  pub unboxed : needs_none_by rules (top_tree before) ≡ true → AtTop after.slots after.stack (λ at. takes_memory at.body ≡ false)
 
 -- a value was handed over: the builder works there then, with this tree
 abbrev pub Handed : Taker → Plan → Val → (before after : Frames) → Type 0
@@ -100,8 +99,7 @@ pub record IsHeldUpAt (means : Meanings) (table : Table) (s : ℕ) (t : Tree) (k
 -- it is an item of a set, or a part of a dynamic value, and no pointer to a slice that is open.
 abbrev pub completes_beneath : State → Bool
 completes_beneath state =
-    is_below_start state.mode state.cursor
-    && (is_set_item state || is_dynamic_part state)
+    is_below_start state.mode state.cursor && (is_set_item state || is_dynamic_part state)
     && not (is_open_slice (cursor_tree state))
 
 -- As the call is made, what was left beneath a place is completed: `end` does so at such a place, and `finish_deferred` in deferred mode.

@@ -15,4 +15,4 @@ abbrev pub takes_no_memory : Tree → Bool
 takes_no_memory hole = false
 takes_no_memory entered = false
 takes_no_memory (whole v) = true
-takes_no_memory (begun form ts) = if boxes form || gathers form then false else has_no_hole ts
+takes_no_memory (begun tracker ts) = if boxes tracker || gathers tracker then false else has_no_hole ts

@@ -3,6 +3,7 @@ pub mod Builder
 pub mod Building
 pub mod BuiltValue
 pub mod Choosing
+pub mod Common
 pub mod Conversions
 pub mod DynamicBeginnings
 pub mod Ending

@@ -12,7 +12,7 @@ abbrev pub bare : Tree → Tree
 bare hole = hole
 bare entered = entered
 bare (whole v) = whole v
-bare (begun form children) = begun form (holes (count_trees children))
+bare (begun tracker children) = begun tracker (holes (count_trees children))
 
 -- two places that are alike but for their children
 abbrev pub LooksLike : (one other : Tree) → Type 0
@@ -40,4 +40,4 @@ ends_absent (c ∷ d ∷ cells) = ends_absent (d ∷ cells)
 abbrev pub lacks_last : Body → Bool
 lacks_last entered_body = false
 lacks_last (whole_body v) = false
-lacks_last (begun_body form cells) = ends_absent cells
+lacks_last (begun_body tracker cells) = ends_absent cells

@@ -9,7 +9,7 @@ use Rattle.fr_shape.specs.Tokens.{occurs, tokens}
 use Rattle.fr_shape.specs.Val.{Val}
 use Rattle.fr_shape.specs.View.{view}
 use Rattle.fr_path.specs.declared.path_steps.PathStep.{PathStep}
-use Rattle.fr_model.specs.Collections.{is_map_form, key_refusal, set_item_refusal, value_refusal}
+use Rattle.fr_model.specs.Collections.{is_map_tracker, key_refusal, set_item_refusal, value_refusal}
 use Rattle.fr_model.specs.Commands.{Call}
 use Rattle.fr_model.specs.Complete.{complete}
 use Rattle.fr_model.specs.Contents.{kept_slice, kept_so, slice_anew, variant_anew}
@@ -20,10 +20,11 @@ use Rattle.fr_model.specs.Paths.{path_of, step_as}
 use Rattle.fr_model.specs.Places.{is_root, up}
 use Rattle.fr_model.specs.Scripts.{brings, IsFitting}
 use Rattle.fr_model.specs.Step.{cause_by, field_refusal, finishes, is_set_item, leaves, opened, put_child, puts, puts_and_leaves, step, takes_item}
-use Rattle.fr_model.specs.Tree.{Mode, strict, deferred, State, Tree, as_variant, base_of_form, change_at, cursor_tree, one_more_call, tree_at, whole}
+use Rattle.fr_model.specs.Trackers.{as_fields, base_of_tracker}
+use Rattle.fr_model.specs.Tree.{Mode, strict, deferred, State, Tree, change_at, cursor_tree, one_more_call, tree_at, whole}
 use Rattle.fr_model.specs.Well.{IsFullAs}
 use Rattle.fr_frame.specs.Bodies.{is_around, TakesItems}
-use Rattle.fr_frame.specs.Heap.{as_form}
+use Rattle.fr_frame.specs.Heap.{as_tracker}
 use Rattle.fr_store.specs.Moves.{takes_at_end, TakesMany}
 use Rattle.fr_partial.specs.declared.moves.Change.{Change}
 use Rattle.fr_partial.specs.declared.moves.Move.{Move}
@@ -48,16 +49,16 @@ number_told (Way.Item opening) = opening.count
 number_told (Way.Key opening) = opening.count
 number_told (Way.Value opening) = opening.count
 number_told (Way.Entry key) = 0
-number_told (Way.Content form beginning) = 0
+number_told (Way.Content tracker beginning) = 0
 
 -- the step to it
 abbrev pub step_told : Way → PathStep
-step_told (Way.Child i opening) = step_as (as_form opening.form) i
-step_told (Way.Item opening) = step_as (as_form opening.form) opening.count
-step_told (Way.Key opening) = step_as (as_form opening.form) opening.count
-step_told (Way.Value opening) = step_as (as_form opening.form) opening.count
+step_told (Way.Child i opening) = step_as (as_tracker opening.tracker) i
+step_told (Way.Item opening) = step_as (as_tracker opening.tracker) opening.count
+step_told (Way.Key opening) = step_as (as_tracker opening.tracker) opening.count
+step_told (Way.Value opening) = step_as (as_tracker opening.tracker) opening.count
 step_told (Way.Entry key) = PathStep.Entry key.now
-step_told (Way.Content form beginning) = step_as (as_form form) 0
+step_told (Way.Content tracker beginning) = step_as (as_tracker tracker) 0
 
 -- the same way, as the commands tell it, from a place at which this stands
 abbrev pub onward : Way → Tree → Onward
@@ -66,7 +67,7 @@ onward (Way.Item opening) tree = Onward.Item
 onward (Way.Key opening) tree = Onward.Key
 onward (Way.Value opening) tree = Onward.Value opening.count
 onward (Way.Entry key) tree = Onward.Entry key.now
-onward (Way.Content form beginning) tree = Onward.Content (as_form form) (kept_by beginning tree)
+onward (Way.Content tracker beginning) tree = Onward.Content (as_tracker tracker) (kept_by beginning tree)
 
 -- the state then
 abbrev pub gone : Table → (s : ℕ) → State → Way → State
@@ -76,18 +77,16 @@ gone table s state way = enters table s state (onward way (cursor_tree state))
 abbrev pub MayGo : Table → (s : ℕ) → Tree → Way → Type 0
 MayGo table s tree (Way.Child i opening) = Describes table s tree opening × (field_refusal (def_of table s) tree i ≡ None)
 MayGo table s tree (Way.Item opening) =
-    HasItems (as_form opening.form) opening.count tree
-    × TakesItems (as_form opening.form)
+    HasItems (as_tracker opening.tracker) opening.count tree × TakesItems (as_tracker opening.tracker)
     × ((item_refusal (def_of table s) tree ≡ None) ⊎ (set_item_refusal (def_of table s) tree ≡ None))
 MayGo table s tree (Way.Key opening) =
-    HasItems (as_form opening.form) opening.count tree × (is_map_form (as_form opening.form) ≡ true) × (key_refusal tree ≡ None)
+    HasItems (as_tracker opening.tracker) opening.count tree × (is_map_tracker (as_tracker opening.tracker) ≡ true) × (key_refusal tree ≡ None)
 MayGo table s tree (Way.Value opening) =
-    HasItems (as_form opening.form) (suc opening.count) tree
-    × (is_map_form (as_form opening.form) ≡ true)
+    HasItems (as_tracker opening.tracker) (suc opening.count) tree × (is_map_tracker (as_tracker opening.tracker) ≡ true)
     × (value_refusal tree ≡ None)
 MayGo table s tree (Way.Entry key) = entry_refusal (def_of table s) tree ≡ None
-MayGo table s tree (Way.Content form beginning) =
-    (is_around (as_form form) ≡ true) × IsFullAs (def_of table s) (as_form form) 1 × MayBegin beginning (as_form form) tree
+MayGo table s tree (Way.Content tracker beginning) =
+    (is_around (as_tracker tracker) ≡ true) × IsFullAs (def_of table s) (as_tracker tracker) 1 × MayBegin beginning (as_tracker tracker) tree
 
 -- Staying
 
@@ -97,7 +96,7 @@ changed table s mode tree (Change.Put v) = λ old. whole (view v)
 changed table s mode tree (Change.PutChild i opening v) = put_child (def_of table s) i (view v)
 changed table s mode tree (Change.Open opening) = opened (def_of table s)
 changed table s mode tree (Change.Select chosen) =
-    λ old. unwrap_or (kept_so (as_variant chosen.variant) tree) (variant_anew (def_of table s) chosen.variant)
+    λ old. unwrap_or (kept_so (as_fields (Some chosen.variant)) tree) (variant_anew (def_of table s) chosen.variant)
 changed table s mode tree (Change.Gather parts) = λ old. unwrap_or (kept_as parts tree) (anew_as parts)
 changed table s mode tree Change.OpenSlice = λ old. unwrap_or (kept_slice mode tree) slice_anew
 changed table s mode tree Change.CloseSlice = closed_slice
@@ -115,10 +114,9 @@ MayStay table s tree (Change.Put v) = fits table s (view v) ≡ true
 MayStay table s tree (Change.PutChild i opening v) =
     Describes table s tree opening × (field_refusal (def_of table s) tree i ≡ None) × (tokens (view v) ≡ [])
 MayStay table s tree (Change.Open opening) =
-    MayOpenAs (def_of table s) (as_form opening.form) opening.count tree
-    × TakesMany (as_form opening.form)
-    × (base_of_form (as_form opening.form) ≡ 0)
-MayStay table s tree (Change.Select chosen) = IsFullAs (def_of table s) (as_variant chosen.variant) chosen.count
+    MayOpenAs (def_of table s) (as_tracker opening.tracker) opening.count tree × TakesMany (as_tracker opening.tracker)
+    × (base_of_tracker (as_tracker opening.tracker) ≡ 0)
+MayStay table s tree (Change.Select chosen) = IsFullAs (def_of table s) (as_fields (Some chosen.variant)) chosen.count
 MayStay table s tree (Change.Gather parts) = Unit {0}
 MayStay table s tree Change.OpenSlice = Unit {0}
 MayStay table s tree Change.CloseSlice = is_open_slice tree ≡ true
@@ -159,8 +157,7 @@ meant_by hooks site (Move.Complete rules taker) = completes rules taker hooks si
 meant_by hooks site Move.Defer =
     Ok (record site.state { mode = deferred (length site.state.cursor); calls = one_more_call site.state.calls })
 meant_by hooks site Move.Finish =
-    finishes hooks site.shapes site.root site.state
-    (finished hooks site.shapes site.root site.state.cursor site.state.tree)
+    finishes hooks site.shapes site.root site.state (finished hooks site.shapes site.root site.state.cursor site.state.tree)
 
 -- a move that may be made
 abbrev pub MayMove : Table → (s : ℕ) → State → Move → Type 0
@@ -239,10 +236,8 @@ pub record ComesTo (site : Site) (call : Call) (move : Move) : Type 0 where
 -- A call is refused so, whatever the hooks mean; or it isn't refused, and to decide it there was no memory.
 abbrev pub IsRefusedWith : Site → Call → ReflectErrorKind → Type 0
 IsRefusedWith site call kind =
-    ((kind ≢ ReflectErrorKind.OutOfMemory)
-    × ((hooks : Meanings) → step hooks site.shapes site.root site.state call ≡ Err kind))
-    ⊎ ((kind ≡ ReflectErrorKind.OutOfMemory)
-    × ((hooks : Meanings) → IsOk (step hooks site.shapes site.root site.state call)))
+    ((kind ≢ ReflectErrorKind.OutOfMemory) × ((hooks : Meanings) → step hooks site.shapes site.root site.state call ≡ Err kind))
+    ⊎ ((kind ≡ ReflectErrorKind.OutOfMemory) × ((hooks : Meanings) → IsOk (step hooks site.shapes site.root site.state call)))
 
 -- what a call means was decided: which move it comes to, or why it is refused, or there was no memory to decide it
 abbrev pub Decides : Site → Call → Result Move ReflectErrorKind → Type 0

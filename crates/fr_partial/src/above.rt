@@ -1,22 +1,19 @@
 //! What the place above the one at which the builder works takes as that ends: whether it is a set
 //! or a dynamic value.
-ghost use Rattle.std.specs.Prelude.{◌≡◌, false};
-ghost use Rattle.fr_model.specs.Collections.{is_set};
-ghost use Rattle.fr_model.specs.DynamicPlaces.{is_begun_dynamic, is_dynamic_form};
-ghost use Rattle.fr_model.specs.Places.{is_root};
+ghost use Rattle.std.specs.Prelude.{◌≡◌};
+ghost use Rattle.fr_partial.specs.Common.{as_tracker, body_of, false, is_begun_dynamic, is_root, is_set, own_tree};
+ghost use Rattle.fr_model.specs.DynamicPlaces.{is_dynamic_tracker};
 ghost use Rattle.fr_model.specs.Step.{is_dynamic_part, is_set_item};
-ghost use Rattle.fr_frame.specs.Bodies.{own_tree};
-ghost use Rattle.fr_frame.specs.Heap.{as_form, body_of};
 
 use crate::sets::is_set;
 use crate::work::Work;
-use fr_frame::{Form, FrameOwner, Piece};
+use fr_frame::{FrameOwner, ItemsKind, Piece, Tracker};
 
 /// Whether a place that is begun so is a dynamic value.
-fn is_dynamic(form: Form) -> bool
-    ensures { result ≡ is_dynamic_form (as_form form) }
+fn is_dynamic(tracker: Tracker) -> bool
+    ensures { result ≡ is_dynamic_tracker (as_tracker tracker) }
 {
-    matches!(form, Form::DynArray)
+    matches!(tracker, Tracker::Items(ItemsKind::Array))
 }
 
 impl<'t> Work<'t> {
@@ -50,7 +47,7 @@ impl<'t> Work<'t> {
         ensures { result ≡ is_set_item self.now.state }
     {
         match self.piece_above() {
-            Piece::Begun(form, _) => is_set(*form),
+            Piece::Begun(tracker, _) => is_set(*tracker),
             Piece::Entered | Piece::Whole(_) | Piece::Object(..) => false,
         }
     }
@@ -61,7 +58,7 @@ impl<'t> Work<'t> {
         ensures { result ≡ is_dynamic_part self.now.state }
     {
         match self.piece_above() {
-            Piece::Begun(form, _) => is_dynamic(*form),
+            Piece::Begun(tracker, _) => is_dynamic(*tracker),
             Piece::Entered | Piece::Whole(_) => false,
             Piece::Object(..) => true,
         }

@@ -1,23 +1,17 @@
 //! Which children of a place may be entered, and why others may not.
-ghost use Rattle.std.specs.Prelude.{◌≡◌, ℕ, None, Some, IfOk};
+ghost use Rattle.std.specs.Prelude.{◌≡◌};
+ghost use Rattle.fr_partial.specs.Common.{Describes, IfOk, IsFullAs, None, Some, as_fields, as_tracker, body_of, def_of, field_in, field_refusal, named_refusal, own_tree, result_err, selected, ℕ};
 ghost use Rattle.std.specs.Option.{option_copied};
-ghost use Rattle.std.specs.Result.{result_err};
 ghost use Rattle.fr_shape.specs.declared.shape.Def.{Def as TheDef};
-ghost use Rattle.fr_shape.specs.Look.{def_of, field_in};
-ghost use Rattle.fr_model.specs.Step.{field_refusal, named_refusal, variant_field_refusal};
-ghost use Rattle.fr_model.specs.Tree.{as_variant, selected};
-ghost use Rattle.fr_model.specs.Well.{IsFullAs};
-ghost use Rattle.fr_frame.specs.Bodies.{own_tree};
-ghost use Rattle.fr_frame.specs.Heap.{as_form, body_of};
-ghost use Rattle.fr_partial.specs.Entering.{Describes};
+ghost use Rattle.fr_model.specs.Step.{variant_field_refusal};
 
-use fr_frame::{Form, Piece};
+use fr_frame::{Piece, Tracker};
 use fr_shape::{Def, EnumDef, Field, Operation, ShapeId, ShapeTable};
 
 /// As what a place is begun whose children may be entered, and how many it has then.
 #[derive(Clone, Copy)]
 pub struct Opening {
-    pub form: Form,
+    pub tracker: Tracker,
     pub count: usize,
 }
 
@@ -29,7 +23,7 @@ pub fn selected(piece: &Piece) -> Option<u32>
     ensures { result ≡ selected (own_tree (body_of piece.now)) }
 {
     match piece {
-        Piece::Begun(Form::Variant(k), _) => Some(*k),
+        Piece::Begun(Tracker::Fields(Some(k)), _) => Some(*k),
         _ => None,
     }
 }
@@ -50,9 +44,9 @@ pub fn nth_opening(
     let Some(entry) = table.get(shape) else {
         return Err(Operation::FieldOfOther);
     };
-    let (form, count) = match &entry.def {
+    let (tracker, count) = match &entry.def {
         Def::Struct(described) if i < described.fields.len() => {
-            (Form::Struct, described.fields.len())
+            (Tracker::Fields(None), described.fields.len())
         }
         Def::Struct(_) => return Err(Operation::FieldIndexOutOfBounds),
         Def::Array(_, count) if i >= *count as usize => {
@@ -62,7 +56,7 @@ pub fn nth_opening(
         Def::Array(_, _) if matches!(piece, Piece::Whole(_)) => {
             return Err(Operation::ElementOfWholeArray);
         }
-        Def::Array(_, count) => (Form::Array, *count as usize),
+        Def::Array(_, count) => (Tracker::Elements, *count as usize),
         Def::Enum(described) => return variant_opening(described, selected(piece), i),
         Def::Slice(_) => return Err(Operation::FieldOfSlice),
         Def::Opaque => return Err(Operation::FieldOfOpaque),
@@ -74,7 +68,7 @@ pub fn nth_opening(
         }
         Def::Undefined | Def::Other => return Err(Operation::FieldOfOther),
     };
-    Ok(Opening { form, count })
+    Ok(Opening { tracker, count })
 }
 
 /// As what an enum is opened around field `i` of the variant that is selected, or why that may not
@@ -85,9 +79,9 @@ fn variant_opening(
     i: usize,
 ) -> Result<Opening, Operation>
     ensures full { IfOk result (λ opening.
-        IsFullAs (TheDef.Enum described.now) (as_form opening.form) opening.count) }
+        IsFullAs (TheDef.Enum described.now) (as_tracker opening.tracker) opening.count) }
     ensures variant { IfOk result (λ opening.
-        (k : ℕ) → as_form opening.form ≡ as_variant k → variant ≡ Some k) }
+        (k : ℕ) → as_tracker opening.tracker ≡ as_fields (Some k) → variant ≡ Some k) }
     ensures refused { result_err result
         ≡ variant_field_refusal (TheDef.Enum described.now) variant i }
 {
@@ -96,7 +90,7 @@ fn variant_opening(
     };
     match described.variants.get(k as usize) {
         Some(told) if i < told.fields.len() => Ok(Opening {
-            form: Form::Variant(k),
+            tracker: Tracker::Fields(Some(k)),
             count: told.fields.len(),
         }),
         _ => Err(Operation::VariantFieldIndexOutOfBounds),

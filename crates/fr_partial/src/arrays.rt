@@ -1,23 +1,13 @@
 //! `init_array`: an array whose elements aren't there yet.
-ghost use Rattle.std.specs.Prelude.{◌≡◌, true, IfOk};
-ghost use Rattle.std.specs.Result.{result_err};
-ghost use Rattle.fr_shape.specs.Look.{def_of};
-ghost use Rattle.fr_model.specs.Items.{init_array_refusal};
-ghost use Rattle.fr_model.specs.Tree.{cursor_tree};
+ghost use Rattle.std.specs.Prelude.{◌≡◌};
+ghost use Rattle.fr_partial.specs.Common.{Call, Decides, IfOk, IsCall, IsNotOutOfMemory, NeedsNone, Room, body_of, cursor_tree, def_of, holds, init_array_refusal, is_begun, own_tree, result_err, true};
 ghost use Rattle.fr_model.specs.Well.{HasElements};
-ghost use Rattle.fr_frame.specs.Bodies.{own_tree};
-ghost use Rattle.fr_frame.specs.Heap.{body_of};
-ghost use Rattle.fr_partial.specs.Openings.{is_begun};
-ghost use Rattle.fr_shape.specs.Released.{Room};
-ghost use Rattle.fr_model.specs.Commands.{Call};
-ghost use Rattle.fr_partial.specs.Builder.{holds, IsCall, IsNotOutOfMemory};
-ghost use Rattle.fr_partial.specs.Moving.{Decides, NeedsNone};
 
 use crate::admitting::{MOST_ELEMENTS, Opening};
 use crate::moves::{Change, Move};
 use crate::work::Work;
 use crate::{Partial, ReflectError};
-use fr_frame::{Form, Piece};
+use fr_frame::{Piece, Tracker};
 use fr_shape::{Def, Hooks, Ledger, Operation, ReflectErrorKind, Shape, ShapeId, ShapeTable};
 
 /// How many elements the array of this shape has, or why it can't be begun.
@@ -51,8 +41,8 @@ impl<'t> Work<'t> {
         let (table, shape, piece) = self.place();
         match array_opening(table, shape, piece) {
             Ok(count) => {
-                let form = Form::Array;
-                Ok(Move::Stay(Change::Open(Opening { form, count })))
+                let tracker = Tracker::Elements;
+                Ok(Move::Stay(Change::Open(Opening { tracker, count })))
             }
             Err(operation) => Err(ReflectErrorKind::OperationFailed { shape, operation }),
         }

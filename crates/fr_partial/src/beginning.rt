@@ -1,23 +1,14 @@
 //! How the place at which the builder works comes to be begun: what of it is kept.
-ghost use Rattle.std.specs.Prelude.{◌≡◌, OnOk, unwrap_or};
-ghost use Rattle.fr_shape.specs.Look.{def_of};
-ghost use Rattle.fr_shape.specs.Released.{Conserved, Room};
-ghost use Rattle.fr_model.specs.Contents.{is_entered_in_place, kept_so, variant_anew};
-ghost use Rattle.fr_model.specs.Tree.{as_variant, base_of_form};
-ghost use Rattle.fr_model.specs.Well.{IsFullAs};
-ghost use Rattle.fr_frame.specs.Bodies.{own_tree};
-ghost use Rattle.fr_frame.specs.Heap.{as_form, body_of};
-ghost use Rattle.fr_frame.specs.Kids.{MayHave};
+ghost use Rattle.std.specs.Prelude.{◌≡◌};
+ghost use Rattle.fr_partial.specs.Common.{Changed, Conserved, IsAtWork, IsFullAs, IsWholeSome, MayHave, OnOk, Room, as_fields, as_tracker, base_of_tracker, beginning_in, beginning_of_some, beginning_so, begun_by, body_of, def_of, held_in, kept_so, mode_of, own_tree, top_shape, top_tree, unwrap_or, variant_anew};
+ghost use Rattle.fr_model.specs.Contents.{is_entered_in_place};
 ghost use Rattle.fr_partial.specs.declared.beginning.Beginning.{Beginning as Onset};
-ghost use Rattle.fr_partial.specs.Beginnings.{beginning_so, beginning_in, beginning_of_some, begun_by, IsWholeSome};
-ghost use Rattle.fr_partial.specs.Modes.{mode_of};
-ghost use Rattle.fr_partial.specs.Underway.{held_in, top_shape, top_tree, Changed, IsAtWork};
 
 use crate::choosing::Chosen;
 use crate::mode::Mode;
 use crate::placing::place_here;
 use crate::work::Frames;
-use fr_frame::{Form, Piece};
+use fr_frame::{ContentKind, Piece, Tracker};
 use fr_plan::TypePlanCore;
 use fr_shape::{Def, Ledger, OutOfMemory, ShapeId, ShapeTable, Value};
 
@@ -31,12 +22,12 @@ pub enum Beginning {
 }
 
 /// A place stays as it is where it is begun just so, whatever the mode.
-pub fn beginning_so(form: Form, piece: &Piece) -> Beginning
-    ensures { result ≡ beginning_so (as_form form) (own_tree (body_of piece.now)) }
+pub fn beginning_so(tracker: Tracker, piece: &Piece) -> Beginning
+    ensures { result ≡ beginning_so (as_tracker tracker) (own_tree (body_of piece.now)) }
 {
     match piece {
         Piece::Begun(made, _) => {
-            if made.is(form) {
+            if made.is(tracker) {
                 Beginning::AsItIs
             } else {
                 Beginning::Anew
@@ -47,12 +38,12 @@ pub fn beginning_so(form: Form, piece: &Piece) -> Beginning
 }
 
 /// The same in deferred mode. In strict mode nothing is kept.
-pub fn beginning_in(mode: Mode, form: Form, piece: &Piece) -> Beginning
-    ensures { result ≡ beginning_in (mode_of mode) (as_form form) (own_tree (body_of piece.now)) }
+pub fn beginning_in(mode: Mode, tracker: Tracker, piece: &Piece) -> Beginning
+    ensures { result ≡ beginning_in (mode_of mode) (as_tracker tracker) (own_tree (body_of piece.now)) }
 {
     match mode {
         Mode::Strict => Beginning::Anew,
-        Mode::Deferred(_) => beginning_so(form, piece),
+        Mode::Deferred(_) => beginning_so(tracker, piece),
     }
 }
 
@@ -98,7 +89,7 @@ pub fn beginning_of_some(
             }
         }
         Piece::Entered | Piece::Whole(_) | Piece::Object(..) => Beginning::Anew,
-        Piece::Begun(_, _) => beginning_in(mode, Form::Some, piece),
+        Piece::Begun(_, _) => beginning_in(mode, Tracker::Content(ContentKind::Some), piece),
     }
 }
 
@@ -108,16 +99,16 @@ pub fn begin_so(
     plan: &TypePlanCore,
     frames: &mut Frames,
     beginning: Beginning,
-    form: Form,
+    tracker: Tracker,
     count: usize,
     ledger: &mut Ledger,
 ) -> Result<(), OutOfMemory>
     requires at_work { IsAtWork plan.now frames.old }
-    requires may_have { MayHave (as_form form) count }
-    requires base { base_of_form (as_form form) ≡ 0 }
+    requires may_have { MayHave (as_tracker tracker) count }
+    requires base { base_of_tracker (as_tracker tracker) ≡ 0 }
     requires some { beginning ≡ Onset.InPlace → IsWholeSome (top_tree frames.old) }
     requires room { Room (held_in frames.old) ledger.old }
-    ensures changed { OnOk result (Changed plan.now (begun_by beginning (as_form form) count)
+    ensures changed { OnOk result (Changed plan.now (begun_by beginning (as_tracker tracker) count)
         frames.old frames.new) }
     ensures tokens { Conserved (held_in frames.old) ledger.old (held_in frames.new) ledger.new }
 {
@@ -125,7 +116,7 @@ pub fn begin_so(
     match beginning {
         Beginning::AsItIs => Ok(()),
         Beginning::InPlace => stack.open_some(slots, plan),
-        Beginning::Anew => stack.restart(slots, store, plan, form, count, ledger),
+        Beginning::Anew => stack.restart(slots, store, plan, tracker, count, ledger),
     }
 }
 
@@ -139,15 +130,15 @@ pub fn begin_variant(
 ) -> Result<(), OutOfMemory>
     requires at_work { IsAtWork plan.now frames.old }
     requires count { IsFullAs (def_of frames.old.table.now (top_shape frames.old))
-        (as_variant chosen.variant) chosen.count }
+        (as_fields (Some chosen.variant)) chosen.count }
     requires room { Room (held_in frames.old) ledger.old }
     ensures changed { OnOk result (Changed plan.now
-        (λ old. unwrap_or (kept_so (as_variant chosen.variant) (top_tree frames.old))
+        (λ old. unwrap_or (kept_so (as_fields (Some chosen.variant)) (top_tree frames.old))
         (variant_anew (def_of frames.old.table.now (top_shape frames.old)) chosen.variant))
         frames.old frames.new) }
     ensures tokens { Conserved (held_in frames.old) ledger.old (held_in frames.new) ledger.new }
 {
-    let form = Form::Variant(chosen.variant);
-    let beginning = beginning_so(form, place_here(plan, frames).1);
-    begin_so(plan, frames, beginning, form, chosen.count, ledger)
+    let tracker = Tracker::Fields(Some(chosen.variant));
+    let beginning = beginning_so(tracker, place_here(plan, frames).1);
+    begin_so(plan, frames, beginning, tracker, chosen.count, ledger)
 }

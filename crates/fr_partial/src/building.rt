@@ -1,15 +1,10 @@
 //! The end of a builder: the value of the root.
-ghost use Rattle.std.specs.Prelude.{◌≡◌, ◌≢◌, None, IfErr, IfOk, IsErr, true};
+ghost use Rattle.std.specs.Prelude.{◌≡◌, ◌≢◌};
+ghost use Rattle.fr_partial.specs.Common.{Conserved, IfErr, IfOk, IsErr, None, Room, cursor_tree, fits, held_at, path_of, takes_no_memory, true};
 ghost use Rattle.fr_shape.specs.declared.error.ReflectErrorKind.{ReflectErrorKind as Kind};
-ghost use Rattle.fr_shape.specs.Fits.{fits};
-ghost use Rattle.fr_shape.specs.Released.{Conserved, Room};
-ghost use Rattle.fr_model.specs.Paths.{path_of};
 ghost use Rattle.fr_model.specs.Step.{build};
-ghost use Rattle.fr_model.specs.Tree.{cursor_tree};
-ghost use Rattle.fr_partial.specs.Filling.{takes_no_memory};
 ghost use Rattle.fr_partial.specs.Builder.{left_built};
 ghost use Rattle.fr_partial.specs.Building.{build_refusal, IsBuiltSo};
-ghost use Rattle.fr_partial.specs.Sites.{held_at};
 
 use crate::ending::take_root;
 use crate::mode::Mode;

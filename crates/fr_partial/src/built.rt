@@ -1,6 +1,6 @@
 //! What a builder built.
 ghost use Rattle.std.specs.Prelude.{◌≡◌};
-ghost use Rattle.fr_shape.specs.View.{view};
+ghost use Rattle.fr_partial.specs.Common.{view};
 
 use fr_shape::Value;
 use std::marker::Model;

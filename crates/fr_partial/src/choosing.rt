@@ -1,18 +1,10 @@
 //! Finding fields and variants by their names, and the variant that is selected.
-ghost use Rattle.std.specs.Prelude.{◌≡◌, ℕ, List, Option, IfOk, IfSome, IfNone, Some, false};
-ghost use Rattle.std.specs.Result.{result_err};
+ghost use Rattle.fr_partial.specs.Common.{Call, Decides, IfOk, IfSome, IsFullAs, IsNumbered, List, Sees, Site, Some, Tree, as_fields, def_of, false, field_found, result_err, shape_at, variant_named, variant_told_by, variants_of, ℕ};
+ghost use Rattle.std.specs.Prelude.{Option, IfNone, ◌≡◌};
 ghost use Rattle.fr_shape.specs.declared.shape.Def.{Def as TheDef};
 ghost use Rattle.fr_shape.specs.declared.shape.VariantDef.{VariantDef as Variant};
-ghost use Rattle.fr_shape.specs.Look.{def_of, variants_of};
-ghost use Rattle.fr_shape.specs.Numbered.{IsNumbered};
-ghost use Rattle.fr_model.specs.Commands.{Call};
-ghost use Rattle.fr_model.specs.Tree.{as_variant, Tree};
-ghost use Rattle.fr_model.specs.Variants.{field_found, is_enum, layout_refusal, variant_named, variant_numbered, variant_told_by};
-ghost use Rattle.fr_model.specs.Well.{IsFullAs};
+ghost use Rattle.fr_model.specs.Variants.{is_enum, layout_refusal, variant_numbered};
 ghost use Rattle.fr_partial.specs.Choosing.{found_refusal, Selects};
-ghost use Rattle.fr_partial.specs.Looks.{Sees};
-ghost use Rattle.fr_partial.specs.Moving.{Decides};
-ghost use Rattle.fr_partial.specs.Sites.{shape_at, Site};
 
 use crate::moves::{Change, Move};
 use crate::work::Work;
@@ -55,7 +47,7 @@ fn layout_refusal(repr: EnumRepr) -> Option<Operation>
 fn choose(described: &EnumDef, found: Option<u32>, unknown: Operation) -> Result<Chosen, Operation>
     ensures chosen { IfOk result (λ chosen. found ≡ Some chosen.variant) }
     ensures count { IfOk result (λ chosen.
-        IsFullAs (TheDef.Enum described.now) (as_variant chosen.variant) chosen.count) }
+        IsFullAs (TheDef.Enum described.now) (as_fields (Some chosen.variant)) chosen.count) }
     ensures refused { result_err result
         ≡ found_refusal (TheDef.Enum described.now) unknown found }
 {

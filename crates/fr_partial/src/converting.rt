@@ -1,18 +1,12 @@
 //! The values of other shapes that a dynamic place takes, made into dynamic ones.
-ghost use Rattle.std.specs.Prelude.{◌≡◌, ◌≢◌, [], true, false, IfOk, IfErr, OnOk, OnErr, OnSome, IsNone};
-ghost use Rattle.std.specs.Option.{option_map};
+ghost use Rattle.fr_partial.specs.Common.{IfErr, IfOk, IsUnconverted, OnErr, OnOk, Room, RoseBy, [], are_octets, bytes_of, converted, copies_to_convert, def_of, dyn_view, false, fits, from_bytes, is_byte, nat, occurs, operation_failed, option_map, or_not_dynamic, tokens, true, vals_view, view};
+ghost use Rattle.std.specs.Prelude.{OnSome, IsNone, ◌≡◌, ◌≢◌};
 ghost use Rattle.fr_shape.specs.declared.error.Operation.{Operation as Failed};
 ghost use Rattle.fr_shape.specs.declared.error.ReflectErrorKind.{ReflectErrorKind as Kind};
 ghost use Rattle.fr_shape.specs.declared.shape.Def.{Def as Described};
-ghost use Rattle.fr_shape.specs.Fits.{fits};
-ghost use Rattle.fr_shape.specs.Look.{def_of};
-ghost use Rattle.fr_shape.specs.Released.{Room, RoseBy};
-ghost use Rattle.fr_shape.specs.Tokens.{occurs, tokens, vals_tokens};
-ghost use Rattle.fr_shape.specs.Val.{nat};
-ghost use Rattle.fr_shape.specs.View.{view, vals_view, dyn_view};
-ghost use Rattle.fr_model.specs.Converting.{converted, from_scalar, from_bool, from_char, from_int, from_nat, from_text, from_bytes, bytes_of, is_byte, or_not_dynamic, takes_bytes};
-ghost use Rattle.fr_model.specs.Step.{operation_failed};
-ghost use Rattle.fr_partial.specs.Conversions.{are_octets, copies_to_convert, has_octets, in_range, is_narrow, is_octet, IsUnconverted};
+ghost use Rattle.fr_shape.specs.Tokens.{vals_tokens};
+ghost use Rattle.fr_model.specs.Converting.{from_scalar, from_bool, from_char, from_int, from_nat, from_text, takes_bytes};
+ghost use Rattle.fr_partial.specs.Conversions.{has_octets, in_range, is_narrow, is_octet};
 
 use fr_shape::{
     Def, Dyn, Items, Ledger, Operation, OutOfMemory, ReflectErrorKind, ScalarKind, ShapeId,

@@ -1,12 +1,7 @@
 //! Into deferred mode, and its end.
-ghost use Rattle.std.specs.Prelude.{◌≡◌, length, IfErr, Ok, OnErr, OnOk};
-ghost use Rattle.fr_shape.specs.Released.{Conserved, Room};
-ghost use Rattle.fr_model.specs.Tree.{deferred, one_more_call};
+ghost use Rattle.std.specs.Prelude.{◌≡◌};
+ghost use Rattle.fr_partial.specs.Common.{Conserved, IfErr, IsMade, IsMeant, IsSound, Ok, OnErr, OnOk, Room, deferred, held_in, length, meant_by, one_more_call, site};
 ghost use Rattle.fr_partial.specs.declared.moves.Move.{Move as Moves};
-ghost use Rattle.fr_partial.specs.Making.{IsMade};
-ghost use Rattle.fr_partial.specs.Moving.{meant_by, IsMeant};
-ghost use Rattle.fr_partial.specs.Underway.{held_in};
-ghost use Rattle.fr_partial.specs.Works.{site, IsSound};
 
 use crate::mode::Mode;
 use crate::work::Parts;

@@ -1,22 +1,14 @@
 //! A dynamic place that is begun as an array or as an object: it keeps the parts that it has, or
 //! starts anew.
-ghost use Rattle.std.specs.Prelude.{◌≡◌, IsOk, OnOk, false, is_some, true, unwrap_or};
-ghost use Rattle.fr_shape.specs.Look.{def_of};
-ghost use Rattle.fr_shape.specs.Plannable.{is_dynamic};
-ghost use Rattle.fr_shape.specs.Released.{Room, Conserved};
-ghost use Rattle.fr_shape.specs.View.{view};
+ghost use Rattle.std.specs.Prelude.{◌≡◌};
+ghost use Rattle.fr_partial.specs.Common.{Changed, Conserved, IsAtWork, IsOk, OnOk, Room, Trees, anew_as, as_tracker, begun, body_of, def_of, false, held_in, is_begun, is_dynamic, is_some, kept_as, own_tree, top_tree, true, unwrap_or, view, whole};
 ghost use Rattle.fr_model.specs.DynamicPlaces.{kept_array, kept_object};
-ghost use Rattle.fr_model.specs.Tree.{begun, whole, Trees};
-ghost use Rattle.fr_frame.specs.Bodies.{own_tree};
-ghost use Rattle.fr_frame.specs.Heap.{as_form, body_of};
-ghost use Rattle.fr_partial.specs.DynamicBeginnings.{anew_as, beginning_as, kept_as};
-ghost use Rattle.fr_partial.specs.Openings.{is_begun};
-ghost use Rattle.fr_partial.specs.Underway.{held_in, top_tree, Changed, IsAtWork};
+ghost use Rattle.fr_partial.specs.DynamicBeginnings.{beginning_as};
 
 use crate::beginning::Beginning;
 use crate::placing::place_here;
 use crate::work::Frames;
-use fr_frame::{Form, Piece};
+use fr_frame::{ContentKind, EntriesKind, ItemsKind, Piece, Tracker};
 use fr_plan::TypePlanCore;
 use fr_shape::{Def, Dyn, Ledger, OutOfMemory, ShapeId, ShapeTable, Value};
 
@@ -48,27 +40,24 @@ fn has_parts(parts: Parts, value: &Value) -> bool
 }
 
 /// Whether a place that is begun so is a dynamic array.
-fn is_array(form: Form) -> bool
+fn is_array(tracker: Tracker) -> bool
     ensures array { (children : Trees)
-        → result ≡ is_some (kept_array (begun (as_form form) children)) }
+        → result ≡ is_some (kept_array (begun (as_tracker tracker) children)) }
     ensures no_object { (children : Trees)
-        → is_some (kept_object (begun (as_form form) children)) ≡ false }
+        → is_some (kept_object (begun (as_tracker tracker) children)) ≡ false }
 {
-    match form {
-        Form::Struct | Form::Array | Form::Variant(_) => false,
-        Form::Some | Form::Ok | Form::Err | Form::Pointer => false,
-        Form::List | Form::Slice | Form::ClosedSlice => false,
-        Form::Set | Form::Map(_) => false,
-        Form::DynArray => true,
+    match tracker {
+        Tracker::Items(ItemsKind::Array) => true,
+        _ => false,
     }
 }
 
 /// Whether a place that is begun so has such parts.
-fn is_begun_with(parts: Parts, form: Form) -> bool
+fn is_begun_with(parts: Parts, tracker: Tracker) -> bool
     ensures { (children : Trees)
-        → result ≡ is_some (kept_as parts (begun (as_form form) children)) }
+        → result ≡ is_some (kept_as parts (begun (as_tracker tracker) children)) }
 {
-    let array = is_array(form);
+    let array = is_array(tracker);
     match parts {
         Parts::Elements => array,
         Parts::Entries => false,
@@ -92,8 +81,8 @@ fn beginning_as(parts: Parts, piece: &Piece) -> Beginning
             Parts::Elements => Beginning::Anew,
             Parts::Entries => Beginning::AsItIs,
         },
-        Piece::Begun(form, _) => {
-            if is_begun_with(parts, *form) {
+        Piece::Begun(tracker, _) => {
+            if is_begun_with(parts, *tracker) {
                 Beginning::AsItIs
             } else {
                 Beginning::Anew

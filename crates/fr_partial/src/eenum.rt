@@ -1,8 +1,5 @@
 //! `select_nth_variant`, `select_variant_named` and `select_variant`: the variant of an enum.
-ghost use Rattle.fr_shape.specs.Released.{Room};
-ghost use Rattle.fr_model.specs.Commands.{Call};
-ghost use Rattle.fr_partial.specs.Builder.{holds, IsCall};
-ghost use Rattle.fr_partial.specs.Moving.{Decides};
+ghost use Rattle.fr_partial.specs.Common.{Call, Decides, IsCall, Room, holds};
 
 use crate::choosing::{nth_variant, select};
 use crate::moves::Move;

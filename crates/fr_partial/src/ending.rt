@@ -1,25 +1,12 @@
 //! Leaving a place: as it is, or completed, its value handed over; and the value of the root.
-ghost use Rattle.std.specs.Prelude.{◌≡◌, ◌≢◌, ℕ, [], false, true, IfErr, IfOk, IsErr, IsOk, IsSome, Ok, OnErr, OnOk, Some};
+ghost use Rattle.std.specs.Prelude.{◌≡◌, ◌≢◌};
+ghost use Rattle.fr_partial.specs.Common.{AreOpen, AtTop, Conserved, HoldsItsValue, IfErr, IfOk, IsAtWork, IsErr, IsMade, IsMeant, IsOk, IsSome, IsSound, MayReceive, Ok, OnErr, OnOk, Room, RoseBy, Rules, SameTokens, Some, Val, WhyNot, [], complete, cursor_tree, false, held_in, meant_by, mode_of, needs_none_by, occurs, site, strict, strict_column, takes_memory, top_place, top_shape, top_tree, true, value_of, view, ℕ};
 ghost use Rattle.fr_shape.specs.declared.error.ReflectErrorKind.{ReflectErrorKind as Kind};
-ghost use Rattle.fr_shape.specs.Released.{Conserved, Room, RoseBy};
-ghost use Rattle.fr_shape.specs.Tokens.{occurs};
-ghost use Rattle.fr_shape.specs.Val.{Val};
-ghost use Rattle.fr_shape.specs.View.{view};
-ghost use Rattle.fr_model.specs.Complete.{complete};
-ghost use Rattle.fr_model.specs.Places.{strict_column};
 ghost use Rattle.fr_model.specs.Step.{leaves};
-ghost use Rattle.fr_model.specs.Tree.{cursor_tree, strict};
-ghost use Rattle.fr_frame.specs.Bodies.{takes_memory, value_of};
-ghost use Rattle.fr_frame.specs.Changes.{SameTokens};
-ghost use Rattle.fr_store.specs.Moves.{AtTop};
 ghost use Rattle.fr_partial.specs.declared.moves.Move.{Move as Moves};
-ghost use Rattle.fr_partial.specs.declared.moves.Rules.{Rules};
-ghost use Rattle.fr_partial.specs.Ending.{needs_none_by, HoldsItsValue, IsCompleted, IsHandedOver, IsPathThen, IsUncompleted, MayReceive, RulesServe, WhyNot};
-ghost use Rattle.fr_partial.specs.Making.{IsMade};
-ghost use Rattle.fr_partial.specs.Modes.{mode_of, IsBelowStart};
-ghost use Rattle.fr_partial.specs.Moving.{is_late_by, meant_by, IsMeant};
-ghost use Rattle.fr_partial.specs.Underway.{held_in, top_place, top_shape, top_tree, AreOpen, IsAtWork};
-ghost use Rattle.fr_partial.specs.Works.{site, IsSound};
+ghost use Rattle.fr_partial.specs.Ending.{IsCompleted, IsHandedOver, IsPathThen, IsUncompleted, RulesServe};
+ghost use Rattle.fr_partial.specs.Modes.{IsBelowStart};
+ghost use Rattle.fr_partial.specs.Moving.{is_late_by};
 
 use crate::moves::{Rules, Taker};
 use crate::paths::step_back;

@@ -1,19 +1,7 @@
 //! The defaults of fields, and a value at a field or element that isn't entered for it.
-ghost use Rattle.std.specs.Prelude.{◌≡◌, [], Err, false, IfErr, IfOk, None, Ok, OnOk};
-ghost use Rattle.fr_shape.specs.Look.{def_of};
-ghost use Rattle.fr_shape.specs.Released.{Room, Conserved};
-ghost use Rattle.fr_shape.specs.Tokens.{tokens};
-ghost use Rattle.fr_shape.specs.Val.{Val};
-ghost use Rattle.fr_shape.specs.View.{view};
-ghost use Rattle.fr_model.specs.Places.{is_root, up};
-ghost use Rattle.fr_model.specs.Step.{field_default, field_refusal, put_child};
-ghost use Rattle.fr_model.specs.Tree.{tree_at, whole};
-ghost use Rattle.fr_frame.specs.Bodies.{own_tree};
-ghost use Rattle.fr_frame.specs.Heap.{body_of};
-ghost use Rattle.fr_store.specs.Moves.{takes_at_end};
-ghost use Rattle.fr_partial.specs.Entering.{Describes};
+ghost use Rattle.fr_partial.specs.Common.{AreOpen, Became, Changed, Conserved, Describes, IfErr, IfOk, IsAtWork, None, Ok, OnOk, Room, Val, [], body_of, def_of, false, field_default, field_refusal, held_in, is_root, own_tree, put_child, takes_at_end, tokens, top_place, top_shape, top_tree, tree_at, up, view, whole, whole_tree};
+ghost use Rattle.std.specs.Prelude.{Err, ◌≡◌};
 ghost use Rattle.fr_partial.specs.FieldDefaults.{default_in};
-ghost use Rattle.fr_partial.specs.Underway.{held_in, top_place, top_shape, top_tree, whole_tree, AreOpen, Became, Changed, IsAtWork};
 
 use crate::admitting::{Opening, field_of, named_refusal, selected};
 use crate::going::enter;

@@ -1,9 +1,6 @@
 //! `begin_field` and `begin_nth_field`: on to a field or element of the place at which the builder
 //! works; and `set_nth_field_to_default`.
-ghost use Rattle.fr_shape.specs.Released.{Room};
-ghost use Rattle.fr_model.specs.Commands.{Call};
-ghost use Rattle.fr_partial.specs.Builder.{holds, IsCall};
-ghost use Rattle.fr_partial.specs.Moving.{Decides};
+ghost use Rattle.fr_partial.specs.Common.{Call, Decides, IsCall, Room, holds};
 
 use crate::admitting::{named_refusal, nth_opening, opening_at, selected};
 use crate::field_defaults::default_in;

@@ -1,23 +1,16 @@
 //! Going on to a child, whichever way.
-ghost use Rattle.std.specs.Prelude.{◌≡◌, ◌<◌, ◌^◌, [], ◌∷◌, ◌++◌, Ok, OnErr, OnOk};
-ghost use Rattle.fr_shape.specs.Released.{Conserved, Room};
-ghost use Rattle.fr_frame.specs.Heap.{as_form};
-ghost use Rattle.fr_frame.specs.Kids.{child_node, entry_found, slice_item_found};
+ghost use Rattle.fr_partial.specs.Common.{Became, Conserved, IsAtWork, IsMade, IsMeant, IsSound, MayGo, Ok, OnErr, OnOk, Room, [], as_tracker, change_at, child_node, held_in, node_here, number_told, onward, shape_at, site, top_place, top_shape, top_tree, whole_tree};
+ghost use Rattle.std.specs.Prelude.{◌<◌, ◌^◌, ◌∷◌, ◌++◌, ◌≡◌};
+ghost use Rattle.fr_frame.specs.Kids.{entry_found, slice_item_found};
 ghost use Rattle.fr_model.specs.Places.{is_key};
-ghost use Rattle.fr_model.specs.Tree.{change_at};
-ghost use Rattle.fr_store.specs.Moves.{node_here};
 ghost use Rattle.fr_partial.specs.declared.moves.Move.{Move as Moves};
-ghost use Rattle.fr_partial.specs.Making.{IsMade};
-ghost use Rattle.fr_partial.specs.Moving.{gone, number_told, onward, IsMeant, MayGo};
+ghost use Rattle.fr_partial.specs.Moving.{gone};
 ghost use Rattle.fr_model.specs.Entering.{entered_on, number_on};
-ghost use Rattle.fr_partial.specs.Sites.{shape_at};
-ghost use Rattle.fr_partial.specs.Underway.{held_in, top_place, top_shape, top_tree, whole_tree, Became, IsAtWork};
-ghost use Rattle.fr_partial.specs.Works.{site, IsSound};
 
 use crate::beginning::begin_so;
 use crate::moves::Way;
 use crate::work::{Frames, Parts};
-use fr_frame::Form;
+use fr_frame::{ChildWay, ContentKind, EntriesKind, ItemsKind, Tracker};
 use fr_model::{law_paths, law_well};
 use fr_plan::{NodeId, TypePlanCore, law_plan_lookups};
 use fr_shape::{Ledger, OutOfMemory, ReflectErrorKind};
@@ -56,21 +49,21 @@ fn entry_node(plan: &TypePlanCore, node: NodeId, i: usize) -> Option<NodeId>
 
 /// The plan's node of child `i` of a place of this node that is begun so.
 #[inline]
-fn child_node(plan: &TypePlanCore, node: NodeId, form: Form, i: usize) -> NodeId
-    ensures { result ≡ child_node plan.now node (as_form form) i }
+fn child_node(plan: &TypePlanCore, node: NodeId, tracker: Tracker, i: usize) -> NodeId
+    ensures { result ≡ child_node plan.now node (as_tracker tracker) i }
 {
-    let found = match form {
-        Form::Struct => plan.struct_field_node_id(node, i),
-        Form::Array | Form::List => plan.list_item_node_id(node),
-        Form::Variant(k) => plan.enum_variant_field_node_id(node, k as usize, i),
-        Form::Some => plan.option_some_node_id(node),
-        Form::Ok => plan.result_nodes_id(node).map(|sides| sides.0),
-        Form::Err => plan.result_nodes_id(node).map(|sides| sides.1),
-        Form::Pointer => plan.pointer_inner_node_id(node),
-        Form::Slice | Form::ClosedSlice => slice_item(plan, node),
-        Form::Set => plan.set_item_node_id(node),
-        Form::Map(_) => entry_node(plan, node, i),
-        Form::DynArray => Some(node),
+    let found = match tracker {
+        Tracker::Fields(None) => plan.struct_field_node_id(node, i),
+        Tracker::Elements | Tracker::Items(ItemsKind::List) => plan.list_item_node_id(node),
+        Tracker::Fields(Some(k)) => plan.enum_variant_field_node_id(node, k as usize, i),
+        Tracker::Content(ContentKind::Some) => plan.option_some_node_id(node),
+        Tracker::Content(ContentKind::Ok) => plan.result_nodes_id(node).map(|sides| sides.0),
+        Tracker::Content(ContentKind::Err) => plan.result_nodes_id(node).map(|sides| sides.1),
+        Tracker::Content(ContentKind::Pointer) => plan.pointer_inner_node_id(node),
+        Tracker::Items(ItemsKind::Slice | ItemsKind::ClosedSlice) => slice_item(plan, node),
+        Tracker::Items(ItemsKind::Set) => plan.set_item_node_id(node),
+        Tracker::Entries(EntriesKind::Map(_)) => entry_node(plan, node, i),
+        Tracker::Items(ItemsKind::Array) => Some(node),
     };
     match found {
         Some(child) => child,
@@ -104,29 +97,37 @@ pub fn enter(
     let (slots, stack, store) = (&mut frames.slots, &mut frames.stack, &mut frames.store);
     match way {
         Way::Child(i, opening) => {
-            let node = child_node(plan, above, opening.form, i);
-            stack.begin(slots, plan, opening.form, opening.count)?;
-            stack.enter(slots, store, table, plan, node, opening.form, i as u32)
+            let node = child_node(plan, above, opening.tracker, i);
+            stack.begin(slots, plan, opening.tracker, opening.count)?;
+            stack.enter(slots, store, table, plan, node, ChildWay::Child(i as u32))
         }
         Way::Item(opening) => {
-            let node = child_node(plan, above, opening.form, opening.count);
-            stack.add_item(slots, table, plan, node, opening.form)
+            let node = child_node(plan, above, opening.tracker, opening.count);
+            stack.enter(slots, store, table, plan, node, ChildWay::Item)
         }
         Way::Key(opening) => {
-            let node = child_node(plan, above, opening.form, opening.count);
-            stack.add_key(slots, table, plan, node)
+            let node = child_node(plan, above, opening.tracker, opening.count);
+            stack.enter(slots, store, table, plan, node, ChildWay::Key)
         }
         Way::Value(opening) => {
-            let node = child_node(plan, above, opening.form, opening.count);
-            let i = opening.count as u32;
-            stack.enter(slots, store, table, plan, node, opening.form, i)
+            let node = child_node(plan, above, opening.tracker, opening.count);
+            stack.enter(
+                slots,
+                store,
+                table,
+                plan,
+                node,
+                ChildWay::Child(opening.count as u32),
+            )
         }
-        Way::Entry(key) => stack.enter_entry(slots, table, plan, above, key),
-        Way::Content(form, beginning) => {
-            let node = child_node(plan, above, form, 0);
-            begin_so(plan, frames, beginning, form, 1, ledger)?;
+        Way::Entry(key) => stack.enter(slots, store, table, plan, above, ChildWay::Entry(key)),
+        Way::Content(tracker, beginning) => {
+            let node = child_node(plan, above, tracker, 0);
+            begin_so(plan, frames, beginning, tracker, 1, ledger)?;
             let (slots, store) = (&mut frames.slots, &mut frames.store);
-            frames.stack.enter(slots, store, table, plan, node, form, 0)
+            frames
+                .stack
+                .enter(slots, store, table, plan, node, ChildWay::Child(0))
         }
     }
 }

@@ -1,6 +1,6 @@
 //! The plan that a builder goes by.
 ghost use Rattle.std.specs.Prelude.{◌≡◌};
-ghost use Rattle.fr_partial.specs.HeldPlan.{plan_in};
+ghost use Rattle.fr_partial.specs.Common.{plan_in};
 
 use fr_plan::TypePlanCore;
 

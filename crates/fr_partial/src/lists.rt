@@ -1,26 +1,17 @@
 //! `init_list`, `init_list_with_capacity` and `begin_list_item`: a list, a dynamic array or a slice
 //! behind a pointer, item by item.
-ghost use Rattle.std.specs.Prelude.{◌≡◌, ◌≢◌, IfSome, true, IfOk};
-ghost use Rattle.std.specs.Result.{result_err};
+ghost use Rattle.std.specs.Prelude.{◌≡◌, ◌≢◌};
+ghost use Rattle.fr_partial.specs.Common.{Call, Decides, HasItems, IfOk, IfSome, IsCall, IsNotOutOfMemory, NeedsNone, Room, as_tracker, at_shape, body_of, cursor_tree, def_of, holds, init_list_refusal, is_begun, item_refusal, own_tree, result_err, true};
 ghost use Rattle.fr_shape.specs.declared.error.ReflectErrorKind.{ReflectErrorKind as Kind};
-ghost use Rattle.fr_shape.specs.Look.{def_of};
-ghost use Rattle.fr_model.specs.Items.{item_refusal, is_list_like, unbegun_refusal, unless_list};
-ghost use Rattle.fr_model.specs.Step.{at_shape, init_list_refusal};
-ghost use Rattle.fr_model.specs.Tree.{cursor_tree, tracker_of};
-ghost use Rattle.fr_frame.specs.Bodies.{own_tree};
-ghost use Rattle.fr_frame.specs.Heap.{as_form, body_of};
-ghost use Rattle.fr_partial.specs.Openings.{is_begun, HasItems};
-ghost use Rattle.fr_shape.specs.Released.{Room};
-ghost use Rattle.fr_model.specs.Commands.{Call};
-ghost use Rattle.fr_partial.specs.Builder.{holds, IsCall, IsNotOutOfMemory};
-ghost use Rattle.fr_partial.specs.Moving.{Decides, NeedsNone};
+ghost use Rattle.fr_model.specs.Items.{is_list_like, unbegun_refusal, unless_list};
+ghost use Rattle.fr_model.specs.Trackers.{tracker_kind};
 
 use crate::admitting::Opening;
 use crate::dynamic_places::{Parts, is_dynamic};
 use crate::moves::{Change, Move, Way};
 use crate::work::Work;
 use crate::{Partial, ReflectError};
-use fr_frame::{Form, Piece};
+use fr_frame::{ContentKind, EntriesKind, ItemsKind, Piece, Tracker};
 use fr_shape::{
     Def, Hooks, InitCall, Ledger, Operation, ReflectErrorKind, Shape, ShapeId, ShapeTable,
     TrackerKind,
@@ -41,30 +32,30 @@ fn unless_list(table: &ShapeTable, shape: ShapeId, refusal: Operation) -> Option
     }
 }
 
-/// The form of a begun place, as refusals name it.
-fn tracker(form: Form) -> TrackerKind
-    ensures { result ≡ tracker_of (as_form form) }
+/// The tracker of a begun place, as refusals name it.
+fn tracker_kind(tracker: Tracker) -> TrackerKind
+    ensures { result ≡ tracker_kind (as_tracker tracker) }
 {
-    match form {
-        Form::Struct => TrackerKind::Struct,
-        Form::Array => TrackerKind::Array,
-        Form::Variant(_) => TrackerKind::Enum,
-        Form::Some => TrackerKind::Option,
-        Form::Ok | Form::Err => TrackerKind::Result,
-        Form::Pointer => TrackerKind::SmartPointer,
-        Form::List => TrackerKind::List,
-        Form::Slice | Form::ClosedSlice => TrackerKind::SmartPointerSlice,
-        Form::Set => TrackerKind::Set,
-        Form::Map(_) => TrackerKind::Map,
-        Form::DynArray => TrackerKind::DynamicValue,
+    match tracker {
+        Tracker::Fields(None) => TrackerKind::Struct,
+        Tracker::Elements => TrackerKind::Array,
+        Tracker::Fields(Some(_)) => TrackerKind::Enum,
+        Tracker::Content(ContentKind::Some) => TrackerKind::Option,
+        Tracker::Content(ContentKind::Ok | ContentKind::Err) => TrackerKind::Result,
+        Tracker::Content(ContentKind::Pointer) => TrackerKind::SmartPointer,
+        Tracker::Items(ItemsKind::List) => TrackerKind::List,
+        Tracker::Items(ItemsKind::Slice | ItemsKind::ClosedSlice) => TrackerKind::SmartPointerSlice,
+        Tracker::Items(ItemsKind::Set) => TrackerKind::Set,
+        Tracker::Entries(EntriesKind::Map(_)) => TrackerKind::Map,
+        Tracker::Items(ItemsKind::Array) => TrackerKind::DynamicValue,
     }
 }
 
 /// The refusal of a call that is to begin a place that is begun so already.
-pub fn unexpected(call: InitCall, form: Form) -> ReflectErrorKind
-    ensures { result ≡ Kind.UnexpectedTracker call (tracker_of (as_form form)) }
+pub fn unexpected(call: InitCall, tracker: Tracker) -> ReflectErrorKind
+    ensures { result ≡ Kind.UnexpectedTracker call (tracker_kind (as_tracker tracker)) }
 {
-    let current = tracker(form);
+    let current = tracker_kind(tracker);
     ReflectErrorKind::UnexpectedTracker { call, current }
 }
 
@@ -78,12 +69,14 @@ pub fn at_shape(shape: ShapeId, refused: Option<Operation>) -> Option<ReflectErr
 }
 
 /// Whether a place that is begun so is left as it is where a list is to be begun.
-fn is_list_like(form: Form) -> bool
-    ensures { result ≡ is_list_like (as_form form) }
+fn is_list_like(tracker: Tracker) -> bool
+    ensures { result ≡ is_list_like (as_tracker tracker) }
 {
     matches!(
-        form,
-        Form::List | Form::Slice | Form::ClosedSlice | Form::DynArray
+        tracker,
+        Tracker::Items(
+            ItemsKind::List | ItemsKind::Slice | ItemsKind::ClosedSlice | ItemsKind::Array,
+        )
     )
 }
 
@@ -94,8 +87,8 @@ fn init_list_refusal(table: &ShapeTable, shape: ShapeId, piece: &Piece) -> Optio
     ensures named { IfSome result (λ kind. kind ≢ Kind.OutOfMemory) }
 {
     match piece {
-        Piece::Begun(form, _) if is_list_like(*form) => None,
-        Piece::Begun(form, _) => Some(unexpected(InitCall::List, *form)),
+        Piece::Begun(tracker, _) if is_list_like(*tracker) => None,
+        Piece::Begun(tracker, _) => Some(unexpected(InitCall::List, *tracker)),
         Piece::Object(..) => None,
         Piece::Entered => at_shape(shape, unless_list(table, shape, Operation::InitListOfOther)),
         Piece::Whole(_) => {
@@ -127,20 +120,23 @@ fn unbegun_refusal(table: &ShapeTable, shape: ShapeId) -> Operation
 #[inline]
 fn item_opening(table: &ShapeTable, shape: ShapeId, piece: &Piece) -> Result<Opening, Operation>
     ensures items { IfOk result (λ opening.
-        HasItems (as_form opening.form) opening.count (own_tree (body_of piece.now))) }
+        HasItems (as_tracker opening.tracker) opening.count (own_tree (body_of piece.now))) }
     ensures refused { result_err result
         ≡ item_refusal (def_of table.now shape.0) (own_tree (body_of piece.now)) }
 {
     let Piece::Begun(made, children) = piece else {
         return Err(unbegun_refusal(table, shape));
     };
-    let (form, count) = (*made, children.len());
-    match form {
-        Form::List | Form::Slice | Form::DynArray => Ok(Opening { form, count }),
-        Form::ClosedSlice => Err(Operation::ItemStillOpen),
-        Form::Struct | Form::Array | Form::Variant(_) => Err(unbegun_refusal(table, shape)),
-        Form::Some | Form::Ok | Form::Err | Form::Pointer => Err(unbegun_refusal(table, shape)),
-        Form::Set | Form::Map(_) => Err(unbegun_refusal(table, shape)),
+    let (tracker, count) = (*made, children.len());
+    match tracker {
+        Tracker::Items(ItemsKind::List | ItemsKind::Slice | ItemsKind::Array) => {
+            Ok(Opening { tracker, count })
+        }
+        Tracker::Items(ItemsKind::ClosedSlice) => Err(Operation::ItemStillOpen),
+        Tracker::Items(ItemsKind::Set) => Err(unbegun_refusal(table, shape)),
+        Tracker::Fields(_) | Tracker::Elements | Tracker::Content(_) | Tracker::Entries(_) => {
+            Err(unbegun_refusal(table, shape))
+        }
     }
 }
 
@@ -157,8 +153,8 @@ impl<'t> Work<'t> {
             Some(kind) => Err(kind),
             None if is_dynamic(table, shape) => Ok(Move::Stay(Change::Gather(Parts::Elements))),
             None => {
-                let (form, count) = (Form::List, 0);
-                Ok(Move::Stay(Change::Open(Opening { form, count })))
+                let (tracker, count) = (Tracker::Items(ItemsKind::List), 0);
+                Ok(Move::Stay(Change::Open(Opening { tracker, count })))
             }
         }
     }

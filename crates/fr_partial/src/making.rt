@@ -1,12 +1,8 @@
 //! Making a move, whichever it is, where a builder's parts are.
-ghost use Rattle.std.specs.Prelude.{◌≡◌, ◌≢◌, ◌+◌, false, true, IfErr, IsErr, OnErr, OnOk};
+ghost use Rattle.std.specs.Prelude.{◌+◌, ◌≡◌, ◌≢◌};
+ghost use Rattle.fr_partial.specs.Common.{Conserved, IfErr, IsErr, IsMade, IsMeant, IsSound, OnErr, OnOk, Room, carried, cursor_tree, false, held_in, meant_by, site, true};
 ghost use Rattle.fr_shape.specs.declared.error.ReflectErrorKind.{ReflectErrorKind as Kind};
-ghost use Rattle.fr_shape.specs.Released.{Conserved, Room};
-ghost use Rattle.fr_model.specs.Tree.{cursor_tree};
-ghost use Rattle.fr_partial.specs.Making.{IsMade};
-ghost use Rattle.fr_partial.specs.Moving.{carried, is_late, meant_by, needs_none, IsMeant};
-ghost use Rattle.fr_partial.specs.Underway.{held_in};
-ghost use Rattle.fr_partial.specs.Works.{site, IsSound};
+ghost use Rattle.fr_partial.specs.Moving.{is_late, needs_none};
 
 use crate::deferring::{defer, finish};
 use crate::ending::{complete, leave};

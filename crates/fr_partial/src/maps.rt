@@ -1,20 +1,9 @@
 //! `init_map`, `begin_key` and `begin_value`: a map, entry by entry.
-ghost use Rattle.std.specs.Prelude.{◌≡◌, ◌≢◌, IfSome, suc, true, IfOk};
-ghost use Rattle.std.specs.Result.{result_err};
+ghost use Rattle.fr_partial.specs.Common.{Call, Decides, HasItems, IfOk, IfSome, IsCall, IsNotOutOfMemory, NeedsNone, Room, as_tracker, body_of, cursor_tree, def_of, ends_absent, holds, init_map_refusal, is_begun, is_map_tracker, lacks_last, own_tree, result_err, true};
+ghost use Rattle.std.specs.Prelude.{suc, ◌≡◌, ◌≢◌};
 ghost use Rattle.fr_shape.specs.declared.error.ReflectErrorKind.{ReflectErrorKind as Kind};
-ghost use Rattle.fr_shape.specs.Look.{def_of};
-ghost use Rattle.fr_model.specs.Collections.{is_map_form, unless_map};
-ghost use Rattle.fr_model.specs.Step.{init_map_refusal};
-ghost use Rattle.fr_model.specs.Tree.{cursor_tree};
-ghost use Rattle.fr_frame.specs.Bodies.{own_tree};
-ghost use Rattle.fr_frame.specs.Heap.{as_form, body_of};
+ghost use Rattle.fr_model.specs.Collections.{unless_map};
 ghost use Rattle.fr_partial.specs.Entries.{key_refusal_by, value_refusal_by};
-ghost use Rattle.fr_partial.specs.Looks.{ends_absent, lacks_last};
-ghost use Rattle.fr_partial.specs.Openings.{is_begun, HasItems};
-ghost use Rattle.fr_shape.specs.Released.{Room};
-ghost use Rattle.fr_model.specs.Commands.{Call};
-ghost use Rattle.fr_partial.specs.Builder.{holds, IsCall, IsNotOutOfMemory};
-ghost use Rattle.fr_partial.specs.Moving.{Decides, NeedsNone};
 
 use crate::admitting::Opening;
 use crate::dynamic_places::{Parts, is_dynamic};
@@ -22,7 +11,7 @@ use crate::lists::{at_shape, unexpected};
 use crate::moves::{Change, Move, Way};
 use crate::work::Work;
 use crate::{Partial, ReflectError};
-use fr_frame::{Children, Form, Piece};
+use fr_frame::{Children, EntriesKind, ItemsKind, Piece, Tracker};
 use fr_shape::{
     Def, Hooks, InitCall, Ledger, Operation, ReflectErrorKind, Shape, ShapeId, ShapeTable,
 };
@@ -49,8 +38,9 @@ fn init_map_refusal(table: &ShapeTable, shape: ShapeId, piece: &Piece) -> Option
     ensures named { IfSome result (λ kind. kind ≢ Kind.OutOfMemory) }
 {
     match piece {
-        Piece::Begun(Form::Map(_) | Form::DynArray, _) | Piece::Object(..) => None,
-        Piece::Begun(form, _) => Some(unexpected(InitCall::Map, *form)),
+        Piece::Begun(Tracker::Entries(EntriesKind::Map(_)) | Tracker::Items(ItemsKind::Array), _)
+        | Piece::Object(..) => None,
+        Piece::Begun(tracker, _) => Some(unexpected(InitCall::Map, *tracker)),
         Piece::Entered | Piece::Whole(_) => at_shape(
             shape,
             unless_map(table, shape, Operation::InitMapOfOther),
@@ -79,18 +69,20 @@ fn lacks_last(children: &Children) -> bool
 #[inline]
 fn key_opening(piece: &Piece) -> Result<Opening, Operation>
     ensures items { IfOk result (λ opening.
-        HasItems (as_form opening.form) opening.count (own_tree (body_of piece.now))) }
-    ensures map { IfOk result (λ opening. is_map_form (as_form opening.form) ≡ true) }
+        HasItems (as_tracker opening.tracker) opening.count (own_tree (body_of piece.now))) }
+    ensures map { IfOk result (λ opening. is_map_tracker (as_tracker opening.tracker) ≡ true) }
     ensures refused { result_err result
         ≡ key_refusal_by (own_tree (body_of piece.now)) (lacks_last (body_of piece.now)) }
 {
     let Piece::Begun(made, children) = piece else {
         return Err(Operation::KeyBeforeInitMap);
     };
-    let (form, count) = (*made, children.len());
-    match form {
-        Form::Map(_) if lacks_last(children) => Err(Operation::KeyBeforeValue),
-        Form::Map(_) => Ok(Opening { form, count }),
+    let (tracker, count) = (*made, children.len());
+    match tracker {
+        Tracker::Entries(EntriesKind::Map(_)) if lacks_last(children) => Err(
+            Operation::KeyBeforeValue,
+        ),
+        Tracker::Entries(EntriesKind::Map(_)) => Ok(Opening { tracker, count }),
         _ => Err(Operation::KeyBeforeInitMap),
     }
 }
@@ -100,8 +92,8 @@ fn key_opening(piece: &Piece) -> Result<Opening, Operation>
 #[inline]
 fn value_opening(piece: &Piece) -> Result<Opening, Operation>
     ensures items { IfOk result (λ opening.
-        HasItems (as_form opening.form) (suc opening.count) (own_tree (body_of piece.now))) }
-    ensures map { IfOk result (λ opening. is_map_form (as_form opening.form) ≡ true) }
+        HasItems (as_tracker opening.tracker) (suc opening.count) (own_tree (body_of piece.now))) }
+    ensures map { IfOk result (λ opening. is_map_tracker (as_tracker opening.tracker) ≡ true) }
     ensures refused { result_err result
         ≡ value_refusal_by (own_tree (body_of piece.now)) (lacks_last (body_of piece.now)) }
 {
@@ -109,9 +101,9 @@ fn value_opening(piece: &Piece) -> Result<Opening, Operation>
         return Err(Operation::ValueBeforeKey);
     };
     match made {
-        Form::Map(_) if lacks_last(children) => {
-            let (form, count) = (*made, children.len() - 1);
-            Ok(Opening { form, count })
+        Tracker::Entries(EntriesKind::Map(_)) if lacks_last(children) => {
+            let (tracker, count) = (*made, children.len() - 1);
+            Ok(Opening { tracker, count })
         }
         _ => Err(Operation::ValueBeforeKey),
     }
@@ -130,8 +122,8 @@ impl<'t> Work<'t> {
             Some(kind) => Err(kind),
             None if is_dynamic(table, shape) => Ok(Move::Stay(Change::Gather(Parts::Entries))),
             None => {
-                let (form, count) = (Form::Map(0), 0);
-                Ok(Move::Stay(Change::Open(Opening { form, count })))
+                let (tracker, count) = (Tracker::Entries(EntriesKind::Map(0)), 0);
+                Ok(Move::Stay(Change::Open(Opening { tracker, count })))
             }
         }
     }

@@ -1,14 +1,8 @@
 //! `end`, `build` and `abandon`, and deferred mode: `begin_deferred` and `finish_deferred`.
-ghost use Rattle.std.specs.Prelude.{◌≡◌, false, length, None, Some, true};
-ghost use Rattle.fr_shape.specs.Released.{Room, RoseBy};
-ghost use Rattle.fr_model.specs.Commands.{Call};
-ghost use Rattle.fr_model.specs.Items.{is_open_slice};
-ghost use Rattle.fr_model.specs.Places.{is_root};
+ghost use Rattle.std.specs.Prelude.{◌≡◌};
+ghost use Rattle.fr_partial.specs.Common.{Call, Decides, IsCall, IsNotOutOfMemory, NeedsNone, None, Room, RoseBy, Some, cursor_tree, false, holds, is_open_slice, is_root, length, strict, takes_no_memory, true};
 ghost use Rattle.fr_model.specs.Step.{begin_deferred};
-ghost use Rattle.fr_model.specs.Tree.{cursor_tree, strict};
-ghost use Rattle.fr_partial.specs.Builder.{holds, IsBuild, IsCall, IsNotOutOfMemory};
-ghost use Rattle.fr_partial.specs.Filling.{takes_no_memory};
-ghost use Rattle.fr_partial.specs.Moving.{Decides, NeedsNone};
+ghost use Rattle.fr_partial.specs.Builder.{IsBuild};
 
 use crate::mode::Mode;
 use crate::moves::{Change, Move, Rules, Taker};

@@ -1,14 +1,13 @@
 //! What a call comes to, once it is decided.
-ghost use Rattle.std.specs.Prelude.{◌≡◌, ◌<◌, ◌^◌, IfOk, OnOk};
-ghost use Rattle.fr_model.specs.Paths.{step_as};
-ghost use Rattle.fr_frame.specs.Heap.{as_form};
-ghost use Rattle.fr_partial.specs.Moving.{number_told, step_told};
+ghost use Rattle.fr_partial.specs.Common.{IfOk, OnOk, as_tracker, number_told, step_as};
+ghost use Rattle.std.specs.Prelude.{◌<◌, ◌^◌, ◌≡◌};
+ghost use Rattle.fr_partial.specs.Moving.{step_told};
 
 use crate::admitting::Opening;
 use crate::beginning::Beginning;
 use crate::choosing::Chosen;
 use crate::dynamic_places::Parts;
-use fr_frame::Form;
+use fr_frame::Tracker;
 use fr_path::PathStep;
 use fr_shape::{OutOfMemory, Text, Value};
 use std::alloc::Global;
@@ -24,7 +23,7 @@ pub enum Way<'k> {
     Key(Opening),
     Value(Opening),
     Entry(&'k str),
-    Content(Form, Beginning),
+    Content(Tracker, Beginning),
 }
 
 /// What comes of the place at which the builder works, which stays there: a value takes its place;
@@ -84,23 +83,23 @@ impl<'k> Way<'k> {
         ensures small { OnOk result (number_told self.entry < 2 ^ 32) }
     {
         match self {
-            Way::Child(i, opening) => step_of(opening.form, i),
+            Way::Child(i, opening) => step_of(opening.tracker, i),
             Way::Item(opening) | Way::Key(opening) | Way::Value(opening) => {
-                step_of(opening.form, opening.count)
+                step_of(opening.tracker, opening.count)
             }
             Way::Entry(key) => Ok(PathStep::Entry(Text::new(alloc, key)?)),
-            Way::Content(form, _) => Ok(form.step(0)),
+            Way::Content(tracker, _) => Ok(tracker.step(0)),
         }
     }
 }
 
 /// The step to child `i` of a place that is begun so.
-fn step_of(form: Form, i: usize) -> Result<PathStep, OutOfMemory>
-    ensures step { IfOk result (λ step. step ≡ step_as (as_form form) i) }
+fn step_of(tracker: Tracker, i: usize) -> Result<PathStep, OutOfMemory>
+    ensures step { IfOk result (λ step. step ≡ step_as (as_tracker tracker) i) }
     ensures small { OnOk result (i < 2 ^ 32) }
 {
     match u32::try_from(i) {
-        Ok(i) => Ok(form.step(i)),
+        Ok(i) => Ok(tracker.step(i)),
         Err(_) => Err(OutOfMemory),
     }
 }

@@ -1,13 +1,6 @@
 //! `begin_object_entry`: a dynamic value that is an object, entry by entry.
 ghost use Rattle.std.specs.Prelude.{◌≡◌};
-ghost use Rattle.fr_shape.specs.Look.{def_of};
-ghost use Rattle.fr_model.specs.DynamicPlaces.{entry_refusal};
-ghost use Rattle.fr_frame.specs.Bodies.{own_tree};
-ghost use Rattle.fr_frame.specs.Heap.{body_of};
-ghost use Rattle.fr_shape.specs.Released.{Room};
-ghost use Rattle.fr_model.specs.Commands.{Call};
-ghost use Rattle.fr_partial.specs.Builder.{holds, IsCall};
-ghost use Rattle.fr_partial.specs.Moving.{Decides};
+ghost use Rattle.fr_partial.specs.Common.{Call, Decides, IsCall, Room, body_of, def_of, entry_refusal, holds, own_tree};
 
 use crate::dynamic_places::is_dynamic;
 use crate::moves::{Move, Way};

@@ -1,14 +1,7 @@
 //! Beginning the place on top as its definition tells: a list, an array, a set or a map.
-ghost use Rattle.std.specs.Prelude.{◌≡◌, IsOk, OnOk, true};
-ghost use Rattle.fr_shape.specs.Look.{def_of};
-ghost use Rattle.fr_model.specs.Step.{opened};
-ghost use Rattle.fr_model.specs.Tree.{base_of_form};
-ghost use Rattle.fr_frame.specs.Bodies.{own_tree};
-ghost use Rattle.fr_frame.specs.Changes.{SameTokens};
-ghost use Rattle.fr_frame.specs.Heap.{as_form, body_of};
+ghost use Rattle.std.specs.Prelude.{◌≡◌};
+ghost use Rattle.fr_partial.specs.Common.{Changed, IsAtWork, IsOk, MayOpenAs, OnOk, SameTokens, as_tracker, base_of_tracker, body_of, def_of, is_begun, opened, own_tree, top_shape, top_tree, true};
 ghost use Rattle.fr_store.specs.Moves.{TakesMany};
-ghost use Rattle.fr_partial.specs.Openings.{is_begun, MayOpenAs};
-ghost use Rattle.fr_partial.specs.Underway.{top_shape, top_tree, Changed, IsAtWork};
 
 use crate::admitting::Opening;
 use crate::placing::place_here;
@@ -36,9 +29,9 @@ pub fn open_here(
 ) -> Result<(), OutOfMemory>
     requires at_work { IsAtWork plan.now frames.old }
     requires may_open { MayOpenAs (def_of frames.old.table.now (top_shape frames.old))
-        (as_form opening.form) opening.count (top_tree frames.old) }
-    requires many { TakesMany (as_form opening.form) }
-    requires base { base_of_form (as_form opening.form) ≡ 0 }
+        (as_tracker opening.tracker) opening.count (top_tree frames.old) }
+    requires many { TakesMany (as_tracker opening.tracker) }
+    requires base { base_of_tracker (as_tracker opening.tracker) ≡ 0 }
     ensures changed { OnOk result (Changed plan.now
         (opened (def_of frames.old.table.now (top_shape frames.old))) frames.old frames.new) }
     ensures memory { is_begun (top_tree frames.old) ≡ true → IsOk result }
@@ -50,6 +43,6 @@ pub fn open_here(
     } else {
         frames
             .stack
-            .begin(&mut frames.slots, plan, opening.form, opening.count)
+            .begin(&mut frames.slots, plan, opening.tracker, opening.count)
     }
 }

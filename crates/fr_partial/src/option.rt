@@ -1,18 +1,12 @@
 //! `begin_some`: on to the content of an option.
-ghost use Rattle.std.specs.Prelude.{◌≡◌, IfSome, IfNone, true, false};
-ghost use Rattle.fr_shape.specs.Fills.{is_option};
-ghost use Rattle.fr_shape.specs.Look.{def_of};
-ghost use Rattle.fr_model.specs.Places.{content_shape};
-ghost use Rattle.fr_shape.specs.Released.{Room};
-ghost use Rattle.fr_model.specs.Commands.{Call};
-ghost use Rattle.fr_partial.specs.Builder.{holds, IsCall};
-ghost use Rattle.fr_partial.specs.Moving.{Decides};
+ghost use Rattle.fr_partial.specs.Common.{Call, Decides, IfSome, IsCall, Room, content_shape, def_of, false, holds, is_option, true};
+ghost use Rattle.std.specs.Prelude.{IfNone, ◌≡◌};
 
 use crate::beginning::beginning_of_some;
 use crate::moves::{Move, Way};
 use crate::work::Work;
 use crate::{Partial, ReflectError};
-use fr_frame::Form;
+use fr_frame::{ContentKind, Tracker};
 use fr_shape::{Def, Expected, Hooks, Ledger, ReflectErrorKind, ShapeId, ShapeTable};
 
 /// What an option of this shape holds, if it is one.
@@ -40,7 +34,7 @@ impl<'t> Work<'t> {
             return Err(ReflectErrorKind::WasNotA { expected, actual });
         };
         let beginning = beginning_of_some(table, content, self.mode(), piece);
-        Ok(Move::Go(Way::Content(Form::Some, beginning)))
+        Ok(Move::Go(Way::Content(Tracker::Content(ContentKind::Some), beginning)))
     }
 }
 

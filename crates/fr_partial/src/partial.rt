@@ -1,14 +1,8 @@
 //! The builder.
-ghost use Rattle.std.specs.Prelude.{◌+◌, List, ℕ, IfOk};
-ghost use Rattle.fr_shape.specs.Checked.{IsChecked};
-ghost use Rattle.fr_shape.specs.Numbered.{IsNumbered};
-ghost use Rattle.fr_shape.specs.Released.{Room};
-ghost use Rattle.fr_model.specs.Commands.{Call};
-ghost use Rattle.fr_model.specs.Served.{IsServed};
-ghost use Rattle.fr_model.specs.Tree.{cursor_tree};
-ghost use Rattle.fr_model.specs.Well.{IsInOrder, RestsAround};
-ghost use Rattle.fr_partial.specs.Builder.{holds, site_of, IsCall, IsNotOutOfMemory};
-ghost use Rattle.fr_partial.specs.Moving.{carries, Decides, IsMeant, NeedsNone, WasDecided};
+ghost use Rattle.std.specs.Prelude.{◌+◌};
+ghost use Rattle.fr_partial.specs.Common.{Call, Decides, IfOk, IsCall, IsChecked, IsInOrder, IsMeant, IsNotOutOfMemory, IsNumbered, IsServed, List, NeedsNone, RestsAround, Room, cursor_tree, holds, ℕ};
+ghost use Rattle.fr_partial.specs.Builder.{site_of};
+ghost use Rattle.fr_partial.specs.Moving.{carries, WasDecided};
 
 use crate::ReflectError;
 use crate::moves::Move;

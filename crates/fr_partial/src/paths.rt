@@ -1,5 +1,6 @@
 //! The path of the place at which the builder works, kept beside its open places.
-ghost use Rattle.std.specs.Prelude.{◌≡◌, List, [], ◌∷◌, ◌++◌, IfOk};
+ghost use Rattle.fr_partial.specs.Common.{IfOk, List, []};
+ghost use Rattle.std.specs.Prelude.{◌∷◌, ◌++◌, ◌≡◌};
 ghost use Rattle.fr_path.specs.declared.path_steps.PathStep.{PathStep as Step};
 
 use fr_path::{Path, PathStep, law_pop_undoes_push};

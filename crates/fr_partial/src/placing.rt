@@ -1,10 +1,6 @@
 //! The place on top of the stack.
-ghost use Rattle.std.specs.Prelude.{◌≡◌, true};
-ghost use Rattle.fr_model.specs.Collections.{is_map, lacks_value};
-ghost use Rattle.fr_frame.specs.Bodies.{own_tree};
-ghost use Rattle.fr_frame.specs.Heap.{body_of};
-ghost use Rattle.fr_partial.specs.Looks.{lacks_last, LooksLike};
-ghost use Rattle.fr_partial.specs.Underway.{top_shape, top_tree, IsAtWork};
+ghost use Rattle.std.specs.Prelude.{◌≡◌};
+ghost use Rattle.fr_partial.specs.Common.{IsAtWork, LooksLike, body_of, is_map, lacks_last, lacks_value, own_tree, top_shape, top_tree, true};
 
 use crate::work::Frames;
 use fr_frame::Piece;

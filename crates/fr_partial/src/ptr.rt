@@ -1,21 +1,16 @@
 //! `begin_smart_ptr`: on to what a pointer points to; and `set_empty_shared_slice`.
-ghost use Rattle.std.specs.Prelude.{◌≡◌, IfOk, None, Some};
-ghost use Rattle.fr_shape.specs.Look.{def_of};
-ghost use Rattle.fr_shape.specs.Val.{list_of, no_vals, ptr};
-ghost use Rattle.fr_shape.specs.View.{view};
-ghost use Rattle.fr_model.specs.Contents.{inside_refusal, is_slice, pointer_refusal, points_to_slice};
+ghost use Rattle.std.specs.Prelude.{◌≡◌};
+ghost use Rattle.fr_partial.specs.Common.{Call, Decides, IfOk, IsCall, None, Room, Some, def_of, holds, list_of, no_vals, pointer_refusal, points_to_slice, view};
+ghost use Rattle.fr_shape.specs.Val.{ptr};
+ghost use Rattle.fr_model.specs.Contents.{inside_refusal, is_slice};
 ghost use Rattle.fr_model.specs.Items.{shared_slice_by, shared_slice_refusal};
 ghost use Rattle.fr_path.specs.Places.{owns};
-ghost use Rattle.fr_shape.specs.Released.{Room};
-ghost use Rattle.fr_model.specs.Commands.{Call};
-ghost use Rattle.fr_partial.specs.Builder.{holds, IsCall};
-ghost use Rattle.fr_partial.specs.Moving.{Decides};
 
 use crate::beginning::beginning_in;
 use crate::moves::{Change, Move, Way};
 use crate::work::Work;
 use crate::{Partial, ReflectError};
-use fr_frame::Form;
+use fr_frame::{ContentKind, Tracker};
 use fr_shape::{
     Def, Hooks, Items, KnownPointer, Ledger, Operation, OutOfMemory, PointerDef, ReflectErrorKind,
     Shape, ShapeId, ShapeTable, Value,
@@ -144,8 +139,8 @@ impl<'t> Work<'t> {
         if points_to_slice(table, shape) {
             return Ok(Move::Stay(Change::OpenSlice));
         }
-        let beginning = beginning_in(self.mode(), Form::Pointer, piece);
-        Ok(Move::Go(Way::Content(Form::Pointer, beginning)))
+        let beginning = beginning_in(self.mode(), Tracker::Content(ContentKind::Pointer), piece);
+        Ok(Move::Go(Way::Content(Tracker::Content(ContentKind::Pointer), beginning)))
     }
 
     /// A pointer to no items takes the place.

@@ -1,7 +1,6 @@
 //! What a builder tells of itself.
-ghost use Rattle.std.specs.Prelude.{◌≡◌, ◌≢◌, ◌↔◌, ◌+◌, length, IfOk, IfSome, IsNone, IsTrue};
-ghost use Rattle.fr_model.specs.Paths.{path_of};
-ghost use Rattle.fr_model.specs.Tree.{strict};
+ghost use Rattle.fr_partial.specs.Common.{IfOk, IfSome, length, path_of, strict};
+ghost use Rattle.std.specs.Prelude.{◌↔◌, IsNone, IsTrue, ◌+◌, ◌≡◌, ◌≢◌};
 ghost use Rattle.fr_partial.specs.Builder.{here};
 
 use crate::mode::Mode;

@@ -1,19 +1,13 @@
 //! `begin_ok` and `begin_err`: on to either side of a result.
 ghost use Rattle.std.specs.Prelude.{◌≡◌};
-ghost use Rattle.fr_shape.specs.Look.{def_of};
-ghost use Rattle.fr_frame.specs.Heap.{as_form};
-ghost use Rattle.fr_model.specs.Contents.{is_result};
-ghost use Rattle.fr_shape.specs.Released.{Room};
-ghost use Rattle.fr_model.specs.Commands.{Call};
-ghost use Rattle.fr_partial.specs.Builder.{holds, IsCall};
-ghost use Rattle.fr_partial.specs.Moving.{Decides};
-ghost use Rattle.fr_partial.specs.Beginnings.{side_call, IsSide};
+ghost use Rattle.fr_partial.specs.Common.{Call, Decides, IsCall, Room, as_tracker, def_of, holds, is_result, side_call};
+ghost use Rattle.fr_partial.specs.Beginnings.{IsSide};
 
 use crate::beginning::beginning_in;
 use crate::moves::{Move, Way};
 use crate::work::Work;
 use crate::{Partial, ReflectError};
-use fr_frame::Form;
+use fr_frame::{ContentKind, Tracker};
 use fr_shape::{Def, Expected, Hooks, Ledger, ReflectErrorKind, Shape, ShapeId, ShapeTable};
 
 /// Whether the shape is a result.
@@ -31,9 +25,9 @@ fn is_result(table: &ShapeTable, shape: ShapeId) -> bool
 
 impl<'t> Work<'t> {
     /// On to this side of a result.
-    fn begin_side_move<'k>(&self, side: Form) -> Result<Move<'k>, ReflectErrorKind>
-        requires { IsSide (as_form side) }
-        ensures { Decides self.now (side_call (as_form side)) result }
+    fn begin_side_move<'k>(&self, side: Tracker) -> Result<Move<'k>, ReflectErrorKind>
+        requires { IsSide (as_tracker side) }
+        ensures { Decides self.now (side_call (as_tracker side)) result }
     {
         self.law_sound();
         let (table, actual, piece) = self.place();
@@ -56,7 +50,7 @@ impl<'t, H: Hooks> Partial<'t, H> {
         ensures call { IsCall (H.means self.entry.hooks) self.entry Call.BeginOk result
             ledger.old ledger.new }
     {
-        let decided = self.work.begin_side_move(Form::Ok);
+        let decided = self.work.begin_side_move(Tracker::Content(ContentKind::Ok));
         self.run(decided, ledger)
     }
 
@@ -67,7 +61,9 @@ impl<'t, H: Hooks> Partial<'t, H> {
         ensures call { IsCall (H.means self.entry.hooks) self.entry Call.BeginErr result
             ledger.old ledger.new }
     {
-        let decided = self.work.begin_side_move(Form::Err);
+        let decided = self
+            .work
+            .begin_side_move(Tracker::Content(ContentKind::Err));
         self.run(decided, ledger)
     }
 }

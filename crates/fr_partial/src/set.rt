@@ -1,18 +1,10 @@
 //! `set_shape` and `set_default`: a whole value at the place at which the builder works.
-ghost use Rattle.std.specs.Prelude.{◌≡◌, ◌+◌, [], true, false, IfOk, OnErr, OnOk};
-ghost use Rattle.fr_shape.specs.Fits.{fits};
-ghost use Rattle.fr_shape.specs.Look.{def_of};
-ghost use Rattle.fr_shape.specs.Released.{Room, RoseBy};
-ghost use Rattle.fr_shape.specs.Tokens.{occurs, tokens};
+ghost use Rattle.std.specs.Prelude.{◌+◌, ◌≡◌};
+ghost use Rattle.fr_partial.specs.Common.{Call, Decides, IfOk, IsCall, IsNotOutOfMemory, NeedsNone, OnErr, OnOk, Room, RoseBy, [], converts, cursor_tree, def_of, dyn_view, false, fits, holds, occurs, shape_at, takes_shape, tokens, true, view};
 ghost use Rattle.fr_shape.specs.Val.{dyn};
-ghost use Rattle.fr_shape.specs.View.{dyn_view, view};
-ghost use Rattle.fr_model.specs.Commands.{Call};
-ghost use Rattle.fr_model.specs.Step.{is_str, is_owned_string, takes_shape};
-ghost use Rattle.fr_partial.specs.Builder.{here, holds, IsCall, IsNotOutOfMemory};
-ghost use Rattle.fr_partial.specs.Moving.{Decides, NeedsNone};
-ghost use Rattle.fr_partial.specs.Setting.{converts, copies_at};
-ghost use Rattle.fr_partial.specs.Sites.{shape_at};
-ghost use Rattle.fr_model.specs.Tree.{cursor_tree};
+ghost use Rattle.fr_model.specs.Step.{is_str, is_owned_string};
+ghost use Rattle.fr_partial.specs.Builder.{here};
+ghost use Rattle.fr_partial.specs.Setting.{copies_at};
 
 use crate::converting::converted;
 use crate::dynamic_places::is_dynamic;

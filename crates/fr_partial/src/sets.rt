@@ -1,35 +1,26 @@
 //! `init_set` and `begin_set_item`: a set, item by item.
-ghost use Rattle.std.specs.Prelude.{◌≡◌, ◌≢◌, true, IfOk, IfSome};
-ghost use Rattle.std.specs.Result.{result_err};
+ghost use Rattle.std.specs.Prelude.{◌≡◌, ◌≢◌};
+ghost use Rattle.fr_partial.specs.Common.{Call, Decides, HasItems, IfOk, IfSome, IsCall, IsNotOutOfMemory, NeedsNone, Room, as_tracker, body_of, cursor_tree, def_of, holds, init_set_refusal, is_begun, own_tree, result_err, set_item_refusal, true};
 ghost use Rattle.fr_shape.specs.declared.error.ReflectErrorKind.{ReflectErrorKind as Kind};
-ghost use Rattle.fr_shape.specs.Look.{def_of};
-ghost use Rattle.fr_model.specs.Collections.{is_set_form, set_item_refusal, unless_set};
-ghost use Rattle.fr_model.specs.Step.{init_set_refusal};
-ghost use Rattle.fr_model.specs.Tree.{cursor_tree};
-ghost use Rattle.fr_frame.specs.Bodies.{own_tree, TakesItems};
-ghost use Rattle.fr_frame.specs.Heap.{as_form, body_of};
-ghost use Rattle.fr_partial.specs.Openings.{is_begun, HasItems};
-ghost use Rattle.fr_shape.specs.Released.{Room};
-ghost use Rattle.fr_model.specs.Commands.{Call};
-ghost use Rattle.fr_partial.specs.Builder.{holds, IsCall, IsNotOutOfMemory};
-ghost use Rattle.fr_partial.specs.Moving.{Decides, NeedsNone};
+ghost use Rattle.fr_model.specs.Collections.{is_set_tracker, unless_set};
+ghost use Rattle.fr_frame.specs.Bodies.{TakesItems};
 
 use crate::admitting::Opening;
 use crate::lists::{at_shape, unexpected};
 use crate::moves::{Change, Move, Way};
 use crate::work::Work;
 use crate::{Partial, ReflectError};
-use fr_frame::{Form, Piece};
+use fr_frame::{ItemsKind, Piece, Tracker};
 use fr_shape::{
     Def, Hooks, InitCall, Ledger, Operation, ReflectErrorKind, Shape, ShapeId, ShapeTable,
     TrackerKind,
 };
 
 /// Whether a place that is begun so is a set.
-pub fn is_set(form: Form) -> bool
-    ensures { result ≡ is_set_form (as_form form) }
+pub fn is_set(tracker: Tracker) -> bool
+    ensures { result ≡ is_set_tracker (as_tracker tracker) }
 {
-    matches!(form, Form::Set)
+    matches!(tracker, Tracker::Items(ItemsKind::Set))
 }
 
 /// Nothing, where the shape is a set; else this refusal.
@@ -54,8 +45,8 @@ fn init_set_refusal(table: &ShapeTable, shape: ShapeId, piece: &Piece) -> Option
     ensures named { IfSome result (λ kind. kind ≢ Kind.OutOfMemory) }
 {
     match piece {
-        Piece::Begun(Form::Set, _) => None,
-        Piece::Begun(form, _) => Some(unexpected(InitCall::Set, *form)),
+        Piece::Begun(Tracker::Items(ItemsKind::Set), _) => None,
+        Piece::Begun(tracker, _) => Some(unexpected(InitCall::Set, *tracker)),
         Piece::Object(..) => {
             let (call, current) = (InitCall::Set, TrackerKind::DynamicValue);
             Some(ReflectErrorKind::UnexpectedTracker { call, current })
@@ -73,8 +64,8 @@ fn init_set_refusal(table: &ShapeTable, shape: ShapeId, piece: &Piece) -> Option
 #[inline]
 fn set_item_opening(table: &ShapeTable, shape: ShapeId, piece: &Piece) -> Result<Opening, Operation>
     ensures items { IfOk result (λ opening.
-        HasItems (as_form opening.form) opening.count (own_tree (body_of piece.now))) }
-    ensures grows { IfOk result (λ opening. TakesItems (as_form opening.form)) }
+        HasItems (as_tracker opening.tracker) opening.count (own_tree (body_of piece.now))) }
+    ensures grows { IfOk result (λ opening. TakesItems (as_tracker opening.tracker)) }
     ensures refused { result_err result
         ≡ set_item_refusal (def_of table.now shape.0) (own_tree (body_of piece.now)) }
 {
@@ -84,9 +75,9 @@ fn set_item_opening(table: &ShapeTable, shape: ShapeId, piece: &Piece) -> Result
     let Piece::Begun(made, children) = piece else {
         return Err(Operation::SetItemBeforeInitSet);
     };
-    let (form, count) = (*made, children.len());
-    match form {
-        Form::Set => Ok(Opening { form, count }),
+    let (tracker, count) = (*made, children.len());
+    match tracker {
+        Tracker::Items(ItemsKind::Set) => Ok(Opening { tracker, count }),
         _ => Err(Operation::SetItemBeforeInitSet),
     }
 }
@@ -103,8 +94,8 @@ impl<'t> Work<'t> {
         match init_set_refusal(table, shape, piece) {
             Some(kind) => Err(kind),
             None => {
-                let (form, count) = (Form::Set, 0);
-                Ok(Move::Stay(Change::Open(Opening { form, count })))
+                let (tracker, count) = (Tracker::Items(ItemsKind::Set), 0);
+                Ok(Move::Stay(Change::Open(Opening { tracker, count })))
             }
         }
     }

@@ -1,19 +1,12 @@
 //! Pointers to slices: opened for items, and closed again.
-ghost use Rattle.std.specs.Prelude.{◌≡◌, OnOk, true, is_some, unwrap_or};
-ghost use Rattle.fr_shape.specs.Released.{Room, Conserved};
-ghost use Rattle.fr_model.specs.Contents.{kept_slice, slice_anew};
-ghost use Rattle.fr_model.specs.Items.{closed_slice, is_open_slice};
-ghost use Rattle.fr_frame.specs.Bodies.{own_tree};
-ghost use Rattle.fr_frame.specs.Changes.{SameTokens};
-ghost use Rattle.fr_frame.specs.Heap.{body_of};
-ghost use Rattle.fr_partial.specs.Modes.{mode_of};
-ghost use Rattle.fr_partial.specs.Underway.{held_in, top_tree, Changed, IsAtWork};
+ghost use Rattle.std.specs.Prelude.{◌≡◌};
+ghost use Rattle.fr_partial.specs.Common.{Changed, Conserved, IsAtWork, OnOk, Room, SameTokens, body_of, closed_slice, held_in, is_open_slice, is_some, kept_slice, mode_of, own_tree, slice_anew, top_tree, true, unwrap_or};
 
 use crate::beginning::{Beginning, begin_so};
 use crate::mode::Mode;
 use crate::placing::place_here;
 use crate::work::Frames;
-use fr_frame::{Form, Piece};
+use fr_frame::{ItemsKind, Piece, Tracker};
 use fr_plan::TypePlanCore;
 use fr_shape::{Ledger, OutOfMemory};
 
@@ -22,7 +15,7 @@ use fr_shape::{Ledger, OutOfMemory};
 pub fn is_open_slice(piece: &Piece) -> bool
     ensures { result ≡ is_open_slice (own_tree (body_of piece.now)) }
 {
-    matches!(piece, Piece::Begun(Form::Slice, _))
+    matches!(piece, Piece::Begun(Tracker::Items(ItemsKind::Slice), _))
 }
 
 /// Whether a pointer to a slice keeps its items where it is opened: in deferred mode one that is
@@ -32,7 +25,10 @@ fn keeps_items(mode: Mode, piece: &Piece) -> bool
 {
     match mode {
         Mode::Strict => false,
-        Mode::Deferred(_) => matches!(piece, Piece::Begun(Form::Slice | Form::ClosedSlice, _)),
+        Mode::Deferred(_) => matches!(
+            piece,
+            Piece::Begun(Tracker::Items(ItemsKind::Slice | ItemsKind::ClosedSlice), _)
+        ),
     }
 }
 
@@ -52,10 +48,19 @@ pub fn begin_slice(
 {
     let kept = keeps_items(frames.mode, place_here(plan, frames).1);
     if kept {
-        frames.stack.reform(&mut frames.slots, plan, Form::Slice);
+        frames
+            .stack
+            .reform(&mut frames.slots, plan, Tracker::Items(ItemsKind::Slice));
         Ok(())
     } else {
-        begin_so(plan, frames, Beginning::Anew, Form::Slice, 0, ledger)
+        begin_so(
+            plan,
+            frames,
+            Beginning::Anew,
+            Tracker::Items(ItemsKind::Slice),
+            0,
+            ledger,
+        )
     }
 }
 
@@ -67,7 +72,9 @@ pub fn close_slice(plan: &TypePlanCore, frames: &mut Frames)
     ensures changed { Changed plan.now closed_slice frames.old frames.new }
     ensures tokens { SameTokens frames.old.slots frames.new.slots }
 {
-    frames
-        .stack
-        .reform(&mut frames.slots, plan, Form::ClosedSlice);
+    frames.stack.reform(
+        &mut frames.slots,
+        plan,
+        Tracker::Items(ItemsKind::ClosedSlice),
+    );
 }

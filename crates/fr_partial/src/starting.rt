@@ -1,16 +1,10 @@
 //! The ways to start a builder: by a shape, whose plan it makes, or by a plan that is lent to it.
-ghost use Rattle.std.specs.Prelude.{◌≡◌, [], IfOk};
-ghost use Rattle.fr_shape.specs.Checked.{IsChecked, is_sized};
-ghost use Rattle.fr_shape.specs.Look.{IsIn, def_of};
-ghost use Rattle.fr_shape.specs.Numbered.{IsNumbered};
-ghost use Rattle.fr_model.specs.Served.{IsServed};
-ghost use Rattle.fr_model.specs.Run.{alloc_refusal, unsized_refusal};
-ghost use Rattle.fr_model.specs.Tree.{fresh, initial};
-ghost use Rattle.fr_store.specs.Moves.{IsOpenAt};
-ghost use Rattle.fr_store.specs.Stored.{NothingStored};
-ghost use Rattle.fr_plan.specs.TypePlan.{IsPlanOf};
-ghost use Rattle.fr_partial.specs.HeldPlan.{plan_in};
-ghost use Rattle.fr_partial.specs.Starting.{IsPlanFrom, RefusedWith};
+ghost use Rattle.std.specs.Prelude.{◌≡◌};
+ghost use Rattle.fr_partial.specs.Common.{IfOk, IsChecked, IsIn, IsNumbered, IsOpenAt, IsPlanFrom, IsPlanOf, IsServed, NothingStored, [], def_of, fresh, plan_in, unsized_refusal};
+ghost use Rattle.fr_shape.specs.Checked.{is_sized};
+ghost use Rattle.fr_model.specs.Run.{alloc_refusal};
+ghost use Rattle.fr_model.specs.Tree.{initial};
+ghost use Rattle.fr_partial.specs.Starting.{RefusedWith};
 
 use crate::Partial;
 use crate::held_plan::HeldPlan;

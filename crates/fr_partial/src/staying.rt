@@ -1,15 +1,9 @@
 //! What comes of the place at which the builder works, where it stays.
-ghost use Rattle.std.specs.Prelude.{◌≡◌, ◌≢◌, ◌+◌, true, IfErr, IsOk, Ok, OnErr, OnOk};
+ghost use Rattle.std.specs.Prelude.{◌+◌, ◌≡◌, ◌≢◌};
+ghost use Rattle.fr_partial.specs.Common.{Changed, Conserved, IfErr, IsAtWork, IsMade, IsMeant, IsOk, IsSound, MayStay, Ok, OnErr, OnOk, Room, carried_by, changed, cursor_tree, held_in, mode_of, shape_at, site, top_shape, top_tree, true};
 ghost use Rattle.fr_shape.specs.declared.error.ReflectErrorKind.{ReflectErrorKind as Kind};
-ghost use Rattle.fr_shape.specs.Released.{Conserved, Room};
-ghost use Rattle.fr_model.specs.Tree.{cursor_tree};
 ghost use Rattle.fr_partial.specs.declared.moves.Move.{Move as Moves};
-ghost use Rattle.fr_partial.specs.Making.{IsMade};
-ghost use Rattle.fr_partial.specs.Modes.{mode_of};
-ghost use Rattle.fr_partial.specs.Moving.{carried_by, changed, needs_none_for, stays, IsMeant, MayStay};
-ghost use Rattle.fr_partial.specs.Sites.{shape_at};
-ghost use Rattle.fr_partial.specs.Underway.{held_in, top_shape, top_tree, Changed, IsAtWork};
-ghost use Rattle.fr_partial.specs.Works.{site, IsSound};
+ghost use Rattle.fr_partial.specs.Moving.{needs_none_for, stays};
 
 use crate::beginning::begin_variant;
 use crate::dynamic_places::begin_parts;

@@ -1,24 +1,11 @@
 //! What a builder works with, and its moves as a whole: what is decided is made, or all is
 //! released.
-ghost use Rattle.std.specs.Prelude.{◌≡◌, ◌+◌, false, true, IfErr, IsErr, length};
-ghost use Rattle.fr_shape.specs.Checked.{IsChecked};
-ghost use Rattle.fr_shape.specs.Numbered.{IsNumbered};
-ghost use Rattle.fr_shape.specs.Released.{Conserved, Room, RoseBy};
-ghost use Rattle.fr_model.specs.Collections.{is_map, lacks_value};
-ghost use Rattle.fr_model.specs.Paths.{path_of};
-ghost use Rattle.fr_model.specs.Served.{IsServed};
+ghost use Rattle.std.specs.Prelude.{◌+◌, ◌≡◌};
+ghost use Rattle.fr_partial.specs.Common.{Conserved, IfErr, IsChecked, IsErr, IsInOrder, IsMeant, IsNotOutOfMemory, IsNumbered, IsServed, RestsAround, Room, RoseBy, Sees, body_of, carried, false, held_at, held_in, is_map, lacks_last, lacks_value, length, meant_by, mode_of, own_tree, path_of, strict, true};
 ghost use Rattle.fr_model.specs.Step.{begin_deferred};
-ghost use Rattle.fr_model.specs.Tree.{strict};
-ghost use Rattle.fr_model.specs.Well.{IsInOrder, RestsAround};
-ghost use Rattle.fr_frame.specs.Bodies.{own_tree};
-ghost use Rattle.fr_frame.specs.Heap.{body_of};
-ghost use Rattle.fr_partial.specs.Builder.{IsNotOutOfMemory};
-ghost use Rattle.fr_partial.specs.Looks.{lacks_last, Sees};
 ghost use Rattle.fr_partial.specs.Making.{left_at, IsMoved};
-ghost use Rattle.fr_partial.specs.Modes.{mode_of};
-ghost use Rattle.fr_partial.specs.Moving.{carried, is_late, meant_by, needs_none, IsMeant};
-ghost use Rattle.fr_partial.specs.Sites.{held_at, tree_at_site};
-ghost use Rattle.fr_partial.specs.Underway.{held_in};
+ghost use Rattle.fr_partial.specs.Moving.{is_late, needs_none};
+ghost use Rattle.fr_partial.specs.Sites.{tree_at_site};
 
 use crate::ReflectError;
 use crate::deferring::defer;

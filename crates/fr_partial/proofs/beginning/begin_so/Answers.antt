@@ -1,10 +1,6 @@
 use Rattle.std.proofs.Common.{sym, ap}
-use Rattle.fr_model.specs.Tree.{begun, holes}
-use Rattle.fr_frame.specs.Heap.{as_form}
+use Rattle.fr_partial.specs.Common.{Beginning, as_tracker, begun, begun_by, holes, top_tree}
 use Rattle.fr_store.specs.Moves.{around_some}
-use Rattle.fr_partial.specs.Beginnings.{begun_by}
-use Rattle.fr_partial.specs.declared.beginning.Beginning.{Beginning}
-use Rattle.fr_partial.specs.Underway.{top_tree}
 use Rattle.fr_partial.proofs.HereLaws.{holds_some}
 use Rattle.fr_partial.proofs.KeepLaws.{are_open, became, became_marked, changed_as, kept_released, ok_or, room_here, unchanged_as}
 use Rattle.fr_partial.proofs.KeptLaws.{on_ok}
@@ -19,31 +15,24 @@ restart-requires-clause-room c = room_here _ _ _ _ c.requires.at_work.ready.show
 
 pub returns-in-AsItIs-clause-changed : goal.returns-in-AsItIs-clause-changed
 returns-in-AsItIs-clause-changed c =
-    unchanged_as (are_open c.requires.at_work) (begun_by c.args.beginning (as_form c.args.form) c.args.count)
-    (ap (λ (b : Beginning). begun_by b (as_form c.args.form) c.args.count (top_tree c.args.frames.now)) (sym c.in-AsItIs.is))
+    unchanged_as (are_open c.requires.at_work) (begun_by c.args.beginning (as_tracker c.args.tracker) c.args.count)
+    (ap (λ (b : Beginning). begun_by b (as_tracker c.args.tracker) c.args.count (top_tree c.args.frames.now)) (sym c.in-AsItIs.is))
 
 pub returns-in-InPlace-clause-changed : goal.returns-in-InPlace-clause-changed
 returns-in-InPlace-clause-changed c =
-    on_ok c.open_some.result
-    (λ done.
-    changed_as around_some (begun_by c.args.beginning (as_form c.args.form) c.args.count)
-    (ap (λ (b : Beginning). begun_by b (as_form c.args.form) c.args.count (top_tree c.args.frames.now)) (sym c.in-InPlace.is))
-    (became_marked (are_open c.requires.at_work) c.open_some.ensures.marks done))
-    c.open_some.ensures.opened
+    on_ok c.open_some.result (λ done. changed_as around_some (begun_by c.args.beginning (as_tracker c.args.tracker) c.args.count)
+    (ap (λ (b : Beginning). begun_by b (as_tracker c.args.tracker) c.args.count (top_tree c.args.frames.now)) (sym c.in-InPlace.is))
+    (became_marked (are_open c.requires.at_work) c.open_some.ensures.marks done)) c.open_some.ensures.opened
 
 pub returns-in-Anew-clause-changed : goal.returns-in-Anew-clause-changed
 returns-in-Anew-clause-changed c =
-    on_ok c.restart.result
-    (λ done.
-    changed_as (λ old. begun (as_form c.args.form) (holes c.args.count))
-    (begun_by c.args.beginning (as_form c.args.form) c.args.count)
-    (ap (λ (b : Beginning). begun_by b (as_form c.args.form) c.args.count (top_tree c.args.frames.now)) (sym c.in-Anew.is))
-    (became (are_open c.requires.at_work) c.restart.ensures.kept c.restart.ensures.marks done))
-    c.restart.ensures.restarted
+    on_ok c.restart.result (λ done. changed_as (λ old. begun (as_tracker c.args.tracker) (holes c.args.count))
+    (begun_by c.args.beginning (as_tracker c.args.tracker) c.args.count)
+    (ap (λ (b : Beginning). begun_by b (as_tracker c.args.tracker) c.args.count (top_tree c.args.frames.now)) (sym c.in-Anew.is))
+    (became (are_open c.requires.at_work) c.restart.ensures.kept c.restart.ensures.marks done)) c.restart.ensures.restarted
 
 pub returns-in-Anew-clause-tokens : goal.returns-in-Anew-clause-tokens
 returns-in-Anew-clause-tokens c =
-    ok_or c.restart.result c.restart.ensures.restarted c.restart.ensures.released c.restart.ensures.tokens
-    (λ then rose.
-    kept_released c.requires.at_work.ready.shown (λ old. begun (as_form c.args.form) (holes c.args.count)) then rose
+    ok_or c.restart.result c.restart.ensures.restarted c.restart.ensures.released c.restart.ensures.tokens (λ then rose.
+    kept_released c.requires.at_work.ready.shown (λ old. begun (as_tracker c.args.tracker) (holes c.args.count)) then rose
     (λ t. holes_occur c.args.count t))

@@ -1,12 +1,6 @@
-use Rattle.std.proofs.Common.{ℕ, ap, ◌∙◌, unwrap_or}
-use Rattle.fr_shape.specs.declared.shape.Def.{Def}
-use Rattle.fr_shape.specs.Look.{def_of}
-use Rattle.fr_model.specs.Contents.{kept_so, variant_anew}
-use Rattle.fr_model.specs.Tree.{Tree, as_variant}
-use Rattle.fr_partial.specs.Beginnings.{begun_by}
-use Rattle.fr_partial.specs.declared.beginning.Beginning.{Beginning}
-use Rattle.fr_partial.specs.Underway.{top_shape, top_tree}
-use Rattle.fr_partial.proofs.FormLaws.{variant_has}
+use Rattle.std.proofs.Common.{ℕ, ap, ◌∙◌, unwrap_or, Some}
+use Rattle.fr_partial.specs.Common.{Beginning, Def, Tree, as_fields, begun_by, def_of, kept_so, top_shape, top_tree, variant_anew}
+use Rattle.fr_partial.proofs.TrackerLaws.{variant_has}
 use Rattle.fr_partial.proofs.KeepLaws.{changed_as}
 use Rattle.fr_partial.proofs.KeptLaws.{variant_so, on_ok}
 use Rattle.fr_partial.proofs.LookLaws.{so_alike}
@@ -17,12 +11,10 @@ returns-clause-changed c =
     let def : Def = def_of c.args.frames.now.table.now (top_shape c.args.frames.now) in
     let k : ℕ = c.args.chosen.variant in
     let here : Tree = top_tree c.args.frames.now in
-    on_ok c.begin_so.result
-    (λ done.
-    changed_as (begun_by c.beginning_so-beginning.result (as_variant k) c.args.chosen.count)
-    (λ old. unwrap_or (kept_so (as_variant k) here) (variant_anew def k))
-    (ap (λ (b : Beginning). begun_by b (as_variant k) c.args.chosen.count here)
-    (c.beginning_so-beginning.ensures ∙ so_alike _ here c.place_here.ensures.piece (as_variant k))
-    ∙ variant_so def k c.args.chosen.count here (variant_has def k c.args.chosen.count c.requires.count))
-    done)
+    on_ok c.begin_so.result (λ done.
+    changed_as (begun_by c.beginning_so-beginning.result (as_fields (Some k)) c.args.chosen.count)
+    (λ old. unwrap_or (kept_so (as_fields (Some k)) here) (variant_anew def k))
+    (ap (λ (b : Beginning). begun_by b (as_fields (Some k)) c.args.chosen.count here)
+    (c.beginning_so-beginning.ensures ∙ so_alike _ here c.place_here.ensures.piece (as_fields (Some k)))
+    ∙ variant_so def k c.args.chosen.count here (variant_has def k c.args.chosen.count c.requires.count)) done)
     c.begin_so.ensures.changed

@@ -1,8 +1,6 @@
 use Rattle.std.proofs.Common.{◌≡◌, true, ℕ, List, ◌++◌, drop, Some}
 use Rattle.fr_shape.specs.Tokens.{vals_tokens}
-use Rattle.fr_shape.specs.View.{vals_view}
-use Rattle.fr_model.specs.Converting.{bytes_of}
-use Rattle.fr_partial.specs.Conversions.{are_octets}
+use Rattle.fr_partial.specs.Common.{are_octets, bytes_of, vals_view}
 use Rattle.fr_partial.proofs.converting.bytes_in.Given as goal
 
 -- what is left are octets, and its bytes follow those so far

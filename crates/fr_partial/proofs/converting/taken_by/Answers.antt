@@ -1,5 +1,5 @@
 use Rattle.std.proofs.Common.{◌∙◌}
-use Rattle.fr_shape.specs.View.{view}
+use Rattle.fr_partial.specs.Common.{view}
 use Rattle.fr_partial.proofs.Converted.{fits_in_range, fits_octets}
 use Rattle.fr_partial.proofs.converting.taken_by.Goals as goal
 

@@ -1,8 +1,6 @@
 use Rattle.std.proofs.Common.{◌≡◌, ℕ, ◌-◌, length, Ok, refl, sym, ap, ◌∙◌, arith}
-use Rattle.fr_shape.specs.Hooks.{no_hooks}
-use Rattle.fr_model.specs.Tree.{State, one_more_call, deferred}
+use Rattle.fr_partial.specs.Common.{State, deferred, no_hooks, one_more_call, site}
 use Rattle.fr_partial.specs.declared.mode.Mode.{Mode}
-use Rattle.fr_partial.specs.Works.{site}
 use Rattle.fr_partial.proofs.StateLaws.{order_after, rest_after, sound_so}
 use Rattle.fr_partial.proofs.WorkLaws.{open_count}
 use Rattle.fr_partial.proofs.deferring.defer.Goals as goal
@@ -32,8 +30,7 @@ returns-clause-sound c =
     (order_after c.requires.sound c.law_well.ensures.in_order no_hooks (next (site parts).state) meant.0 meant.1.fitting
     (meant.1.means no_hooks))
     (rest_after c.requires.sound c.law_well.ensures.rests no_hooks (next (site parts).state) meant.0 meant.1.fitting
-    (meant.1.means no_hooks))
-    c.requires.sound.path
+    (meant.1.means no_hooks)) c.requires.sound.path
 
 pub returns-clause-moved : goal.returns-clause-moved
 returns-clause-moved c = (

@@ -1,9 +1,5 @@
 use Rattle.std.proofs.Common.{Ok, inl, inr, refl, sym, ap, ◌∙◌, subst}
-use Rattle.fr_shape.specs.TokenLaws.{Conserved_same}
-use Rattle.fr_model.specs.Tree.{State}
-use Rattle.fr_plan.specs.TypePlan.{Plan}
-use Rattle.fr_store.specs.MoveLaws.{slots_tokens}
-use Rattle.fr_partial.specs.Underway.{IsAtWork}
+use Rattle.fr_partial.specs.Common.{Conserved_same, IsAtWork, Plan, State, slots_tokens}
 use Rattle.fr_partial.proofs.FinishLaws.{ended_is, ends, held_up, sound_ended, suits_root}
 use Rattle.fr_partial.proofs.RemovedLaws.{all_released}
 use Rattle.fr_partial.proofs.WorkLaws.{room_tree}
@@ -34,8 +30,7 @@ pub returns-in-Ok-clause-moved : goal.returns-in-Ok-clause-moved
 returns-in-Ok-clause-moved g c =
     let work = at_work g (goal.at.returns-in-Ok-clause-moved g c).After-core-plan in (
       ends c.law_plan_lookups.ensures.paths (g.H.Hooks.means c.args.hooks.now) c.args.parts.now work c.in-Ok.ensures.finished
-          ∙ ap (λ (next : State). Ok next)
-          (sym
+          ∙ ap (λ (next : State). Ok next) (sym
           (ended_is c.law_plan_lookups.ensures.paths (g.H.Hooks.means c.args.hooks.now) c.args.parts.now work
           c.in-Ok.ensures.finished c.saturating_add-parts.ensures)),
       refl,
@@ -46,14 +41,11 @@ pub returns-in-Err-clause-moved : goal.returns-in-Err-clause-moved
 returns-in-Err-clause-moved g c =
     elim c.in-Err.ensures.why [
       | inl memory ↦ inl memory
-      | inr held ↦
-          inr
-          (held_up c.law_plan_lookups.ensures.paths (g.H.Hooks.means c.args.hooks.now) c.args.parts.now
+      | inr held ↦ inr (held_up c.law_plan_lookups.ensures.paths (g.H.Hooks.means c.args.hooks.now) c.args.parts.now
           (at_work g (goal.at.returns-in-Err-clause-moved g c).After-core-plan) c.in-Err.kind held)
     ]
 
 pub returns-in-Err-clause-tokens : goal.returns-in-Err-clause-tokens
 returns-in-Err-clause-tokens g c =
-    Conserved_same _ _ _ _ _ _
-    (λ t. sym (slots_tokens _ _ _ c.requires.sound.at_work.ready.shown t))
+    Conserved_same _ _ _ _ _ _ (λ t. sym (slots_tokens _ _ _ c.requires.sound.at_work.ready.shown t))
     (λ t. sym (c.in-Err.ensures.emptied t)) (all_released _ _ _ c.in-Err.ensures.released)

@@ -1,12 +1,8 @@
 use Rattle.std.proofs.Common.{◌≡◌, refl, sym, ◌∙◌, subst, unwrap_or}
 use Rattle.fr_model.specs.DynamicPlaces.{array_anew, object_anew}
-use Rattle.fr_model.specs.Tree.{Tree}
+use Rattle.fr_partial.specs.Common.{Beginning, Changed, Frames, Tree, anew_as, kept_as, top_tree}
 use Rattle.fr_store.specs.Moves.{around_elements, around_members}
-use Rattle.fr_partial.specs.declared.beginning.Beginning.{Beginning}
 use Rattle.fr_partial.specs.declared.dynamic_places.Parts.{Parts}
-use Rattle.fr_partial.specs.declared.work.Frames.{Frames}
-use Rattle.fr_partial.specs.DynamicBeginnings.{anew_as, kept_as}
-use Rattle.fr_partial.specs.Underway.{top_tree, Changed}
 use Rattle.fr_partial.proofs.DynamicLaws.{as_alike, begins_so, elements_kept, entries_kept, never_begun, BeginsSo}
 use Rattle.fr_partial.proofs.HereLaws.{holds_elements, holds_entries}
 use Rattle.fr_partial.proofs.KeepLaws.{are_open, became, became_marked, changed_as, kept_released, room_here, unchanged_as}
@@ -21,8 +17,7 @@ begins c {made} {told} made_is told_is =
     subst (λ (p : Parts). BeginsSo p made (top_tree c.args.frames.now)) told_is
     (subst (λ (b : Beginning). BeginsSo c.args.parts b (top_tree c.args.frames.now))
     (sym (as_alike _ (top_tree c.args.frames.now) c.place_here.ensures.piece c.args.parts) ∙ sym c.beginning_as-beginning.ensures
-    ∙ made_is)
-    (begins_so c.args.parts (top_tree c.args.frames.now)))
+    ∙ made_is) (begins_so c.args.parts (top_tree c.args.frames.now)))
 
 -- a change by which it comes to be what was kept, or anew
 gathered : (c : After-beginning_as-beginning) {told : Parts} {after : Frames} → c.args.parts ≡ told → (change : Tree → Tree)
@@ -33,8 +28,7 @@ gathered : (c : After-beginning_as-beginning) {told : Parts} {after : Frames} �
 gathered c {told} is change same done =
     changed_as change (λ old. unwrap_or (kept_as c.args.parts (top_tree c.args.frames.now)) (anew_as c.args.parts))
     (subst (λ (p : Parts). change (top_tree c.args.frames.now) ≡ unwrap_or (kept_as p (top_tree c.args.frames.now)) (anew_as p))
-    (sym is) same)
-    done
+    (sym is) same) done
 
 pub open_array-requires-clause-holds : goal.open_array-requires-clause-holds
 open_array-requires-clause-holds c =
@@ -60,11 +54,9 @@ returns-in-AsItIs-clause-changed c =
 pub returns-in-Elements-clause-changed : goal.returns-in-Elements-clause-changed
 returns-in-Elements-clause-changed c =
     let at = (goal.at.returns-in-Elements-clause-changed c).After-beginning_as-beginning in
-    on_ok c.open_array.result
-    (λ opened.
+    on_ok c.open_array.result (λ opened.
     gathered at c.in-Elements.is around_elements (elements_kept _ (begins at c.in-InPlace.is c.in-Elements.is))
-    (became_marked (are_open c.requires.at_work) c.open_array.ensures.marks opened))
-    c.open_array.ensures.opened
+    (became_marked (are_open c.requires.at_work) c.open_array.ensures.marks opened)) c.open_array.ensures.opened
 
 pub returns-in-Elements-clause-memory : goal.returns-in-Elements-clause-memory
 returns-in-Elements-clause-memory c begun =
@@ -74,11 +66,9 @@ returns-in-Elements-clause-memory c begun =
 pub returns-in-Entries-clause-changed : goal.returns-in-Entries-clause-changed
 returns-in-Entries-clause-changed c =
     let at = (goal.at.returns-in-Entries-clause-changed c).After-beginning_as-beginning in
-    on_ok c.open_object.result
-    (λ opened.
+    on_ok c.open_object.result (λ opened.
     gathered at c.in-Entries.is around_members (entries_kept _ (begins at c.in-InPlace.is c.in-Entries.is))
-    (became_marked (are_open c.requires.at_work) c.open_object.ensures.marks opened))
-    c.open_object.ensures.opened
+    (became_marked (are_open c.requires.at_work) c.open_object.ensures.marks opened)) c.open_object.ensures.opened
 
 pub returns-in-Entries-clause-memory : goal.returns-in-Entries-clause-memory
 returns-in-Entries-clause-memory c begun =

@@ -1,5 +1,4 @@
-use Rattle.fr_partial.specs.Sites.{shape_at}
-use Rattle.fr_partial.specs.Works.{site}
+use Rattle.fr_partial.specs.Common.{shape_at, site}
 use Rattle.fr_partial.proofs.HandingLaws.{is_meant, needed_none, path_then, refused_first}
 use Rattle.fr_partial.proofs.StateLaws.{made_moved, sound_moved}
 use Rattle.fr_partial.proofs.ending.complete.Goals as goal
@@ -10,8 +9,7 @@ returns-in-Ok-clause-sound g c =
     sound_moved c.requires.sound c.core-plan.ensures c.in-Ok.ensures.completed.handed c.saturating_add-parts.ensures
     c.law_well.ensures.in_order c.law_well.ensures.rests (g.H.Hooks.means c.args.hooks.now) c.requires.meant
     (is_meant c.args.rules c.args.taker (g.H.Hooks.means c.args.hooks.now) before.shapes (shape_at before) before.state _
-    c.in-Ok.ensures.completed.meant)
-    c.go_back.new.path
+    c.in-Ok.ensures.completed.meant) c.go_back.new.path
     (path_then before.state c.requires.sound.path c.law_paths.ensures.change c.law_paths.ensures.leave c.law_paths.ensures.deep
     c.args.taker c.in-Ok.ensures.completed.value c.requires.meant.1.may.1 c.go_back.ensures)
 

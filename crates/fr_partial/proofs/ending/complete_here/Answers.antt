@@ -1,4 +1,4 @@
-use Rattle.fr_shape.specs.TokenLaws.{Room_conserved}
+use Rattle.fr_partial.specs.Common.{Room_conserved}
 use Rattle.fr_partial.proofs.HandingLaws.{completed, may_receive, not_handed}
 use Rattle.fr_partial.proofs.StateLaws.{open_then}
 use Rattle.fr_partial.proofs.ending.complete_here.Goals as goal

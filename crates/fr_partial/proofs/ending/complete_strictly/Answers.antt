@@ -1,4 +1,4 @@
-use Rattle.fr_partial.specs.declared.moves.Rules.{Rules}
+use Rattle.fr_partial.specs.Common.{Rules}
 use Rattle.fr_partial.proofs.EndingLaws.{holds, if_err, in_use, may_complete, on_both, strict_top, why_here, IsTop}
 use Rattle.fr_partial.proofs.ending.complete_strictly.Given.{Over}
 use Rattle.fr_partial.proofs.ending.complete_strictly.Goals as goal
@@ -21,8 +21,7 @@ pub returns-clause-completed : goal.returns-clause-completed
 returns-clause-completed g c =
     on_both c.fill_and_require_fields.result
     (holds (top g (goal.at.returns-clause-completed g c).In-Some) Rules.Strict (g.H.Hooks.means c.args.hooks.now)
-    c.fill_and_require_fields.new.slots)
-    c.fill_and_require_fields.ensures.filled c.fill_and_require_fields.ensures.form
+    c.fill_and_require_fields.new.slots) c.fill_and_require_fields.ensures.filled c.fill_and_require_fields.ensures.tracker
 
 pub returns-clause-why : goal.returns-clause-why
 returns-clause-why g c =

@@ -1,6 +1,6 @@
 use Rattle.std.proofs.Common.{sym, ◌∙◌, subst}
 use Rattle.fr_partial.specs.declared.moves.Taker.{Taker}
-use Rattle.fr_partial.specs.Ending.{MayReceive}
+use Rattle.fr_partial.specs.Common.{MayReceive}
 use Rattle.fr_partial.proofs.HandingLaws.{handed_over}
 use Rattle.fr_partial.proofs.KeepLaws.{room_here}
 use Rattle.fr_partial.proofs.StateLaws.{strict_stores}

@@ -1,8 +1,5 @@
 use Rattle.std.proofs.Common.{refl}
-use Rattle.fr_shape.specs.Hooks.{no_hooks}
-use Rattle.fr_model.specs.Places.{up}
-use Rattle.fr_partial.specs.Underway.{top_place, whole_tree, Became}
-use Rattle.fr_partial.specs.Works.{site}
+use Rattle.fr_partial.specs.Common.{Became, no_hooks, site, top_place, up, whole_tree}
 use Rattle.fr_partial.proofs.HandingLaws.{path_left}
 use Rattle.fr_partial.proofs.StateLaws.{below_start, sound_moved}
 use Rattle.fr_partial.proofs.ending.leave.Goals as goal

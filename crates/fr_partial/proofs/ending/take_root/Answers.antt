@@ -1,7 +1,5 @@
 use Rattle.std.proofs.Common.{◌≡◌, Some, refl, sym, ◌∙◌, ap}
-use Rattle.fr_shape.specs.TokenLaws.{Conserved_same, Room_same}
-use Rattle.fr_shape.specs.Val.{Val}
-use Rattle.fr_shape.specs.View.{view}
+use Rattle.fr_partial.specs.Common.{Conserved_same, Room_same, Val, view}
 use Rattle.fr_partial.proofs.HandingLaws.{not_handed, said_of_it}
 use Rattle.fr_partial.proofs.StateLaws.{open_then}
 use Rattle.fr_partial.proofs.ending.take_root.Goals as goal
@@ -23,8 +21,7 @@ release-requires g c = record {
 
 pub returns-in-Ok-take_value-clause-value : goal.returns-in-Ok-take_value-clause-value
 returns-in-Ok-take_value-clause-value g c =
-    c.in-Ok.ensures.completed.meant
-    ∙ ap (λ (v : Val). Some v)
+    c.in-Ok.ensures.completed.meant ∙ ap (λ (v : Val). Some v)
     (said_of_it c.in-Ok.ensures.completed (λ (v : Val). v ≡ view c.in-Ok-take_value.value) c.in-Ok-take_value.ensures.value)
 
 pub returns-in-Ok-take_value-clause-conserved : goal.returns-in-Ok-take_value-clause-conserved

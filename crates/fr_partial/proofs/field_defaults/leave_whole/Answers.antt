@@ -1,11 +1,7 @@
 use Rattle.std.proofs.Common.{IsOk, refl, sym, subst}
-use Rattle.fr_shape.specs.Val.{Val}
-use Rattle.fr_model.specs.Places.{up}
-use Rattle.fr_model.specs.Tree.{Tree, whole}
-use Rattle.fr_store.specs.Moves.{changed_here, IsOpenAt}
+use Rattle.fr_partial.specs.Common.{IsOpenAt, StoresNothing, Tree, Val, mode_of, top_place, up, whole, whole_tree}
+use Rattle.fr_store.specs.Moves.{changed_here}
 use Rattle.fr_partial.specs.declared.mode.Mode.{Mode}
-use Rattle.fr_partial.specs.Modes.{mode_of}
-use Rattle.fr_partial.specs.Underway.{top_place, whole_tree, StoresNothing}
 use Rattle.fr_partial.proofs.HereLaws.{holds_value, of_unboxed, of_value}
 use Rattle.fr_partial.proofs.KeepLaws.{became_marked, room_here}
 use Rattle.fr_partial.proofs.KeptLaws.{on_ok}
@@ -29,8 +25,7 @@ unreachable-requires c =
 pub returns-in-Ok-clause-left : goal.returns-in-Ok-clause-left
 returns-in-Ok-clause-left c =
     let v : Val = c.requires.holds_value.0 in
-    became_marked c.requires.are_open c.end.ensures.marks
-    (subst
+    became_marked c.requires.are_open c.end.ensures.marks (subst
     (λ (t : Tree). IsOpenAt c.args.plan.now c.end.new.slots c.end.new.self (up (top_place c.args.frames.now)) t)
     (put_again (top_place c.args.frames.now) (whole_tree c.args.frames.now) (whole v) c.requires.holds_value.1)
     (of_value c.requires.are_open.shown v c.requires.holds_value.1
@@ -45,5 +40,4 @@ returns-in-Deferred-clause-left c =
       kept = c.leave.ensures.kept;
       stores = subst (λ (mode : Mode). StoresNothing (mode_of mode) c.leave.new.store) (sym c.in-Deferred.is) tt;
       same = refl;
-    })
-    c.leave.ensures.left
+    }) c.leave.ensures.left

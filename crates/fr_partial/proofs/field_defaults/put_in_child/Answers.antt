@@ -1,17 +1,7 @@
 use Rattle.std.proofs.Common.{◌≡◌, ℕ, false, [], ◌∷◌, ◌++◌, refl, ap, ◌∙◌, subst}
-use Rattle.fr_shape.specs.Look.{def_of, Table}
-use Rattle.fr_shape.specs.Released.{Conserved}
-use Rattle.fr_shape.specs.TokenLaws.{Room_conserved}
-use Rattle.fr_shape.specs.Val.{Val}
-use Rattle.fr_shape.specs.View.{view}
-use Rattle.fr_model.specs.Places.{is_root, Place, up}
-use Rattle.fr_model.specs.Step.{enter_child, put_child}
-use Rattle.fr_model.specs.Tree.{change_at, change_child, Tree, tree_at, whole}
+use Rattle.fr_partial.specs.Common.{Became, Changed, Conserved, Frames, Place, Room_conserved, Table, Tree, Val, Way, change_at, change_child, def_of, held_in, is_root, node_here, put_child, takes_at_end, top_place, top_shape, tree_at, up, view, whole, whole_tree}
+use Rattle.fr_model.specs.Step.{enter_child}
 use Rattle.fr_store.specs.LeaveLaws.{up_append}
-use Rattle.fr_store.specs.Moves.{node_here, takes_at_end}
-use Rattle.fr_partial.specs.declared.moves.Way.{Way}
-use Rattle.fr_partial.specs.declared.work.Frames.{Frames}
-use Rattle.fr_partial.specs.Underway.{held_in, top_place, top_shape, whole_tree, Became, Changed}
 use Rattle.fr_partial.proofs.GoingLaws.{made_here, put_no_item, tree_then, Goes}
 use Rattle.fr_partial.proofs.KeepLaws.{became, became_after, kept_released, kept_through, room_here}
 use Rattle.fr_partial.proofs.KeptLaws.{on_ok}
@@ -89,8 +79,7 @@ leave_whole-requires c =
       not_item =
           ap (λ (p : Place). takes_at_end (tree_at p (whole_tree (now at)))) (ap up set.stands.cursor ∙ up_append place c.args.i)
           ∙ ap (λ (t : Tree). takes_at_end (tree_at place t)) set.stands.built
-          ∙ ap takes_at_end (made_here c.args.frames.now shown (put_child _ c.args.i v))
-          ∙ put_no_item way v;
+          ∙ ap takes_at_end (made_here c.args.frames.now shown (put_child _ c.args.i v)) ∙ put_no_item way v;
       holds_value = (v, tree_then c.enter.new.frames c.in_ok-enter.ensures.entered.stands.open_still (λ old. whole v) (child_set at));
       room = Room_conserved (held_in c.args.frames.now) _ (held_in (now at)) _ (keeps at) c.requires.room;
     }
@@ -98,14 +87,10 @@ leave_whole-requires c =
 pub returns-clause-changed : goal.returns-clause-changed
 returns-clause-changed c =
     let at = (goal.at.returns-clause-changed c).After-set in
-    on_ok c.leave_whole.result
-    (λ left.
-    subst (λ (p : Place). Became c.args.plan.now p
-    (change_at (top_place c.args.frames.now)
+    on_ok c.leave_whole.result (λ left. subst (λ (p : Place). Became c.args.plan.now p (change_at (top_place c.args.frames.now)
     (put_child (def_of c.args.frames.now.table.now (top_shape c.args.frames.now)) c.args.i (view c.args.value))
     (whole_tree c.args.frames.now)) c.args.frames.now c.leave_whole.new.frames)
-    (up_append (top_place c.args.frames.now) c.args.i) (became_after up (λ p t. t) (is_set at) left))
-    c.leave_whole.ensures.left
+    (up_append (top_place c.args.frames.now) c.args.i) (became_after up (λ p t. t) (is_set at) left)) c.leave_whole.ensures.left
 
 pub returns-clause-tokens : goal.returns-clause-tokens
 returns-clause-tokens c =

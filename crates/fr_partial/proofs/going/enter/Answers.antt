@@ -1,18 +1,14 @@
-use Rattle.std.proofs.Common.{◌≡◌, false, refl, ap, sym, ◌∙◌}
-use Rattle.fr_model.specs.Collections.{is_map_form}
-use Rattle.fr_model.specs.Step.{opened_as}
-use Rattle.fr_model.specs.Tree.{Form, base_of_form}
-use Rattle.fr_frame.specs.Heap.{as_form}
-use Rattle.fr_frame.specs.Kids.{child_node}
-use Rattle.fr_store.specs.Moves.{count_here, node_here, TakesMany}
-use Rattle.fr_partial.specs.declared.moves.Way.{Way}
-use Rattle.fr_partial.specs.Underway.{Changed}
+use Rattle.std.proofs.Common.{◌≡◌, false, refl, ap, sym, subst, ◌∙◌}
+use Rattle.fr_partial.specs.Common.{Changed, NodeId, Tracker, Way, as_tracker, base_of_tracker, child_node, is_map_tracker, node_here, opened_as}
+use Rattle.fr_frame.specs.Bodies.{TakesItems}
+use Rattle.fr_store.specs.Moves.{count_here, tree_here, TakesMany}
+use Rattle.fr_partial.proofs.ChildLaws.{child_there, object_node, tracker_has, tracker_is, tracker_there}
 use Rattle.fr_partial.proofs.BelowLaws.{around_base, around_map}
 use Rattle.fr_partial.proofs.GoingLaws.{has_then, is_object, is_planned, keys_are_apart, keys_are_counted, may_go, node_after, node_is, none_then, of_opening, opened_has, opens, went, went_after, went_entry, Goes}
 use Rattle.fr_partial.proofs.KeepLaws.{are_open, became, became_marked}
 use Rattle.fr_partial.proofs.KeptLaws.{has_content, may_have_one, on_ok, whole_some}
-use Rattle.fr_partial.proofs.ListLaws.{has_count, has_form}
-use Rattle.fr_partial.proofs.MapLaws.{has_last, has_map, map_form, value_lacks}
+use Rattle.fr_partial.proofs.ListLaws.{has_count, has_tracker}
+use Rattle.fr_partial.proofs.MapLaws.{has_last, has_map, map_tracker, value_lacks}
 use Rattle.fr_partial.proofs.StateLaws.{open_then}
 use Rattle.fr_partial.proofs.going.enter.Goals as goal
 use Rattle.fr_partial.proofs.going.enter.Goals.{After-node_here-above, In_ok-begin-in-Child}
@@ -38,10 +34,10 @@ begin-requires c =
       is_open = c.requires.at_work.ready.shown;
       may_open = opens way;
       many = of_opening way TakesMany tt tt (λ k. tt);
-      base = of_opening way (λ form. base_of_form form ≡ 0) refl refl (λ k. refl);
+      base = of_opening way (λ tracker. base_of_tracker tracker ≡ 0) refl refl (λ k. refl);
     }
 
-begun : (c : In_ok-begin-in-Child) → Changed c.args.plan.now (opened_as (as_form c.in-Child.opening.form) c.in-Child.opening.count)
+begun : (c : In_ok-begin-in-Child) → Changed c.args.plan.now (opened_as (as_tracker c.in-Child.opening.tracker) c.in-Child.opening.count)
     c.args.frames.now (record c.args.frames.now { slots = c.begin.new.slots })
 begun c = became_marked (are_open c.requires.at_work) c.begin.ensures.marks c.in_ok-begin-in-Child.ensures.begun
 
@@ -51,75 +47,78 @@ enter-requires c =
     let way = goes at.After-node_here-above c.in-Child.is in
     let now = begun at.In_ok-begin-in-Child in
     let shown = c.requires.at_work.ready.shown in
+    let has = has_then shown _ now _ _ (opened_has way) in
     record {
       is_open = now.stands.open_still;
       kept = now.kept;
-      child = has_then shown _ now _ _ (opened_has way);
-      node = node_after shown _ now (as_form c.in-Child.opening.form) c.in-Child.i (node_is way c.child_node-node.ensures);
+      may = (
+        child_there _ _ _ has,
+        none_then shown _ now _ _ (opened_has way) (of_opening way (λ tracker. is_map_tracker tracker ≡ false) refl refl (λ k. refl)),
+      );
+      node =
+          node_after shown _ now (as_tracker c.in-Child.opening.tracker) c.in-Child.i (node_is way c.child_node-node.ensures)
+          ∙ ap (λ (f : Tracker). child_node c.args.plan.now (node_here c.args.plan.now c.begin.new.slots c.args.frames.now.stack) f c.in-Child.i) (tracker_there _ _ _ has);
       planned = is_planned way c.child_node-node.ensures;
-      map_hole =
-          none_then shown _ now _ _ (opened_has way) (of_opening way (λ form. is_map_form form ≡ false) refl refl (λ k. refl));
     }
 
 pub returns-in_ok-begin-in-Child-clause-entered : goal.returns-in_ok-begin-in-Child-clause-entered
 returns-in_ok-begin-in-Child-clause-entered c =
     let at = goal.at.returns-in_ok-begin-in-Child-clause-entered c in
     let now = begun at.In_ok-begin-in-Child in
-    on_ok c.enter.result
-    (λ done.
-    went (goes at.After-node_here-above c.in-Child.is) c.child_node-node.ensures
+    on_ok c.enter.result (λ done. went (goes at.After-node_here-above c.in-Child.is) c.child_node-node.ensures
     (went_after c.requires.at_work.ready.shown _ now _ _
-    (became (open_then now) c.enter.ensures.kept c.enter.ensures.marks done)))
-    c.enter.ensures.entered
+    (became (open_then now) c.enter.ensures.kept c.enter.ensures.marks done))) c.enter.ensures.entered
 
 -- An item.
 
-pub add_item-requires : goal.add_item-requires
-add_item-requires c =
-    let way = goes (goal.at.add_item-requires c).After-node_here-above c.in-Item.is in
+pub enter-requires-in-Item : goal.enter-requires-in-Item
+enter-requires-in-Item c =
+    let way = goes (goal.at.enter-requires-in-Item c).After-node_here-above c.in-Item.is in
     let may = may_go way in
+    let has = has_tracker _ _ _ may.0 in
+    let there = tracker_is _ _ has in
     record {
       is_open = c.requires.at_work.ready.shown;
-      begun = has_form _ _ _ may.0;
-      grows = may.1;
+      kept = c.requires.at_work.kept;
+      may = (tracker_has _ _ has, subst TakesItems there may.1);
       node =
           node_is way c.child_node-node-in-Item.ensures
-          ∙ ap (child_node c.args.plan.now _ (as_form c.in-Item.opening.form)) (sym (has_count _ _ _ may.0));
+          ∙ ap (child_node c.args.plan.now _ (as_tracker c.in-Item.opening.tracker)) (sym (has_count _ _ _ may.0))
+          ∙ ap (λ (f : Tracker). child_node c.args.plan.now (node_here c.args.plan.now c.args.frames.now.slots c.args.frames.now.stack) f (count_here c.args.frames.now.slots c.args.frames.now.stack)) there;
       planned = is_planned way c.child_node-node-in-Item.ensures;
     }
 
 pub returns-in-Item-clause-entered : goal.returns-in-Item-clause-entered
 returns-in-Item-clause-entered c =
-    on_ok c.add_item.result
-    (λ done.
+    on_ok c.enter-in-Item.result (λ done.
     went (goes (goal.at.returns-in-Item-clause-entered c).After-node_here-above c.in-Item.is) c.child_node-node-in-Item.ensures
-    (became_marked (are_open c.requires.at_work) c.add_item.ensures.marks done))
-    c.add_item.ensures.entered
+    (became (are_open c.requires.at_work) c.enter-in-Item.ensures.kept c.enter-in-Item.ensures.marks done))
+    c.enter-in-Item.ensures.entered
 
 -- A key.
 
-pub add_key-requires : goal.add_key-requires
-add_key-requires c =
-    let way = goes (goal.at.add_key-requires c).After-node_here-above c.in-Key.is in
+pub enter-requires-in-Key : goal.enter-requires-in-Key
+enter-requires-in-Key c =
+    let way = goes (goal.at.enter-requires-in-Key c).After-node_here-above c.in-Key.is in
     let may = may_go way in
     record {
       is_open = c.requires.at_work.ready.shown;
-      begun = has_map _ _ _ may.0 may.1;
+      kept = c.requires.at_work.kept;
+      may = has_map _ _ _ may.0 may.1;
       node =
           node_is way c.child_node-node-in-Key.ensures
-          ∙ ap (child_node c.args.plan.now _ (as_form c.in-Key.opening.form)) (sym (has_count _ _ _ may.0))
-          ∙ ap (λ (f : Form). child_node c.args.plan.now (node_here c.args.plan.now c.args.frames.now.slots c.args.frames.now.stack) f
-          (count_here c.args.frames.now.slots c.args.frames.now.stack)) (map_form (as_form c.in-Key.opening.form) may.1).1;
+          ∙ ap (child_node c.args.plan.now _ (as_tracker c.in-Key.opening.tracker)) (sym (has_count _ _ _ may.0))
+          ∙ ap (λ (f : Tracker). child_node c.args.plan.now (node_here c.args.plan.now c.args.frames.now.slots c.args.frames.now.stack) f (count_here c.args.frames.now.slots c.args.frames.now.stack))
+          (tracker_is _ _ (has_tracker _ _ _ may.0));
       planned = is_planned way c.child_node-node-in-Key.ensures;
     }
 
 pub returns-in-Key-clause-entered : goal.returns-in-Key-clause-entered
 returns-in-Key-clause-entered c =
-    on_ok c.add_key.result
-    (λ done.
+    on_ok c.enter-in-Key.result (λ done.
     went (goes (goal.at.returns-in-Key-clause-entered c).After-node_here-above c.in-Key.is) c.child_node-node-in-Key.ensures
-    (became_marked (are_open c.requires.at_work) c.add_key.ensures.marks done))
-    c.add_key.ensures.entered
+    (became (are_open c.requires.at_work) c.enter-in-Key.ensures.kept c.enter-in-Key.ensures.marks done))
+    c.enter-in-Key.ensures.entered
 
 -- A value.
 
@@ -127,45 +126,43 @@ pub enter-requires-in-Value : goal.enter-requires-in-Value
 enter-requires-in-Value c =
     let way = goes (goal.at.enter-requires-in-Value c).After-node_here-above c.in-Value.is in
     let may = may_go way in
+    let has = has_last _ _ _ may.0 in
     record {
       is_open = c.requires.at_work.ready.shown;
       kept = c.requires.at_work.kept;
-      child = has_last _ _ _ may.0;
-      node = node_is way c.child_node-node-in-Value.ensures;
+      may = (child_there _ _ _ has, λ of_map. value_lacks _ _ _ may.0 may.2);
+      node =
+          node_is way c.child_node-node-in-Value.ensures
+          ∙ ap (λ (f : Tracker). child_node c.args.plan.now (node_here c.args.plan.now c.args.frames.now.slots c.args.frames.now.stack) f c.in-Value.opening.count) (tracker_there _ _ _ has);
       planned = is_planned way c.child_node-node-in-Value.ensures;
-      map_hole = λ of_map. value_lacks _ _ _ may.0 may.2;
     }
 
 pub returns-in-Value-clause-entered : goal.returns-in-Value-clause-entered
 returns-in-Value-clause-entered c =
-    on_ok c.enter-in-Value.result
-    (λ done.
-    went (goes (goal.at.returns-in-Value-clause-entered c).After-node_here-above c.in-Value.is)
-    c.child_node-node-in-Value.ensures
+    on_ok c.enter-in-Value.result (λ done.
+    went (goes (goal.at.returns-in-Value-clause-entered c).After-node_here-above c.in-Value.is) c.child_node-node-in-Value.ensures
     (became (are_open c.requires.at_work) c.enter-in-Value.ensures.kept c.enter-in-Value.ensures.marks done))
     c.enter-in-Value.ensures.entered
 
 -- An entry.
 
-pub enter_entry-requires : goal.enter_entry-requires
-enter_entry-requires c =
-    let way = goes (goal.at.enter_entry-requires c).After-node_here-above c.in-Entry.is in
+pub enter-requires-in-Entry : goal.enter-requires-in-Entry
+enter-requires-in-Entry c =
+    let way = goes (goal.at.enter-requires-in-Entry c).After-node_here-above c.in-Entry.is in
     record {
       is_open = c.requires.at_work.ready.shown;
-      begun = is_object way;
-      apart = keys_are_apart way;
-      counted = keys_are_counted way;
-      node = c.node_here-above.ensures;
+      kept = c.requires.at_work.kept;
+      may = (is_object way, keys_are_apart way, keys_are_counted way);
+      node = c.node_here-above.ensures ∙ object_node c.args.plan.now _ _ _ (is_object way);
       planned = is_planned way refl;
     }
 
 pub returns-in-Entry-clause-entered : goal.returns-in-Entry-clause-entered
 returns-in-Entry-clause-entered c =
-    on_ok c.enter_entry.result
-    (λ done.
+    on_ok c.enter-in-Entry.result (λ done.
     went_entry (goes (goal.at.returns-in-Entry-clause-entered c).After-node_here-above c.in-Entry.is)
-    (became_marked (are_open c.requires.at_work) c.enter_entry.ensures.marks done))
-    c.enter_entry.ensures.entered
+    (became (are_open c.requires.at_work) c.enter-in-Entry.ensures.kept c.enter-in-Entry.ensures.marks done))
+    c.enter-in-Entry.ensures.entered
 
 -- A content.
 
@@ -186,22 +183,22 @@ enter-requires-in-Content c =
     let may = may_go way in
     let now = c.in_ok-begin_so-in-Content.ensures.changed in
     let shown = c.requires.at_work.ready.shown in
+    let has = has_then shown _ now _ _ (has_content _ _ _ may.2) in
     record {
       is_open = now.stands.open_still;
       kept = now.kept;
-      child = has_then shown _ now _ _ (has_content _ _ _ may.2);
-      node = node_after shown _ now (as_form c.in-Content.form) 0 (node_is way c.child_node-node-in-Content.ensures);
+      may = (child_there _ _ _ has, none_then shown _ now _ _ (has_content _ _ _ may.2) (around_map _ may.0));
+      node =
+          node_after shown _ now (as_tracker c.in-Content.tracker) 0 (node_is way c.child_node-node-in-Content.ensures)
+          ∙ ap (λ (f : Tracker). child_node c.args.plan.now (node_here c.args.plan.now c.begin_so.new.frames.slots c.begin_so.new.frames.stack) f 0) (tracker_there _ _ _ has);
       planned = is_planned way c.child_node-node-in-Content.ensures;
-      map_hole = none_then shown _ now _ _ (has_content _ _ _ may.2) (around_map _ may.0);
     }
 
 pub returns-in_ok-begin_so-in-Content-clause-entered : goal.returns-in_ok-begin_so-in-Content-clause-entered
 returns-in_ok-begin_so-in-Content-clause-entered c =
     let now = c.in_ok-begin_so-in-Content.ensures.changed in
-    on_ok c.enter-in-Content.result
-    (λ done.
+    on_ok c.enter-in-Content.result (λ done.
     went (goes (goal.at.returns-in_ok-begin_so-in-Content-clause-entered c).After-node_here-above c.in-Content.is)
-    c.child_node-node-in-Content.ensures
-    (went_after c.requires.at_work.ready.shown _ now _ _
+    c.child_node-node-in-Content.ensures (went_after c.requires.at_work.ready.shown _ now _ _
     (became (open_then now) c.enter-in-Content.ensures.kept c.enter-in-Content.ensures.marks done)))
     c.enter-in-Content.ensures.entered

@@ -1,5 +1,5 @@
 use Rattle.std.proofs.Common.{ap}
-use Rattle.fr_frame.specs.Heap.{Node}
+use Rattle.fr_partial.specs.Common.{Node}
 use Rattle.fr_partial.proofs.PlaceLaws.{none_found, found_is}
 use Rattle.fr_partial.proofs.going.node_here.Goals as goal
 

@@ -7,17 +7,13 @@ use Rattle.fr_partial.proofs.maps.lacks_last.Goals as goal
 pub returns-in-None-None : goal.returns-in-None-None
 returns-in-None-None c =
     let ends = ends_so c.args.children.now c.len-count.result c.len-count.ensures.count c.if-count-eq0.false in
-    sym
-    (ends.2
-    ∙ absent_cell ends.0 (sym (c.in-None-None.ensures.value ∙ ap (option_and_then value_of_cell) ends.1))
+    sym (ends.2 ∙ absent_cell ends.0 (sym (c.in-None-None.ensures.value ∙ ap (option_and_then value_of_cell) ends.1))
     (sym (c.in-None-None.ensures'.slot ∙ ap (option_and_then slot_of_cell) ends.1)))
 
 pub returns-in-Some-default : goal.returns-in-Some-default
 returns-in-Some-default c =
     let ends = ends_so c.args.children.now c.len-count.result c.len-count.ensures.count c.if-count-eq0.false in
-    sym
-    (ends.2
-    ∙ placed_cell ends.0 _ (sym (c.in-Some-default.ensures.slot ∙ ap (option_and_then slot_of_cell) ends.1)))
+    sym (ends.2 ∙ placed_cell ends.0 _ (sym (c.in-Some-default.ensures.slot ∙ ap (option_and_then slot_of_cell) ends.1)))
 
 pub returns-in-Some-default-2 : goal.returns-in-Some-default-2
 returns-in-Some-default-2 c =

@@ -1,9 +1,5 @@
 use Rattle.std.proofs.Common.{◌≡◌, is_some, sym, ◌∙◌}
-use Rattle.fr_model.specs.Contents.{kept_slice, slice_anew}
-use Rattle.fr_model.specs.Tree.{as_slice}
-use Rattle.fr_store.specs.Moves.{begun_as}
-use Rattle.fr_partial.specs.Modes.{mode_of}
-use Rattle.fr_partial.specs.Underway.{top_tree}
+use Rattle.fr_partial.specs.Common.{ItemsKind, as_items, begun_as, kept_slice, mode_of, slice_anew, top_tree}
 use Rattle.fr_partial.proofs.KeepLaws.{are_open, became_marked, changed_as}
 use Rattle.fr_partial.proofs.KeptLaws.{on_ok}
 use Rattle.fr_partial.proofs.LookLaws.{slice_alike}
@@ -24,15 +20,12 @@ reform-requires-clause-slice c =
 
 pub returns-then-kept-clause-changed : goal.returns-then-kept-clause-changed
 returns-then-kept-clause-changed c =
-    changed_as (begun_as as_slice) _
+    changed_as (begun_as (as_items ItemsKind.Slice)) _
     (slice_kept _ _ (kept_is (goal.at.returns-then-kept-clause-changed c).After-keeps_items-kept ∙ c.if-kept.true))
     (became_marked (are_open c.requires.at_work) c.reform.ensures.marks c.reform.ensures.reformed)
 
 pub returns-else-kept-clause-changed : goal.returns-else-kept-clause-changed
 returns-else-kept-clause-changed c =
-    on_ok c.begin_so.result
-    (λ done.
-    changed_as (λ old. slice_anew) _
-    (starts_anew _ _ (kept_is (goal.at.returns-else-kept-clause-changed c).After-keeps_items-kept ∙ c.if-kept.false))
-    done)
+    on_ok c.begin_so.result (λ done. changed_as (λ old. slice_anew) _
+    (starts_anew _ _ (kept_is (goal.at.returns-else-kept-clause-changed c).After-keeps_items-kept ∙ c.if-kept.false)) done)
     c.begin_so.ensures.changed

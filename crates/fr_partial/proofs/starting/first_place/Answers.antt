@@ -1,12 +1,6 @@
 use Rattle.std.proofs.Common.{ℕ, List, ◌∷◌, ◌++◌, [], ap, ◌∙◌, subst}
-use Rattle.fr_shape.specs.Look.{def_of}
-use Rattle.fr_model.specs.Tree.{fresh}
-use Rattle.fr_plan.specs.declared.nodes.NodeId.{NodeId}
-use Rattle.fr_frame.specs.declared.places.FrameOwner.{FrameOwner}
-use Rattle.fr_frame.specs.Changes.{Shows}
-use Rattle.fr_frame.specs.Completing.{shape_of}
-use Rattle.fr_frame.specs.Heap.{heap_of, with_entered}
-use Rattle.fr_store.specs.Moves.{IsOpenAt}
+use Rattle.fr_partial.specs.Common.{FrameOwner, IsOpenAt, NodeId, Shows, def_of, fresh, heap_of, shape_of}
+use Rattle.fr_frame.specs.Heap.{with_entered}
 use Rattle.fr_partial.proofs.FinishLaws.{root_is}
 use Rattle.fr_partial.proofs.FirstLaws.{first_open, first_unstored}
 use Rattle.fr_partial.proofs.starting.first_place.Goals as goal
@@ -15,14 +9,12 @@ pub returns : goal.returns
 returns c =
     let shows = subst
     (λ (node : NodeId). Shows c.enter.new.self (with_entered (def_of c.args.table.now (shape_of c.args.plan.now node)) (heap_of c.new-slots.result)
-    node FrameOwner.Root c.in_ok-top.top.0))
-    c.root_id.ensures.root c.in_ok-top.ensures.entered in
+    node FrameOwner.Root c.in_ok-top.top.0)) c.root_id.ensures.root c.in_ok-top.ensures.entered in
     record {
       «open» =
           subst (λ (s : ℕ). IsOpenAt c.args.plan.now c.enter.new.self c.push.new.self [] (fresh (def_of c.args.table.now s)))
           (root_is c.law_plan_lookups.ensures.paths c.requires.checked c.requires.inside c.requires.planned)
           (first_open c.args.plan.now _ c.new-slots.result c.enter.new.self _ c.new-slots.ensures.free shows c.in_ok-top.ensures.limit
-          (c.in_ok-push.ensures.appended
-          ∙ ap (λ (above : List ℕ). above ++ c.in_ok-top.top.0 ∷ []) c.new-stack.ensures.empty));
+          (c.in_ok-push.ensures.appended ∙ ap (λ (above : List ℕ). above ++ c.in_ok-top.top.0 ∷ []) c.new-stack.ensures.empty));
       nothing = first_unstored c.args.plan.now _ c.new-slots.result c.enter.new.self _ c.new-slots.ensures.free shows;
     }

@@ -1,11 +1,6 @@
 use Rattle.std.proofs.Common.{◌≡◌, false, true, refl, sym, ap}
-use Rattle.fr_shape.specs.Released.{Room}
+use Rattle.fr_partial.specs.Common.{Change, Room, carried_by, held_in, top_tree, view, whole}
 use Rattle.fr_shape.specs.TokenLaws.{Room_left}
-use Rattle.fr_shape.specs.View.{view}
-use Rattle.fr_model.specs.Tree.{whole}
-use Rattle.fr_partial.specs.declared.moves.Change.{Change}
-use Rattle.fr_partial.specs.Moving.{carried_by}
-use Rattle.fr_partial.specs.Underway.{held_in, top_tree}
 use Rattle.fr_partial.proofs.KeepLaws.{are_open, became, kept_changed, kept_same, room_here}
 use Rattle.fr_partial.proofs.KeptLaws.{on_ok}
 use Rattle.fr_partial.proofs.StayingLaws.{as_told, may_be, needs_none_so, none_carried}
@@ -17,14 +12,12 @@ room : (c : Start) → Room (held_in c.args.frames.now) c.args.ledger.now
 room c = Room_left (held_in c.args.frames.now) (carried_by c.args.change) c.args.ledger.now c.requires.room
 
 pub set-requires-clause-room : goal.set-requires-clause-room
-set-requires-clause-room c =
-    room_here _ _ _ _ c.requires.at_work.ready.shown (room (goal.at.set-requires-clause-room c).Start)
+set-requires-clause-room c = room_here _ _ _ _ c.requires.at_work.ready.shown (room (goal.at.set-requires-clause-room c).Start)
 
 pub returns-in-Put : goal.returns-in-Put
 returns-in-Put c = record {
   changed =
-      as_told c.in-Put.is
-      (became (are_open c.requires.at_work) c.set.ensures.kept c.set.ensures.marks c.set.ensures.set);
+      as_told c.in-Put.is (became (are_open c.requires.at_work) c.set.ensures.kept c.set.ensures.marks c.set.ensures.set);
   memory = λ none. refl;
   tokens =
       kept_changed c.requires.at_work.ready.shown (λ old. whole (view c.in-Put.value)) c.set.ensures.set c.set.ensures.released

@@ -1,11 +1,8 @@
 use Rattle.std.proofs.Common.{◌≡◌, ℕ, Option, sym, ap, ◌∙◌, subst}
 use Rattle.fr_shape.specs.declared.error.AllocError.{AllocError}
-use Rattle.fr_shape.specs.declared.shape.ShapeId.{ShapeId}
-use Rattle.fr_shape.specs.Look.{IsIn}
-use Rattle.fr_model.specs.Run.{unsized_refusal}
+use Rattle.fr_partial.specs.Common.{IsIn, IsPlanFrom, IsPlanOf, ShapeId, unsized_refusal}
 use Rattle.fr_model.specs.Tree.{initial}
-use Rattle.fr_plan.specs.TypePlan.{IsPlanOf}
-use Rattle.fr_partial.specs.Starting.{IsPlanFrom, RefusedWith}
+use Rattle.fr_partial.specs.Starting.{RefusedWith}
 use Rattle.fr_partial.proofs.StartLaws.{if_ok, root_shape, only_unsized}
 use Rattle.fr_partial.proofs.partial.Partial.alloc_with_plan.Goals as goal
 use Rattle.fr_partial.proofs.partial.Partial.alloc_with_plan.Goals.{After-root}
@@ -34,21 +31,16 @@ start-requires-clause-plan g c =
 
 pub returns-clause-root : goal.returns-clause-root
 returns-clause-root g c =
-    if_ok c.start.result
-    (λ p at from. at ∙ number_is g (goal.at.returns-clause-root g c).After-root from) c.start.ensures.root
+    if_ok c.start.result (λ p at from. at ∙ number_is g (goal.at.returns-clause-root g c).After-root from) c.start.ensures.root
 
 pub returns-clause-state : goal.returns-clause-state
 returns-clause-state g c =
-    if_ok c.start.result
-    (λ p begun from.
-    begun
+    if_ok c.start.result (λ p begun from. begun
     ∙ ap (λ (s : ℕ). initial c.args.table.now s) (number_is g (goal.at.returns-clause-state g c).After-root from))
     c.start.ensures.state
 
 pub returns-clause-refused : goal.returns-clause-refused
 returns-clause-refused g c from =
     subst (λ (refusal : Option AllocError). RefusedWith refusal c.start.result)
-    (ap (λ (s : ℕ). unsized_refusal c.args.table.now s)
-    (number_is g (goal.at.returns-clause-refused g c).After-root from)
-    ∙ sym (only_unsized c.law_first_refusal.ensures.first c.args.table.now c.args.plan.now from))
-    c.start.ensures.refused
+    (ap (λ (s : ℕ). unsized_refusal c.args.table.now s) (number_is g (goal.at.returns-clause-refused g c).After-root from)
+    ∙ sym (only_unsized c.law_first_refusal.ensures.first c.args.table.now c.args.plan.now from)) c.start.ensures.refused

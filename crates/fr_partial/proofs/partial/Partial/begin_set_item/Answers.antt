@@ -1,5 +1,5 @@
 use Rattle.std.proofs.Common.{refl}
-use Rattle.fr_model.specs.Commands.{Call}
+use Rattle.fr_partial.specs.Common.{Call}
 use Rattle.fr_partial.proofs.CallLaws.{called, meant_of}
 use Rattle.fr_partial.proofs.partial.Partial.begin_set_item.Goals as goal
 

@@ -1,6 +1,5 @@
 use Rattle.std.proofs.Common.{sym, subst}
-use Rattle.fr_shape.specs.Released.{Room}
-use Rattle.fr_partial.specs.Builder.{Builder, holds}
+use Rattle.fr_partial.specs.Common.{Builder, Room, holds}
 use Rattle.fr_partial.proofs.partial.Partial.build.Goals as goal
 
 pub refuse-requires : goal.refuse-requires

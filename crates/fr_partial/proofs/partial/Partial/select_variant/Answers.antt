@@ -1,7 +1,6 @@
 use Rattle.std.proofs.Common.{ℤ, w64, refl, subst}
 use Rattle.std.proofs.lemmas.Int.{to_z-of_z}
-use Rattle.fr_model.specs.Commands.{Call}
-use Rattle.fr_partial.specs.Moving.{Decides}
+use Rattle.fr_partial.specs.Common.{Call, Decides}
 use Rattle.fr_partial.proofs.CallLaws.{called, meant_of}
 use Rattle.fr_partial.proofs.partial.Partial.select_variant.Given.{Over}
 use Rattle.fr_partial.proofs.partial.Partial.select_variant.Goals as goal

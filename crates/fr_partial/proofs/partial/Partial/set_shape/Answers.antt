@@ -1,4 +1,4 @@
-use Rattle.fr_model.specs.Commands.{Call}
+use Rattle.fr_partial.specs.Common.{Call}
 use Rattle.fr_partial.proofs.CallLaws.{decided_of, meant_of, was_decided}
 use Rattle.fr_partial.proofs.partial.Partial.set_shape.Goals as goal
 

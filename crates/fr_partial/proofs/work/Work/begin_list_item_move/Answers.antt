@@ -1,7 +1,5 @@
 use Rattle.std.proofs.Common.{inl, refl, sym, ◌∙◌}
-use Rattle.fr_model.specs.Commands.{Call}
-use Rattle.fr_frame.specs.Heap.{as_form}
-use Rattle.fr_partial.specs.declared.moves.Way.{Way}
+use Rattle.fr_partial.specs.Common.{Call, Way, as_tracker}
 use Rattle.fr_partial.proofs.DecidingLaws.{cannot, goes_unless}
 use Rattle.fr_partial.proofs.ListLaws.{grows}
 use Rattle.fr_partial.proofs.SeenLaws.{item_seen, items_seen}
@@ -11,7 +9,7 @@ pub returns-in-Ok : goal.returns-in-Ok
 returns-in-Ok c =
     let at = c.place.ensures.seen in
     let may = c.in-Ok.ensures.refused ∙ item_seen at in
-    let has = items_seen at (as_form c.in-Ok.opening.form) c.in-Ok.opening.count c.in-Ok.ensures.items in
+    let has = items_seen at (as_tracker c.in-Ok.opening.tracker) c.in-Ok.opening.count c.in-Ok.ensures.items in
     goes_unless c.args.self.now Call.BeginListItem (Way.Item c.in-Ok.opening) refl (λ hooks. refl) may
     (has, grows _ _ _ _ has (sym may), inl (sym may))
 

@@ -1,6 +1,5 @@
 use Rattle.std.proofs.Common.{refl, sym, ◌∙◌}
-use Rattle.fr_model.specs.Commands.{Call}
-use Rattle.fr_partial.specs.declared.moves.Way.{Way}
+use Rattle.fr_partial.specs.Common.{Call, Way}
 use Rattle.fr_partial.proofs.BeginLaws.{describes_here}
 use Rattle.fr_partial.proofs.DecidingLaws.{cannot, goes_unless}
 use Rattle.fr_partial.proofs.SeenLaws.{refusal_seen}

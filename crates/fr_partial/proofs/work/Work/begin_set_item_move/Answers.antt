@@ -1,7 +1,5 @@
 use Rattle.std.proofs.Common.{inr, refl, sym, ◌∙◌}
-use Rattle.fr_model.specs.Commands.{Call}
-use Rattle.fr_frame.specs.Heap.{as_form}
-use Rattle.fr_partial.specs.declared.moves.Way.{Way}
+use Rattle.fr_partial.specs.Common.{Call, Way, as_tracker}
 use Rattle.fr_partial.proofs.DecidingLaws.{cannot, goes_unless}
 use Rattle.fr_partial.proofs.SeenLaws.{items_seen, set_item_seen}
 use Rattle.fr_partial.proofs.work.Work.begin_set_item_move.Goals as goal
@@ -11,7 +9,7 @@ returns-in-Ok c =
     let at = c.place.ensures.seen in
     let may = c.in-Ok.ensures.refused ∙ set_item_seen at in
     goes_unless c.args.self.now Call.BeginSetItem (Way.Item c.in-Ok.opening) refl (λ hooks. refl) may
-    (items_seen at (as_form c.in-Ok.opening.form) c.in-Ok.opening.count c.in-Ok.ensures.items, c.in-Ok.ensures.grows, inr (sym may))
+    (items_seen at (as_tracker c.in-Ok.opening.tracker) c.in-Ok.opening.count c.in-Ok.ensures.items, c.in-Ok.ensures.grows, inr (sym may))
 
 pub returns-in-Err : goal.returns-in-Err
 returns-in-Err c =

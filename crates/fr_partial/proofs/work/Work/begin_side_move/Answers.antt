@@ -1,13 +1,6 @@
 use Rattle.std.proofs.Common.{◌≡◌, true, false, refl, sym, ap, ◌∙◌}
-use Rattle.fr_shape.specs.declared.error.Expected.{Expected}
-use Rattle.fr_shape.specs.Look.{def_of}
-use Rattle.fr_model.specs.Contents.{is_result}
+use Rattle.fr_partial.specs.Common.{Expected, as_tracker, beginning_in, cursor_tree, def_of, is_result, mode_of, shape_at, side_call}
 use Rattle.fr_model.specs.Step.{content_kept}
-use Rattle.fr_model.specs.Tree.{cursor_tree}
-use Rattle.fr_frame.specs.Heap.{as_form}
-use Rattle.fr_partial.specs.Beginnings.{beginning_in, side_call}
-use Rattle.fr_partial.specs.Modes.{mode_of}
-use Rattle.fr_partial.specs.Sites.{shape_at}
 use Rattle.fr_partial.proofs.ContentLaws.{content_goes, full_here, in_wanted, side_around, side_brings, side_called, side_full}
 use Rattle.fr_partial.proofs.DecidingLaws.{is_not}
 use Rattle.fr_partial.proofs.KeptLaws.{kept_in_is, may_begin_in}
@@ -17,7 +10,7 @@ use Rattle.fr_partial.proofs.work.Work.begin_side_move.Goals as goal
 pub returns : goal.returns
 returns c =
     let site = c.args.self.now in
-    let side = as_form c.args.side in
+    let side = as_tracker c.args.side in
     let at = c.place.ensures.seen in
     let def = def_of site.shapes (shape_at site) in
     let result : is_result def ≡ true = ap is_result (sym (def_seen at)) ∙ sym c.is_result.ensures ∙ c.if-not-is_result.false in
@@ -26,14 +19,13 @@ returns c =
     (side_full def side c.requires result)
     (in_wanted at (mode_of c.mode.result) c.beginning_in-beginning.result c.mode.ensures.mode side c.beginning_in-beginning.ensures)
     (may_begin_in site.state.mode side (side_around side c.requires) def (cursor_tree site.state)
-    (full_here site c.law_sound.ensures.in_order))
-    (kept_in_is site.state.mode side (cursor_tree site.state))
+    (full_here site c.law_sound.ensures.in_order)) (kept_in_is site.state.mode side (cursor_tree site.state))
     (λ hooks. side_called site hooks side c.requires ∙ rw result refl)
 
 pub returns-then-not-is_result : goal.returns-then-not-is_result
 returns-then-not-is_result c =
     let site = c.args.self.now in
-    let side = as_form c.args.side in
+    let side = as_tracker c.args.side in
     let at = c.place.ensures.seen in
     let other : is_result (def_of site.shapes (shape_at site)) ≡ false
     = ap is_result (sym (def_seen at)) ∙ sym c.is_result.ensures ∙ c.if-not-is_result.true in

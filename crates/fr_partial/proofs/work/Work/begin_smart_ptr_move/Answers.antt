@@ -1,14 +1,8 @@
 use Rattle.std.proofs.Common.{◌≡◌, true, false, None, refl, sym, ◌∙◌}
-use Rattle.fr_shape.specs.Look.{def_of}
-use Rattle.fr_model.specs.Commands.{Call}
-use Rattle.fr_model.specs.Contents.{pointer_refusal, points_to_slice}
+use Rattle.fr_partial.specs.Common.{Call, Change, ContentKind, as_content, beginning_in, cursor_tree, def_of, mode_of, pointer_refusal, points_to_slice, shape_at}
 use Rattle.fr_model.specs.Step.{content_kept}
-use Rattle.fr_model.specs.Tree.{as_pointer, cursor_tree}
-use Rattle.fr_frame.specs.declared.places.Form.{Form}
-use Rattle.fr_partial.specs.Beginnings.{beginning_in}
-use Rattle.fr_partial.specs.declared.moves.Change.{Change}
-use Rattle.fr_partial.specs.Modes.{mode_of}
-use Rattle.fr_partial.specs.Sites.{shape_at}
+use Rattle.fr_frame.specs.declared.places.ContentKind.{ContentKind as Begun}
+use Rattle.fr_frame.specs.declared.places.Tracker.{Tracker}
 use Rattle.fr_partial.proofs.ContentLaws.{content_goes, full_here, in_wanted, pointer_full, pointer_seen, slice_seen}
 use Rattle.fr_partial.proofs.DecidingLaws.{cannot, remains}
 use Rattle.fr_partial.proofs.KeptLaws.{kept_in_is, may_begin_in}
@@ -22,12 +16,12 @@ returns c =
     let may : None ≡ pointer_refusal site.shapes def = c.in_default.ensures ∙ pointer_seen at in
     let behind : points_to_slice site.shapes def ≡ false
     = sym (slice_seen at) ∙ sym c.points_to_slice.ensures ∙ c.if-points_to_slice.false in
-    content_goes site Call.BeginSmartPtr Form.Pointer c.beginning_in-beginning.result
-    (beginning_in site.state.mode as_pointer (cursor_tree site.state)) (content_kept site.state as_pointer) refl refl
+    content_goes site Call.BeginSmartPtr (Tracker.Content Begun.Pointer) c.beginning_in-beginning.result
+    (beginning_in site.state.mode (as_content ContentKind.Pointer) (cursor_tree site.state)) (content_kept site.state (as_content ContentKind.Pointer)) refl refl
     (pointer_full site.shapes def (sym may))
-    (in_wanted at (mode_of c.mode.result) c.beginning_in-beginning.result c.mode.ensures.mode as_pointer c.beginning_in-beginning.ensures)
-    (may_begin_in site.state.mode as_pointer refl def (cursor_tree site.state) (full_here site c.law_sound.ensures.in_order))
-    (kept_in_is site.state.mode as_pointer (cursor_tree site.state)) (λ hooks. rw (← may, behind) refl)
+    (in_wanted at (mode_of c.mode.result) c.beginning_in-beginning.result c.mode.ensures.mode (as_content ContentKind.Pointer) c.beginning_in-beginning.ensures)
+    (may_begin_in site.state.mode (as_content ContentKind.Pointer) refl def (cursor_tree site.state) (full_here site c.law_sound.ensures.in_order))
+    (kept_in_is site.state.mode (as_content ContentKind.Pointer) (cursor_tree site.state)) (λ hooks. rw (← may, behind) refl)
 
 pub returns-then-points_to_slice : goal.returns-then-points_to_slice
 returns-then-points_to_slice c =

@@ -1,15 +1,8 @@
 use Rattle.std.proofs.Common.{◌≡◌, true, false, refl, sym, ap, ◌∙◌}
-use Rattle.fr_shape.specs.declared.error.Expected.{Expected}
-use Rattle.fr_shape.specs.Fills.{is_option}
-use Rattle.fr_shape.specs.Look.{def_of}
-use Rattle.fr_model.specs.Commands.{Call}
-use Rattle.fr_model.specs.Places.{content_shape}
+use Rattle.fr_partial.specs.Common.{Call, ContentKind, Expected, beginning_of_some, content_shape, cursor_tree, def_of, is_option, mode_of, shape_at}
 use Rattle.fr_model.specs.Step.{option_kept}
-use Rattle.fr_model.specs.Tree.{cursor_tree}
-use Rattle.fr_frame.specs.declared.places.Form.{Form}
-use Rattle.fr_partial.specs.Beginnings.{beginning_of_some}
-use Rattle.fr_partial.specs.Modes.{mode_of}
-use Rattle.fr_partial.specs.Sites.{shape_at}
+use Rattle.fr_frame.specs.declared.places.ContentKind.{ContentKind as Begun}
+use Rattle.fr_frame.specs.declared.places.Tracker.{Tracker}
 use Rattle.fr_partial.proofs.ContentLaws.{content_goes, full_here, option_full, some_wanted}
 use Rattle.fr_partial.proofs.DecidingLaws.{is_not}
 use Rattle.fr_partial.proofs.KeptLaws.{kept_some_is, may_begin_some}
@@ -23,7 +16,7 @@ returns c =
     let def = def_of site.shapes (shape_at site) in
     let content = def_of site.shapes (content_shape def) in
     let option : is_option def ≡ true = ap is_option (sym (def_seen at)) ∙ c.in-Some.ensures.some in
-    content_goes site Call.BeginSome Form.Some c.beginning_of_some-beginning.result
+    content_goes site Call.BeginSome (Tracker.Content Begun.Some) c.beginning_of_some-beginning.result
     (beginning_of_some site.state.mode content (cursor_tree site.state)) (option_kept site.shapes (shape_at site) site.state) refl
     refl (option_full def option)
     (some_wanted at (mode_of c.mode.result) c.beginning_of_some-beginning.result c.mode.ensures.mode c.in-Some.content.0

@@ -1,12 +1,6 @@
 use Rattle.std.proofs.Common.{ℕ, suc, refl, sym, ◌∙◌, ap}
-use Rattle.fr_model.specs.Collections.{value_refusal}
-use Rattle.fr_model.specs.Commands.{Call}
+use Rattle.fr_partial.specs.Common.{Call, Way, as_tracker, at_shape, cursor_tree, shape_at, unless_refused, value_refusal}
 use Rattle.fr_model.specs.Entering.{Way as Onward, enters}
-use Rattle.fr_model.specs.Step.{at_shape, unless_refused}
-use Rattle.fr_model.specs.Tree.{cursor_tree}
-use Rattle.fr_frame.specs.Heap.{as_form}
-use Rattle.fr_partial.specs.declared.moves.Way.{Way}
-use Rattle.fr_partial.specs.Sites.{shape_at}
 use Rattle.fr_partial.proofs.DecidingLaws.{cannot, goes_unless}
 use Rattle.fr_partial.proofs.MapLaws.{last_is}
 use Rattle.fr_partial.proofs.SeenLaws.{items_seen, value_seen}
@@ -17,13 +11,11 @@ returns-in-Ok c =
     let at = c.place.ensures.seen in
     let site = c.args.self.now in
     let may = c.in-Ok.ensures.refused ∙ value_seen at _ c.place.ensures.last in
-    let has = items_seen at (as_form c.in-Ok.opening.form) (suc c.in-Ok.opening.count) c.in-Ok.ensures.items in
-    goes_unless site Call.BeginValue (Way.Value c.in-Ok.opening) refl
-    (λ hooks.
-    ap
+    let has = items_seen at (as_tracker c.in-Ok.opening.tracker) (suc c.in-Ok.opening.count) c.in-Ok.ensures.items in
+    goes_unless site Call.BeginValue (Way.Value c.in-Ok.opening) refl (λ hooks. ap
     (λ (n : ℕ). unless_refused (at_shape (shape_at site) (value_refusal (cursor_tree site.state)))
     (enters site.shapes (shape_at site) site.state (Onward.Value n)))
-    (last_is (as_form c.in-Ok.opening.form) c.in-Ok.opening.count (cursor_tree site.state) has))
+    (last_is (as_tracker c.in-Ok.opening.tracker) c.in-Ok.opening.count (cursor_tree site.state) has))
     may (has, c.in-Ok.ensures.map, sym may)
 
 pub returns-in-Err : goal.returns-in-Err

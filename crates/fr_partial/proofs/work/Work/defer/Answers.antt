@@ -1,23 +1,12 @@
 use Rattle.std.proofs.Common.{◌≡◌, refl, ap, ◌∙◌}
-use Rattle.fr_model.specs.Commands.{Call}
-use Rattle.fr_model.specs.Tree.{strict}
-use Rattle.fr_partial.specs.declared.work.Parts.{Parts}
-use Rattle.fr_partial.specs.Sites.{Site}
-use Rattle.fr_partial.specs.Works.{site}
+use Rattle.fr_partial.specs.Common.{Call, Parts, Site, site, strict}
 use Rattle.fr_partial.proofs.work.Work.defer.Goals as goal
 
 pub defer-requires-clause-meant : goal.defer-requires-clause-meant
 defer-requires-clause-meant c =
     let mode : (site c.deref_mut.result.now).state.mode ≡ strict
-    = ap (λ (p : Parts). (site p).state.mode) c.deref_mut.ensures.value
-    ∙ ap (λ (s : Site). s.state.mode) c.self.view_is
+    = ap (λ (p : Parts). (site p).state.mode) c.deref_mut.ensures.value ∙ ap (λ (s : Site). s.state.mode) c.self.view_is
     ∙ c.requires.strict in (
       Call.BeginDeferred,
-      record {
-        fitting = tt;
-        same_tokens = λ t. refl;
-        may = mode;
-        late = λ late. cc;
-        means = λ hooks. rw mode refl;
-      },
+      record { fitting = tt; same_tokens = λ t. refl; may = mode; late = λ late. cc; means = λ hooks. rw mode refl },
     )

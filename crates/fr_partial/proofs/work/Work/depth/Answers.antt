@@ -1,5 +1,5 @@
 use Rattle.std.proofs.Common.{length, ap, arith}
-use Rattle.fr_partial.specs.declared.work.Parts.{Parts}
+use Rattle.fr_partial.specs.Common.{Parts}
 use Rattle.fr_partial.proofs.WorkLaws.{open_count}
 use Rattle.fr_partial.proofs.work.Work.depth.Goals as goal
 

@@ -1,9 +1,6 @@
 use Rattle.std.proofs.Common.{◌≡◌, sym, ◌∙◌}
-use Rattle.fr_shape.specs.declared.shape.Def.{Def}
-use Rattle.fr_shape.specs.Look.{def_of}
-use Rattle.fr_model.specs.Variants.{field_found}
+use Rattle.fr_partial.specs.Common.{Def, def_of, field_found, shape_at}
 use Rattle.fr_plan.specs.Names.{declared_field}
-use Rattle.fr_partial.specs.Sites.{shape_at}
 use Rattle.fr_partial.proofs.BeginLaws.{declared_is}
 use Rattle.fr_partial.proofs.ChoiceLaws.{looked_up}
 use Rattle.fr_partial.proofs.work.Work.field_named.Goals as goal

@@ -1,5 +1,5 @@
 use Rattle.std.proofs.Common.{length, ap, arith}
-use Rattle.fr_partial.specs.declared.work.Parts.{Parts}
+use Rattle.fr_partial.specs.Common.{Parts}
 use Rattle.fr_partial.proofs.WorkLaws.{open_count}
 use Rattle.fr_partial.proofs.work.Work.frame_count.Goals as goal
 

@@ -1,13 +1,12 @@
 use Rattle.std.proofs.Common.{refl, ◌∙◌}
-use Rattle.fr_model.specs.Commands.{Call}
+use Rattle.fr_partial.specs.Common.{Call}
 use Rattle.fr_partial.proofs.DecidingLaws.{cannot}
 use Rattle.fr_partial.proofs.OpeningLaws.{array_begins}
 use Rattle.fr_partial.proofs.SeenLaws.{array_seen}
 use Rattle.fr_partial.proofs.work.Work.init_array_move.Goals as goal
 
 pub returns-in-Ok-clause-decides : goal.returns-in-Ok-clause-decides
-returns-in-Ok-clause-decides c =
-    array_begins c.place.ensures.seen c.in-Ok.count c.in-Ok.ensures.elements c.in-Ok.ensures.refused
+returns-in-Ok-clause-decides c = array_begins c.place.ensures.seen c.in-Ok.count c.in-Ok.ensures.elements c.in-Ok.ensures.refused
 
 pub returns-in-Err-clause-decides : goal.returns-in-Err-clause-decides
 returns-in-Err-clause-decides c =

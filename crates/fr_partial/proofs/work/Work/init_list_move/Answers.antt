@@ -1,5 +1,5 @@
 use Rattle.std.proofs.Common.{refl, ◌∙◌}
-use Rattle.fr_model.specs.Commands.{Call}
+use Rattle.fr_partial.specs.Common.{Call}
 use Rattle.fr_partial.proofs.DecidingLaws.{refused_by}
 use Rattle.fr_partial.proofs.OpeningLaws.{elements_begin, list_begins}
 use Rattle.fr_partial.proofs.SeenLaws.{list_seen}

@@ -1,13 +1,12 @@
 use Rattle.std.proofs.Common.{refl, ◌∙◌}
-use Rattle.fr_model.specs.Commands.{Call}
+use Rattle.fr_partial.specs.Common.{Call}
 use Rattle.fr_partial.proofs.DecidingLaws.{refused_by}
 use Rattle.fr_partial.proofs.OpeningLaws.{set_begins}
 use Rattle.fr_partial.proofs.SeenLaws.{set_seen}
 use Rattle.fr_partial.proofs.work.Work.init_set_move.Goals as goal
 
 pub returns-in-None-clause-decides : goal.returns-in-None-clause-decides
-returns-in-None-clause-decides c =
-    set_begins c.place.ensures.seen c.law_sound.ensures.in_order c.in-None.ensures.refused
+returns-in-None-clause-decides c = set_begins c.place.ensures.seen c.law_sound.ensures.in_order c.in-None.ensures.refused
 
 pub returns-in-Some-clause-decides : goal.returns-in-Some-clause-decides
 returns-in-Some-clause-decides c =

@@ -1,9 +1,5 @@
 use Rattle.std.proofs.Common.{◌≡◌, ℕ, ◌+◌, refl, sym, ◌∙◌, ap}
-use Rattle.fr_shape.specs.TokenLaws.{Conserved_same, Room_conserved, Room_same}
-use Rattle.fr_partial.specs.declared.work.Parts.{Parts}
-use Rattle.fr_partial.specs.Moving.{carried}
-use Rattle.fr_partial.specs.Sites.{held_at}
-use Rattle.fr_partial.specs.Underway.{held_in}
+use Rattle.fr_partial.specs.Common.{Conserved_same, Parts, Room_conserved, Room_same, carried, held_at, held_in}
 use Rattle.fr_partial.proofs.KeepLaws.{kept_through}
 use Rattle.fr_partial.proofs.RemovedLaws.{all_released}
 use Rattle.fr_partial.proofs.WorkLaws.{held_seen}

@@ -1,11 +1,6 @@
 use Rattle.std.proofs.Common.{◌≡◌, false, sym, refl, ◌∙◌, ap, subst}
-use Rattle.fr_model.specs.Collections.{is_set}
-use Rattle.fr_model.specs.DynamicPlaces.{is_begun_dynamic}
-use Rattle.fr_model.specs.Places.{is_root}
+use Rattle.fr_partial.specs.Common.{IsSound, Site, is_begun_dynamic, is_root, is_set, site, top_place}
 use Rattle.fr_model.specs.Step.{is_dynamic_part, is_set_item}
-use Rattle.fr_partial.specs.Sites.{Site}
-use Rattle.fr_partial.specs.Underway.{top_place}
-use Rattle.fr_partial.specs.Works.{site, IsSound}
 use Rattle.fr_partial.proofs.AboveLaws.{dynamic_outlined, never_free, never_root, set_outlined, told}
 use Rattle.fr_partial.proofs.PlaceLaws.{none_found}
 use Rattle.fr_partial.proofs.work.Work.piece_above.Goals as goal
@@ -40,12 +35,12 @@ pub returns-clause-set : goal.returns-clause-set
 returns-clause-set c =
     let at = (goal.at.returns-clause-set c).After-deref in
     told (sound at).at_work.ready.shown c.in-Some.ensures.last c.in-Some-place.place.now c.in-Some-place.ensures.place (below at) c.in-Child.is is_set
-    set_outlined (λ form ts us. refl) c.in-Some-place-2.above.now c.in-Some-place-2.ensures.place
+    set_outlined (λ tracker ts us. refl) c.in-Some-place-2.above.now c.in-Some-place-2.ensures.place
     ∙ ap (λ (s : Site). is_set_item s.state) (seen at)
 
 pub returns-clause-dynamic : goal.returns-clause-dynamic
 returns-clause-dynamic c =
     let at = (goal.at.returns-clause-dynamic c).After-deref in
     told (sound at).at_work.ready.shown c.in-Some.ensures.last c.in-Some-place.place.now c.in-Some-place.ensures.place (below at) c.in-Child.is
-    is_begun_dynamic dynamic_outlined (λ form ts us. refl) c.in-Some-place-2.above.now c.in-Some-place-2.ensures.place
+    is_begun_dynamic dynamic_outlined (λ tracker ts us. refl) c.in-Some-place-2.above.now c.in-Some-place-2.ensures.place
     ∙ ap (λ (s : Site). is_dynamic_part s.state) (seen at)

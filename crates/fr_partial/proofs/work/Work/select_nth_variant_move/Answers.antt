@@ -1,7 +1,5 @@
 use Rattle.std.proofs.Common.{refl, ◌∙◌, ap}
-use Rattle.fr_shape.specs.declared.shape.Def.{Def}
-use Rattle.fr_shape.specs.Look.{variants_of}
-use Rattle.fr_model.specs.Commands.{Call}
+use Rattle.fr_partial.specs.Common.{Call, Def, variants_of}
 use Rattle.fr_model.specs.Variants.{variant_numbered}
 use Rattle.fr_partial.proofs.SeenLaws.{def_seen}
 use Rattle.fr_partial.proofs.work.Work.select_nth_variant_move.Goals as goal

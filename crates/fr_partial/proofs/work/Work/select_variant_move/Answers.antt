@@ -1,9 +1,6 @@
 use Rattle.std.proofs.Common.{ℤ, w64, refl, ◌∙◌, ap}
 use Rattle.std.proofs.lemmas.Int.{to_z-of_z}
-use Rattle.fr_shape.specs.Look.{def_of, variants_of}
-use Rattle.fr_model.specs.Commands.{Call}
-use Rattle.fr_model.specs.Variants.{variant_told_by}
-use Rattle.fr_partial.specs.Sites.{shape_at}
+use Rattle.fr_partial.specs.Common.{Call, def_of, shape_at, variant_told_by, variants_of}
 use Rattle.fr_partial.proofs.work.Work.select_variant_move.Goals as goal
 
 pub returns : goal.returns

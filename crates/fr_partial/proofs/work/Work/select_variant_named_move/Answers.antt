@@ -1,6 +1,5 @@
 use Rattle.std.proofs.Common.{refl}
-use Rattle.fr_model.specs.Commands.{Call}
-use Rattle.fr_model.specs.Variants.{variant_named}
+use Rattle.fr_partial.specs.Common.{Call, variant_named}
 use Rattle.fr_partial.proofs.work.Work.select_variant_named_move.Goals as goal
 
 pub returns : goal.returns

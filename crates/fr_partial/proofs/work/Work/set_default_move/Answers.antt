@@ -16,5 +16,4 @@ returns-in-Ok c =
     c.in-Ok.ensures.copy
 
 pub returns-in-Err : goal.returns-in-Err
-returns-in-Err c =
-    copy_wanted c.place.ensures.seen c.law_sound.ensures.checked c.in-Some.template.now c.in-Some.ensures.template
+returns-in-Err c = copy_wanted c.place.ensures.seen c.law_sound.ensures.checked c.in-Some.template.now c.in-Some.ensures.template

@@ -1,5 +1,4 @@
-use Rattle.fr_frame.specs.Bodies.{own_tree}
-use Rattle.fr_frame.specs.Heap.{body_of}
+use Rattle.fr_partial.specs.Common.{body_of, own_tree}
 use Rattle.fr_partial.proofs.DefaultLaws.{default_admitted, default_empty_here, default_put, default_refused, default_wanted}
 use Rattle.fr_partial.proofs.work.Work.set_nth_field_to_default_move.Goals as goal
 
@@ -13,13 +12,11 @@ opening_at-opening-requires c = record {
 pub copy_template-requires : goal.copy_template-requires
 copy_template-requires c = record {
   no_token =
-      default_empty_here c.place.ensures.seen c.args.idx c.law_sound.ensures.checked c.in-Ok.template.now
-      c.in-Ok.ensures.told;
+      default_empty_here c.place.ensures.seen c.args.idx c.law_sound.ensures.checked c.in-Ok.template.now c.in-Ok.ensures.told;
 }
 
 pub returns-in-Err : goal.returns-in-Err
-returns-in-Err c =
-    default_refused c.place.ensures.seen c.args.idx c.in-Err.kind c.in-Err.ensures.refused
+returns-in-Err c = default_refused c.place.ensures.seen c.args.idx c.in-Err.kind c.in-Err.ensures.refused
 
 pub returns-in-Ok-copy_template : goal.returns-in-Ok-copy_template
 returns-in-Ok-copy_template c =
@@ -29,5 +26,4 @@ returns-in-Ok-copy_template c =
 
 pub returns-in-Err-copy_template : goal.returns-in-Err-copy_template
 returns-in-Err-copy_template c =
-    default_wanted c.place.ensures.seen c.args.idx c.law_sound.ensures.checked c.in-Ok.template.now
-    c.in-Ok.ensures.told
+    default_wanted c.place.ensures.seen c.args.idx c.law_sound.ensures.checked c.in-Ok.template.now c.in-Ok.ensures.told

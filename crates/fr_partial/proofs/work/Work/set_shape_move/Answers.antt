@@ -1,15 +1,5 @@
 use Rattle.std.proofs.Common.{◌≡◌, ℕ, List, true, slice_index, sym, ap, ◌∙◌, subst, arith}
-use Rattle.fr_shape.specs.Fits.{fits}
-use Rattle.fr_shape.specs.Look.{Table, def_of}
-use Rattle.fr_shape.specs.Released.{Room, RoseBy}
-use Rattle.fr_shape.specs.Tokens.{occurs}
-use Rattle.fr_shape.specs.Val.{Val}
-use Rattle.fr_shape.specs.View.{dyn_view, view}
-use Rattle.fr_model.specs.Converting.{converted}
-use Rattle.fr_model.specs.Step.{takes_shape}
-use Rattle.fr_partial.specs.Conversions.{copies_to_convert, IsUnconverted}
-use Rattle.fr_partial.specs.Setting.{converts}
-use Rattle.fr_partial.specs.Sites.{shape_at}
+use Rattle.fr_partial.specs.Common.{IsUnconverted, Room, RoseBy, Table, Val, converted, converts, copies_to_convert, def_of, dyn_view, fits, occurs, shape_at, takes_shape, view}
 use Rattle.fr_partial.proofs.PutLaws.{converted_seen, converts_seen, converts_to, not_taken, only_copies, taken, takes_seen, unconverted}
 use Rattle.fr_partial.proofs.work.Work.set_shape_move.Goals as goal
 use Rattle.fr_partial.proofs.work.Work.set_shape_move.Goals.{After-converts, After-takes_shape, Then-converts}
@@ -17,30 +7,26 @@ use Rattle.fr_partial.proofs.work.Work.set_shape_move.Goals.{After-converts, Aft
 -- whether the place converts a value of that shape
 told : (c : After-converts) → converts c.args.self.now.shapes (shape_at c.args.self.now) c.args.value.shape ≡ c.converts.result
 told c =
-    sym
-    (converts_seen c.place.ensures.seen c.shape-actual.result.0 c.args.value.shape c.shape-actual.ensures.shape)
+    sym (converts_seen c.place.ensures.seen c.shape-actual.result.0 c.args.value.shape c.shape-actual.ensures.shape)
     ∙ sym c.converts.ensures
 
 -- and whether it takes one as it is
 takes : (c : After-takes_shape) → takes_shape c.args.self.now.shapes (shape_at c.args.self.now) c.args.value.shape
     ≡ c.takes_shape.result
 takes c =
-    sym
-    (takes_seen c.place.ensures.seen c.shape-actual.result.0 c.args.value.shape c.shape-actual.ensures.shape)
+    sym (takes_seen c.place.ensures.seen c.shape-actual.result.0 c.args.value.shape c.shape-actual.ensures.shape)
     ∙ sym c.takes_shape.ensures
 
 as_other : (c : Then-converts) → converts c.args.self.now.shapes (shape_at c.args.self.now) c.args.value.shape ≡ true
 as_other c =
-    sym
-    (converts_seen c.place.ensures.seen c.shape-actual.result.0 c.args.value.shape c.shape-actual.ensures.shape)
+    sym (converts_seen c.place.ensures.seen c.shape-actual.result.0 c.args.value.shape c.shape-actual.ensures.shape)
     ∙ sym c.converts.ensures ∙ c.if-converts.true
 
 pub converted-requires-clause-fits : goal.converted-requires-clause-fits
 converted-requires-clause-fits c =
     ap (λ (t : Table). fits t c.shape-actual.result.0 (view c.into_value-plain.result)) c.place.ensures.seen.table_is
     ∙ ap (λ (n : ℕ). fits c.args.self.now.shapes n (view c.into_value-plain.result)) c.shape-actual.ensures.shape
-    ∙ ap (fits c.args.self.now.shapes c.args.value.shape) c.into_value-plain.ensures.value
-    ∙ c.requires.fits
+    ∙ ap (fits c.args.self.now.shapes c.args.value.shape) c.into_value-plain.ensures.value ∙ c.requires.fits
 
 pub converted-requires-clause-room : goal.converted-requires-clause-room
 converted-requires-clause-room c =
@@ -55,17 +41,14 @@ pub returns-in-Ok-clause-decides : goal.returns-in-Ok-clause-decides
 returns-in-Ok-clause-decides c =
     converts_to c.args.self.now c.args.value.shape c.args.value.value
     (as_other (goal.at.returns-in-Ok-clause-decides c).Then-converts) c.dynamic.result (dyn_view c.in-Ok.made)
-    c.dynamic.ensures c.requires.fits
-    (λ t.
+    c.dynamic.ensures c.requires.fits (λ t.
     let same : occurs (view c.into_value-plain.result) t ≡ occurs c.args.value.value t
     = ap (λ (v : Val). occurs v t) c.into_value-plain.ensures.value in
     let stays : slice_index c.converted.new.ledger t ≡ slice_index c.args.ledger.now t
     = ap (λ (ledger : List ℕ). slice_index ledger t) c.in-Ok.ensures.unreleased in
-    omega (arith, same, stays, c.converted.ensures.released.each t))
-    (sym
+    omega (arith, same, stays, c.converted.ensures.released.each t)) (sym
     (converted_seen c.place.ensures.seen c.shape-actual.result.0 c.args.value.shape c.shape-actual.ensures.shape (view c.into_value-plain.result)
-    c.args.value.value c.into_value-plain.ensures.value)
-    ∙ c.in-Ok.ensures.made)
+    c.args.value.value c.into_value-plain.ensures.value) ∙ c.in-Ok.ensures.made)
 
 pub returns-in-Err-clause-decides : goal.returns-in-Err-clause-decides
 returns-in-Err-clause-decides c =
@@ -73,8 +56,7 @@ returns-in-Err-clause-decides c =
     (as_other (goal.at.returns-in-Err-clause-decides c).Then-converts) c.in-Err.kind
     (subst (λ made. IsUnconverted made c.args.value.shape c.in-Err.kind)
     (converted_seen c.place.ensures.seen c.shape-actual.result.0 c.args.value.shape c.shape-actual.ensures.shape (view c.into_value-plain.result)
-    c.args.value.value c.into_value-plain.ensures.value)
-    (subst (λ (n : ℕ). IsUnconverted
+    c.args.value.value c.into_value-plain.ensures.value) (subst (λ (n : ℕ). IsUnconverted
     (converted c.place.result.0.now c.place.result.1.0 (def_of c.place.result.0.now c.shape-actual.result.0)
     (view c.into_value-plain.result)) n c.in-Err.kind) c.shape-actual.ensures.shape c.in-Err.ensures.refused))
 

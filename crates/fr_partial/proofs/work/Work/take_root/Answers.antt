@@ -1,7 +1,5 @@
 use Rattle.std.proofs.Common.{ℕ, sym, refl, ◌∙◌, ap, subst}
-use Rattle.fr_shape.specs.TokenLaws.{Conserved_same, Room_same, RoseBy_same}
-use Rattle.fr_partial.specs.Sites.{Site}
-use Rattle.fr_partial.specs.Works.{site, IsSound}
+use Rattle.fr_partial.specs.Common.{Conserved_same, IsSound, Room_same, RoseBy_same, Site, site}
 use Rattle.fr_partial.proofs.BuildLaws.{built_not, built_so, due_now, fits_so, needed_none, refused_first, IsDue}
 use Rattle.fr_partial.proofs.RemovedLaws.{all_released}
 use Rattle.fr_partial.proofs.WorkLaws.{held_seen}

@@ -1,6 +1,4 @@
-use Rattle.fr_shape.specs.declared.shape.Def.{Def}
-use Rattle.fr_shape.specs.Look.{variants_of}
-use Rattle.fr_model.specs.Variants.{variant_named}
+use Rattle.fr_partial.specs.Common.{Def, variant_named, variants_of}
 use Rattle.fr_partial.proofs.ChoiceLaws.{looked_up}
 use Rattle.fr_partial.proofs.work.Work.variant_named.Goals as goal
 
