@@ -17,7 +17,8 @@ use Rattle.fr_shape.specs.Val.{Val, Vals, product, no_vals}
 use Rattle.fr_model.specs.Complete.{missing_field, missing_value, unless_there, failing_field, failing_child, unless_failing, first_failing, valid_child, complete, complete_all, lack_among, lack_of_holes, lack_by, made, made_by}
 use Rattle.fr_model.specs.Places.{strict_column, child_count, one_more, product_of, each_child, fill_at}
 use Rattle.fr_model.specs.Step.{or_missing, cause, build, built}
-use Rattle.fr_model.specs.Tree.{as_struct, Tree, entered, whole, branch}
+use Rattle.fr_model.specs.Trackers.{as_fields}
+use Rattle.fr_model.specs.Tree.{Tree, entered, whole, branch}
 use Rattle.fr_example.specs.declared.record.Pair.{Pair}
 use Rattle.fr_example.specs.Meant.{last_given, value_of_field, one_more_field, fields_from, product_of_fields, of_fields, preset_or, unrefused}
 use Rattle.fr_example.proofs.Putting.{tree_of, filling}
@@ -73,7 +74,7 @@ no_validators (f ∷ fields) (suc i) field served there =
     no_validators fields i field (both_true (serves_field f) (list_all serves_field fields) served).1 there
 
 none_fails : (table : Table) (root : ℕ) (struct : StructDef) (i : ℕ) (value : Option Val) → IsServed table
-    → def_of table root ≡ Def.Struct struct → failing_child no_hooks table root as_struct i value ≡ None
+    → def_of table root ≡ Def.Struct struct → failing_child no_hooks table root (as_fields None) i value ≡ None
 none_fails table root struct i value served is = go (field_in (def_of table root) None i) (rw is refl) value
   where
     go : (found : Option Field) → slice_get struct.fields i ≡ found → (value : Option Val)
@@ -104,14 +105,14 @@ one_child None failing missing values lacking rest none told = (rw none refl, re
 -- the fields of a struct of which nothing was put
 fills_tell : (table : Table) (root : ℕ) (struct : StructDef) (count i : ℕ) → IsServed table
     → def_of table root ≡ Def.Struct struct
-    → Tells (each_child (λ k. valid_child no_hooks table root as_struct k (fill_at strict_column table root k)) count i)
-    (lack_of_holes no_hooks table root as_struct count i) (fields_from root (value_of_field table root []) count i)
+    → Tells (each_child (λ k. valid_child no_hooks table root (as_fields None) k (fill_at strict_column table root k)) count i)
+    (lack_of_holes no_hooks table root (as_fields None) count i) (fields_from root (value_of_field table root []) count i)
 fills_tell table root struct zero i served is = refl
 fills_tell table root struct (suc count) i served is =
-    one_child (fill_at strict_column table root i) (failing_child no_hooks table root as_struct i (fill_at strict_column table root i))
+    one_child (fill_at strict_column table root i) (failing_child no_hooks table root (as_fields None) i (fill_at strict_column table root i))
     (missing_field root None i)
-    (each_child (λ k. valid_child no_hooks table root as_struct k (fill_at strict_column table root k)) count (suc i))
-    (lack_of_holes no_hooks table root as_struct count (suc i))
+    (each_child (λ k. valid_child no_hooks table root (as_fields None) k (fill_at strict_column table root k)) count (suc i))
+    (lack_of_holes no_hooks table root (as_fields None) count (suc i))
     (fields_from root (value_of_field table root []) count (suc i))
     (none_fails table root struct i (fill_at strict_column table root i) served is)
     (fills_tell table root struct count (suc i) served is)
@@ -119,33 +120,33 @@ fills_tell table root struct (suc count) i served is =
 -- the fields of a struct of which some were put
 slots_tell : (table : Table) (root : ℕ) (struct : StructDef) (given_to : ℕ → Option Val) (count i : ℕ) → IsServed table
     → def_of table root ≡ Def.Struct struct
-    → Tells (complete_all strict_column no_hooks table root as_struct i (slots given_to count i))
-    (lack_among no_hooks table root as_struct i (slots given_to count i))
+    → Tells (complete_all strict_column no_hooks table root (as_fields None) i (slots given_to count i))
+    (lack_among no_hooks table root (as_fields None) i (slots given_to count i))
     (fields_from root (λ k. option_or (given_to k) (fill_at strict_column table root k)) count i)
 slots_tell table root struct given_to zero i served is = refl
 slots_tell table root struct given_to (suc count) i served is =
     go (given_to i) (slots_tell table root struct given_to count (suc i) served is)
   where
     go : (value : Option Val)
-        → Tells (complete_all strict_column no_hooks table root as_struct (suc i) (slots given_to count (suc i)))
-        (lack_among no_hooks table root as_struct (suc i) (slots given_to count (suc i)))
+        → Tells (complete_all strict_column no_hooks table root (as_fields None) (suc i) (slots given_to count (suc i)))
+        (lack_among no_hooks table root (as_fields None) (suc i) (slots given_to count (suc i)))
         (fields_from root (λ k. option_or (given_to k) (fill_at strict_column table root k)) count (suc i))
         → Tells
-        (complete_all strict_column no_hooks table root as_struct i (branch (slot_of value) (slots given_to count (suc i))))
-        (lack_among no_hooks table root as_struct i (branch (slot_of value) (slots given_to count (suc i))))
+        (complete_all strict_column no_hooks table root (as_fields None) i (branch (slot_of value) (slots given_to count (suc i))))
+        (lack_among no_hooks table root (as_fields None) i (branch (slot_of value) (slots given_to count (suc i))))
         (one_more_field (missing_field root None i) (option_or value (fill_at strict_column table root i))
         (fields_from root (λ k. option_or (given_to k) (fill_at strict_column table root k)) count (suc i)))
     go (Some v) rest =
-        one_child (Some v) (failing_child no_hooks table root as_struct i (Some v)) (missing_field root None i)
-        (complete_all strict_column no_hooks table root as_struct (suc i) (slots given_to count (suc i)))
-        (lack_among no_hooks table root as_struct (suc i) (slots given_to count (suc i)))
+        one_child (Some v) (failing_child no_hooks table root (as_fields None) i (Some v)) (missing_field root None i)
+        (complete_all strict_column no_hooks table root (as_fields None) (suc i) (slots given_to count (suc i)))
+        (lack_among no_hooks table root (as_fields None) (suc i) (slots given_to count (suc i)))
         (fields_from root (λ k. option_or (given_to k) (fill_at strict_column table root k)) count (suc i))
         (none_fails table root struct i (Some v) served is) rest
     go None rest =
-        one_child (fill_at strict_column table root i) (failing_child no_hooks table root as_struct i (fill_at strict_column table root i))
+        one_child (fill_at strict_column table root i) (failing_child no_hooks table root (as_fields None) i (fill_at strict_column table root i))
         (missing_field root None i)
-        (complete_all strict_column no_hooks table root as_struct (suc i) (slots given_to count (suc i)))
-        (lack_among no_hooks table root as_struct (suc i) (slots given_to count (suc i)))
+        (complete_all strict_column no_hooks table root (as_fields None) (suc i) (slots given_to count (suc i)))
+        (lack_among no_hooks table root (as_fields None) (suc i) (slots given_to count (suc i)))
         (fields_from root (λ k. option_or (given_to k) (fill_at strict_column table root k)) count (suc i))
         (none_fails table root struct i (fill_at strict_column table root i) served is) rest
 
@@ -168,7 +169,7 @@ product_told root values lacking (Err kind) told = rw (told.0, told.1) refl
 
 begun_told : (root : ℕ) (values : Option Vals) (lacking : Option ReflectErrorKind) (meant : Result Vals ReflectErrorKind)
     → Tells values lacking meant
-    → value_or (made as_struct values) (or_missing root lacking) ≡ product_of_fields meant
+    → value_or (made (as_fields None) values) (or_missing root lacking) ≡ product_of_fields meant
 begun_told root values lacking (Ok vs) told = rw told refl
 begun_told root values lacking (Err kind) told = rw (told.0, told.1) refl
 
@@ -194,17 +195,17 @@ makes table root struct [] calls served is = go (is_empty_struct (def_of table r
     go false =
         built_is table root entered (complete strict_column no_hooks table root entered)
         ∙ entered_told root struct (def_of table root) (preset_of table root)
-        (each_child (λ k. valid_child no_hooks table root as_struct k (fill_at strict_column table root k)) (child_count table root) 0)
-        (lack_of_holes no_hooks table root as_struct (child_count table root) 0)
+        (each_child (λ k. valid_child no_hooks table root (as_fields None) k (fill_at strict_column table root k)) (child_count table root) 0)
+        (lack_of_holes no_hooks table root (as_fields None) (child_count table root) 0)
         (fields_from root (value_of_field table root []) (child_count table root) 0) is
         (fills_tell table root struct (child_count table root) 0 served is)
 makes table root struct (pair ∷ pairs) calls served is =
     built_is table root (tree_of table root (pair ∷ pairs))
     (complete strict_column no_hooks table root (tree_of table root (pair ∷ pairs)))
     ∙ begun_told root
-    (complete_all strict_column no_hooks table root as_struct 0
+    (complete_all strict_column no_hooks table root (as_fields None) 0
     (slots (last_given table root (pair ∷ pairs)) (child_count table root) 0))
-    (lack_among no_hooks table root as_struct 0
+    (lack_among no_hooks table root (as_fields None) 0
     (slots (last_given table root (pair ∷ pairs)) (child_count table root) 0))
     (fields_from root (value_of_field table root (pair ∷ pairs)) (child_count table root) 0)
     (slots_tell table root struct (last_given table root (pair ∷ pairs)) (child_count table root) 0 served is)

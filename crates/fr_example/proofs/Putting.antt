@@ -22,7 +22,8 @@ use Rattle.fr_model.specs.Converting.{converted}
 use Rattle.fr_model.specs.Items.{is_open_slice}
 use Rattle.fr_model.specs.Places.{strict_column, child_count, child_shape}
 use Rattle.fr_model.specs.Step.{unless_refused, at_shape, named_refusal, opened_as, opened, enter, enters_named, begins_named, set_refusal, puts, puts_dynamic, set_dynamic, set, puts_made, ended, step}
-use Rattle.fr_model.specs.Tree.{Form, as_struct, form_at, selected, Tree, entered, whole, begun, Trees, child_as, change_nth, change_child, fresh, strict, State, one_more_call}
+use Rattle.fr_model.specs.Trackers.{Tracker, as_fields}
+use Rattle.fr_model.specs.Tree.{tracker_at, selected, Tree, entered, whole, begun, Trees, child_as, change_nth, change_child, fresh, strict, State, one_more_call}
 use Rattle.fr_model.specs.Variants.{field_found}
 use Rattle.fr_example.specs.declared.record.Pair.{Pair}
 use Rattle.fr_example.specs.Meant.{takes_text, refusal_at, refusal_of, is_found, text_in, text_at, given, last_given}
@@ -35,31 +36,31 @@ use Rattle.fr_example.proofs.Slots.{slots, slots_holes, put_slot, put_again, put
 abbrev pub tree_of : Table → ℕ → List Pair → Tree
 tree_of table root [] = fresh (def_of table root)
 tree_of table root (pair ∷ pairs) =
-    begun as_struct (slots (last_given table root (pair ∷ pairs)) (child_count table root) 0)
+    begun (as_fields None) (slots (last_given table root (pair ∷ pairs)) (child_count table root) 0)
 
 abbrev pub filling : Table → ℕ → List Pair → ℕ → State
 filling table root pairs calls = record { tree = tree_of table root pairs; cursor = []; mode = strict; calls = calls }
 
 -- the builder at field i of a struct with these children
 abbrev pub at_field : ℕ → Trees → ℕ → State
-at_field i ts calls = record { tree = begun as_struct ts; cursor = i ∷ []; mode = strict; calls = calls }
+at_field i ts calls = record { tree = begun (as_fields None) ts; cursor = i ∷ []; mode = strict; calls = calls }
 
 opened_fresh : (fields : List Field) (i count : ℕ) → i < length fields
-    → opened_as as_struct count (if is_nil fields then whole (product no_vals) else entered)
-    ≡ begun as_struct (slots (λ k. None) count 0)
+    → opened_as (as_fields None) count (if is_nil fields then whole (product no_vals) else entered)
+    ≡ begun (as_fields None) (slots (λ k. None) count 0)
 opened_fresh [] i count below = absurd (omega arith)
-opened_fresh (field ∷ fields) i count below = ap (λ (ts : Trees). begun as_struct ts) (slots_holes count 0)
+opened_fresh (field ∷ fields) i count below = ap (λ (ts : Trees). begun (as_fields None) ts) (slots_holes count 0)
 
 -- the struct as its fields see it
 opened_tree : (table : Table) (root : ℕ) (struct : StructDef) (i : ℕ) (pairs : List Pair)
     → def_of table root ≡ Def.Struct struct → i < length struct.fields
     → opened (def_of table root) (tree_of table root pairs)
-    ≡ begun as_struct (slots (last_given table root pairs) (child_count table root) 0)
+    ≡ begun (as_fields None) (slots (last_given table root pairs) (child_count table root) 0)
 opened_tree table root struct i [] is below = rw is (opened_fresh struct.fields i (length struct.fields) below)
 opened_tree table root struct i (pair ∷ pairs) is below = refl
 
 tree_more : (table : Table) (root : ℕ) (pairs : List Pair) (pair : Pair)
-    → begun as_struct (slots (last_given table root (pairs ++ pair ∷ [])) (child_count table root) 0)
+    → begun (as_fields None) (slots (last_given table root (pairs ++ pair ∷ [])) (child_count table root) 0)
     ≡ tree_of table root (pairs ++ pair ∷ [])
 tree_more table root [] pair = refl
 tree_more table root (p ∷ pairs) pair = refl
@@ -110,14 +111,14 @@ none_selected table root [] = none_of_fresh (is_empty_struct (def_of table root)
 none_selected table root (pair ∷ pairs) = refl
 
 struct_of_fresh : (struct : StructDef) (empty : Bool)
-    → form_at (Def.Struct struct) (if empty then whole (product no_vals) else entered) ≡ as_struct
+    → tracker_at (Def.Struct struct) (if empty then whole (product no_vals) else entered) ≡ as_fields None
 struct_of_fresh struct true = refl
 struct_of_fresh struct false = refl
 
-begun_as_struct : (table : Table) (root : ℕ) (struct : StructDef) (pairs : List Pair) → def_of table root ≡ Def.Struct struct
-    → form_at (def_of table root) (tree_of table root pairs) ≡ as_struct
-begun_as_struct table root struct [] is = rw is (struct_of_fresh struct (is_nil struct.fields))
-begun_as_struct table root struct (pair ∷ pairs) is = refl
+begun_struct : (table : Table) (root : ℕ) (struct : StructDef) (pairs : List Pair) → def_of table root ≡ Def.Struct struct
+    → tracker_at (def_of table root) (tree_of table root pairs) ≡ as_fields None
+begun_struct table root struct [] is = rw is (struct_of_fresh struct (is_nil struct.fields))
+begun_struct table root struct (pair ∷ pairs) is = refl
 
 pub begins : (table : Table) (root : ℕ) (struct : StructDef) (name : List ℕ) (pairs : List Pair) (calls : ℕ)
     → def_of table root ≡ Def.Struct struct
@@ -144,16 +145,16 @@ pub entered_field : (table : Table) (root : ℕ) (struct : StructDef) (i : ℕ) 
     ≡ Ok (at_field i (with_entered table root pairs i) (one_more_call calls))
 entered_field table root struct i pairs calls is below =
     ap
-    (λ (form : Form).
+    (λ (tracker : Tracker).
     Ok (record {
       tree =
-          change_child i (enter (def_of table (child_as table root form i)))
+          change_child i (enter (def_of table (child_as table root tracker i)))
           (opened (def_of table root) (tree_of table root pairs));
       cursor = i ∷ [];
       mode = strict;
       calls = one_more_call calls;
     }))
-    (begun_as_struct table root struct pairs is)
+    (begun_struct table root struct pairs is)
     ∙ ap
     (λ (t : Tree).
     Ok (record {
@@ -181,7 +182,7 @@ ends table root i pairs pair calls e below =
     (enter (def_of table (child_shape table root i))) below)
     ∙ ap
     (λ (ts : Trees).
-    Ok (record { tree = begun as_struct ts; cursor = []; mode = strict; calls = one_more_call (one_more_call calls) }))
+    Ok (record { tree = begun (as_fields None) ts; cursor = []; mode = strict; calls = one_more_call (one_more_call calls) }))
     (put_again i (text_at table root i pair.text) (λ old. whole (text_at table root i pair.text)) (with_entered table root pairs i)
     ∙ put_again i (text_at table root i pair.text) (enter (def_of table (child_shape table root i)))
     (slots (last_given table root pairs) (child_count table root) 0)

@@ -21,7 +21,8 @@ use Rattle.fr_model.specs.Items.{init_array_refusal, item_refusal, is_open_slice
 use Rattle.fr_model.specs.Places.{Column, strict_column, deferred_column, is_root}
 use Rattle.fr_model.specs.Run.{run_from, and_then}
 use Rattle.fr_model.specs.Step.{unless_refused, at_shape, was_not_a, field_refusal, named_refusal, set_refusal, Way, enters, begins_named, puts, puts_default, field_default, puts_child_default, defaults_field, puts_dynamic, set_dynamic, begins_list, begins_map, init_list, option_kept, content_kept, begins_pointer, opens, init_list_refusal, init_map_refusal, init_set_refusal, is_set_item, item_ended, ends_item, is_dynamic_part, part_ended, leaves_deferred, selects, select_found, ended, end_in, leaves_place, puts_made, closes_slice, begins_deferred, finishes, finish_in, violates, step_at, step}
-use Rattle.fr_model.specs.Tree.{as_some, as_ok, as_err, selected, Tree, Mode, strict, deferred, State, count_below, cursor_shape, cursor_tree, one_more_call}
+use Rattle.fr_model.specs.Trackers.{as_content, ContentKind}
+use Rattle.fr_model.specs.Tree.{selected, Tree, Mode, strict, deferred, State, count_below, cursor_shape, cursor_tree, one_more_call}
 use Rattle.fr_model.specs.Variants.{is_enum, field_found, variant_numbered, variant_named, variant_told_by, selection_refusal}
 
 -- the same command over the same hooks, table and root
@@ -259,13 +260,13 @@ module _ (hooks : Meanings) (table : Table) (root s : ℕ) (state : State) where
   step_counts (Call.BeginObjectEntry key) =
       unless_counts (at_shape s (entry_refusal (def_of table s) (cursor_tree state))) (enters table s state (Way.Entry key)) refl
   step_counts Call.BeginSome =
-      where_counts (is_option (def_of table s)) (enters table s state (Way.Content as_some (option_kept table s state)))
+      where_counts (is_option (def_of table s)) (enters table s state (Way.Content (as_content ContentKind.Some) (option_kept table s state)))
       (was_not_a Expected.Option s) refl
   step_counts Call.BeginOk =
-      where_counts (is_result (def_of table s)) (enters table s state (Way.Content as_ok (content_kept state as_ok)))
+      where_counts (is_result (def_of table s)) (enters table s state (Way.Content (as_content ContentKind.Ok) (content_kept state (as_content ContentKind.Ok))))
       (was_not_a Expected.Result s) refl
   step_counts Call.BeginErr =
-      where_counts (is_result (def_of table s)) (enters table s state (Way.Content as_err (content_kept state as_err)))
+      where_counts (is_result (def_of table s)) (enters table s state (Way.Content (as_content ContentKind.Err) (content_kept state (as_content ContentKind.Err))))
       (was_not_a Expected.Result s) refl
   step_counts Call.BeginSmartPtr =
       unless_counts (at_shape s (pointer_refusal table (def_of table s)))

@@ -4,7 +4,7 @@
 ghost use Rattle.std.specs.Prelude.{◌≡◌, ◌<◌, ℕ, true, false, length, IsSome, Some};
 ghost use Rattle.fr_shape.specs.Tokens.{occurs};
 ghost use Rattle.fr_shape.specs.View.{view};
-ghost use Rattle.fr_model.specs.Tree.{as_list};
+ghost use Rattle.fr_model.specs.Trackers.{as_items, ItemsKind as TreeItemsKind};
 ghost use Rattle.fr_frame.specs.Bodies.{value_of, IsGrowing, MayOpen};
 ghost use Rattle.fr_frame.specs.Cells.{placed};
 ghost use Rattle.fr_frame.specs.Changes.{IfInUse, IsInUse};
@@ -13,7 +13,7 @@ ghost use Rattle.fr_frame.specs.Outlines.{is_list_body};
 
 use super::ledger;
 use super::validators::plan_of;
-use fr_frame::{Form, FrameOwner, Piece, SlotId, Slots};
+use fr_frame::{ChildWay, FrameOwner, ItemsKind, Piece, SlotId, Slots, Tracker};
 use fr_plan::{NodeId, TypePlanCore};
 use fr_shape::{Def, Items, Ledger, ScalarKind, Shape, ShapeId, ShapeTable, Text, Value};
 use fr_store::FrameStore;
@@ -53,7 +53,7 @@ fn item_node(rt: &impl Abort, plan: &TypePlanCore) -> NodeId
 
 /// Whether a place is just entered or holds a list, so that it can be begun as one.
 fn opens_as_list(piece: &Piece) -> bool
-    ensures opens { result ≡ true → MayOpen as_list (body_of piece.now) }
+    ensures opens { result ≡ true → MayOpen (as_items TreeItemsKind.List) (body_of piece.now) }
     ensures plain { result ≡ true → is_list_body (body_of piece.now) ≡ false }
 {
     matches!(piece, Piece::Entered | Piece::Whole(Value::List(_)))
@@ -63,7 +63,7 @@ fn opens_as_list(piece: &Piece) -> bool
 fn takes_items(piece: &Piece) -> bool
     ensures { result ≡ true → IsGrowing (body_of piece.now) }
 {
-    matches!(piece, Piece::Begun(Form::List, _))
+    matches!(piece, Piece::Begun(Tracker::Items(ItemsKind::List), _))
 }
 
 /// Whether a place holds a value.
@@ -83,7 +83,7 @@ fn check_used(rt: &impl Abort, slots: &Slots, id: SlotId)
 
 /// Ends the test where the place in the slot can't be begun as a list.
 fn check_opens(rt: &impl Abort, slots: &Slots, id: SlotId)
-    ensures { IfInUse slots.now id.0 (λ at. MayOpen as_list at.body) }
+    ensures { IfInUse slots.now id.0 (λ at. MayOpen (as_items TreeItemsKind.List) at.body) }
 {
     let Some(place) = slots.place(id) else {
         panic!(rt; "no place");
@@ -154,7 +154,7 @@ fn begin_list(rt: &impl Abort, slots: &mut Slots, id: SlotId)
     ensures { (t : ℕ) → slots_occur slots.new t ≡ 0 }
 {
     check_opens(rt, slots, id);
-    match id.begin(slots, Form::List, 0) {
+    match id.begin(slots, Tracker::Items(ItemsKind::List), 0) {
         Ok(()) => {}
         Err(_) => panic!(rt; "no memory"),
     }
@@ -172,7 +172,7 @@ fn enter_item(
     ensures { (t : ℕ) → slots_occur slots.new t ≡ 0 }
 {
     check_takes_items(rt, slots, list);
-    match slots.enter_item(table, plan, item_node(rt, plan), list) {
+    match slots.enter_child(table, plan, item_node(rt, plan), list, ChildWay::Item) {
         Ok(id) => id,
         Err(_) => panic!(rt; "no memory"),
     }

@@ -5,7 +5,7 @@ ghost use Rattle.fr_shape.specs.Fills.{is_empty_struct};
 ghost use Rattle.fr_shape.specs.Look.{def_of};
 ghost use Rattle.fr_frame.specs.Completing.{shape_of, IsPlanFor};
 
-use fr_frame::{Form, FrameOwner, Piece, Slots};
+use fr_frame::{FrameOwner, Piece, Slots, Tracker};
 use fr_plan::{NodeId, TypePlanCore};
 use fr_shape::{
     Def, DefaultSource, EnumDef, EnumRepr, Field, Items, NoHooks, PlanError, ReflectErrorKind,
@@ -79,7 +79,7 @@ fn completed(
     };
     let result = id.complete_by_defaults(&mut slots, &table, &plan, &NoHooks);
     let place = slots.place(id).expect(rt, "no place");
-    let begun = matches!(&place.piece, Piece::Begun(Form::Struct, _));
+    let begun = matches!(&place.piece, Piece::Begun(Tracker::Fields(None), _));
     (result, begun)
 }
 
@@ -128,7 +128,7 @@ fn validated(rt: &impl Abort, alloc: Global, value: u128) -> Result<(), ReflectE
     if is_empty(&table, &plan, plan.root_id()) {
         panic!(rt; "no field");
     }
-    if id.begin(&mut slots, Form::Struct, 1).is_err() {
+    if id.begin(&mut slots, Tracker::Fields(None), 1).is_err() {
         panic!(rt; "no memory");
     }
     id.put_child(&mut slots, 0, Value::Nat(value));
@@ -213,7 +213,7 @@ fn validated_variant(rt: &impl Abort, alloc: Global, value: u128) -> Result<(), 
     if is_empty(&table, &plan, plan.root_id()) {
         panic!(rt; "a struct");
     }
-    if id.begin(&mut slots, Form::Variant(0), 1).is_err() {
+    if id.begin(&mut slots, Tracker::Fields(Some(0)), 1).is_err() {
         panic!(rt; "no memory");
     }
     id.put_child(&mut slots, 0, Value::Nat(value));
