@@ -1,10 +1,11 @@
 //! Entering a place.
-ghost use Rattle.fr_frame.specs.Common.{IfInUse, IfOk, IsInUse, IsReserved, None, OnErr, OnOk, SameTokens, Shows, def_of, depth_below, depth_limit, heap_of, keys_apart, keys_in, length, shape_of, true, with_body, with_entered, with_entry_for};
+ghost use Rattle.fr_frame.specs.Common.{IfInUse, IfOk, IsInUse, IsReserved, None, OnErr, OnOk, SameTokens, Shows, def_of, depth_below, depth_limit, heap_of, keys_apart, keys_in, length, shape_of, true, with_body, with_entered, with_entry_for, ℕ};
 ghost use Rattle.std.specs.Prelude.{◌^◌, ◌+◌, ◌<◌, ◌≡◌};
 ghost use Rattle.fr_frame.specs.Bodies.{entry_in, IsObjectBody};
 ghost use Rattle.fr_frame.specs.Changes.{IsOwnerInUse};
 ghost use Rattle.fr_frame.specs.Growing.{number_by, widened, IsNarrowBy, MayEnter};
 ghost use Rattle.fr_frame.specs.Kids.{child_owner};
+ghost use Rattle.fr_frame.specs.declared.places.ChildWay.{ChildWay as Way};
 
 use crate::pieces::fresh;
 use crate::places::{ChildWay, FrameOwner, Growth, Piece, Place, SlotId};
@@ -162,6 +163,8 @@ impl Slots {
             IsNarrowBy way.entry above.body)) }
         ensures tokens { SameTokens self.old self.new }
         ensures refused { OnErr result (Shows self.new (heap_of self.old)) }
+        ensures child_refused { OnErr result ((i : ℕ) → way.entry ≡ Way.Child i
+            → self.new ≡ self.old) }
     {
         match way {
             ChildWay::Child(i) => self.enter(table, plan, node, FrameOwner::Child(parent, i)),

@@ -5,6 +5,7 @@ ghost use Rattle.std.specs.Prelude.{IfSome, IsNone, ◌++◌, ◌<◌, ◌∷◌
 ghost use Rattle.fr_frame.specs.Heap.{with_mark};
 ghost use Rattle.fr_store.specs.Moves.{child_number, entered_by, node_by, MayEnter, TakesMany};
 ghost use Rattle.fr_store.specs.Stored.{IsStoredBy};
+ghost use Rattle.fr_frame.specs.declared.places.ChildWay.{ChildWay as Way};
 
 use crate::{FrameStore, Stack};
 use fr_frame::{ChildWay, SlotId, Slots, Tracker};
@@ -116,7 +117,11 @@ impl Stack {
         ensures tokens { SameTokens slots.old slots.new }
         ensures kept { IsKept store.new slots.new }
         ensures marks { StoresNoMore slots.old slots.new }
+        ensures new_marks { ((i : ℕ) → way.entry ≡ Way.Child i → ⊥)
+            → SameMarks slots.old slots.new }
         ensures slots_kept { OnErr result (Shows slots.new (heap_of slots.old)) }
+        ensures child_kept { OnErr result ((i : ℕ) → way.entry ≡ Way.Child i
+            → slots.new ≡ slots.old) }
         ensures store_kept { OnErr result (store.new ≡ store.old) }
         ensures refused { OnErr result (self.new ≡ self.old) }
     {

@@ -1,4 +1,4 @@
-use Rattle.std.proofs.Common.{sym, subst}
+use Rattle.std.proofs.Common.{◌≡◌, ℕ, sym, subst}
 use Rattle.std.proofs.lemmas.Result.{IfOk-weaker}
 use Rattle.fr_frame.specs.declared.places.ChildWay.{ChildWay}
 use Rattle.fr_frame.specs.Common.{IfInUse, IfOk, Node, Shows, SlotId, def_of, heap_of, shape_of, with_entered}

@@ -68,3 +68,6 @@ returns-in-Some-take_stored-clause-entered c = (again_now c).0
 
 pub returns-in-Some-take_stored-clause-places : goal.returns-in-Some-take_stored-clause-places
 returns-in-Some-take_stored-clause-places c = (again_now c).1
+
+pub returns-in-Ok-clause-new_marks : goal.returns-in-Ok-clause-new_marks
+returns-in-Ok-clause-new_marks c new = (entered_now c).1
