@@ -19,7 +19,7 @@ use Rattle.fr_doc.specs.ShapeForms.{shape_at}
 use Rattle.fr_model.specs.Scripts.{IsValid}
 use Rattle.fr_script.specs.DocumentFacts.{IsBuildable, IsInOrder}
 use Rattle.fr_script.specs.Documents.{Document, asks, broken, takes, shape_for, shapes_for, below, root_form, tokens_form, script_form, document_form, part_count, part_total, at_most, sizes_pass, rules_pass, first_invalid, invalid, script_passes, tree_of, document_of}
-use Rattle.fr_script.specs.declared.word.Word.{Word}
+use Rattle.fr_script.specs.declared.subcommand.Subcommand.{Subcommand}
 use Rattle.fr_script.specs.Members.{members_form}
 use Rattle.fr_script.specs.declared.sizes.TheConstants.{SHAPE_LIMIT, PART_LIMIT, COMMAND_LIMIT, TOKEN_LIMIT}
 use Rattle.fr_doc.specs.declared.looping.TheConstants.{DOCUMENT_LIMIT}
@@ -158,37 +158,40 @@ few_numbered table shapes parts = record {
 
 -- Shapes.
 
--- the word takes each shape that was read
-pub AllTaken : Word → Result Table DocFault → Type 0
-AllTaken word (Ok shapes) = list_all (takes word) shapes ≡ true
-AllTaken word (Err fault) = Unit {0}
+-- the subcommand takes each shape that was read
+pub AllTaken : Subcommand → Result Table DocFault → Type 0
+AllTaken subcommand (Ok shapes) = list_all (takes subcommand) shapes ≡ true
+AllTaken subcommand (Err fault) = Unit {0}
 
-taken : (word : Word) (shape : Shape) (served : Bool) → takes word shape ≡ served → (fault : DocFault) (rest : Result Table DocFault) → AllTaken word rest
-    → AllTaken word ((asks served fault >>= λ _. Ok shape) >>= λ x. rest >>= λ xs. Ok (x ∷ xs))
+taken : (subcommand : Subcommand) (shape : Shape) (served : Bool) → takes subcommand shape ≡ served → (fault : DocFault)
+    (rest : Result Table DocFault) → AllTaken subcommand rest
+    → AllTaken subcommand ((asks served fault >>= λ _. Ok shape) >>= λ x. rest >>= λ xs. Ok (x ∷ xs))
 unfolding AllTaken
-taken word shape true is fault (Ok shapes) all = and_from _ _ is all
-taken word shape true is fault (Err other) all = tt
-taken word shape false is fault rest all = tt
+taken subcommand shape true is fault (Ok shapes) all = and_from _ _ is all
+taken subcommand shape true is fault (Err other) all = tt
+taken subcommand shape false is fault rest all = tt
 
-next_taken : (word : Word) (fault : DocFault) (found : Result Shape DocFault) (rest : Result Table DocFault) → AllTaken word rest
-    → AllTaken word ((found >>= λ shape. asks (takes word shape) fault >>= λ _. Ok shape) >>= λ x. rest >>= λ xs. Ok (x ∷ xs))
+next_taken : (subcommand : Subcommand) (fault : DocFault) (found : Result Shape DocFault) (rest : Result Table DocFault) → AllTaken subcommand rest
+    → AllTaken subcommand ((found >>= λ shape. asks (takes subcommand shape) fault >>= λ _. Ok shape) >>= λ x. rest >>= λ xs. Ok (x ∷ xs))
 unfolding AllTaken
-next_taken word fault (Err other) rest all = tt
-next_taken word fault (Ok shape) rest all = taken word shape (takes word shape) refl fault rest all
+next_taken subcommand fault (Err other) rest all = tt
+next_taken subcommand fault (Ok shape) rest all = taken subcommand shape (takes subcommand shape) refl fault rest all
 
-each_taken : (word : Word) (i : ℕ) (ds : Items) → AllTaken word (each_at (shape_for word) i ds)
+each_taken : (subcommand : Subcommand) (i : ℕ) (ds : Items) → AllTaken subcommand (each_at (shape_for subcommand) i ds)
 unfolding AllTaken shape_for
-each_taken word i no_items = refl
-each_taken word i (item d ds) = next_taken word (DocFault.BadForm (DocPlace.Shape i)) (shape_at i d) (each_at (shape_for word) (i + 1) ds) (each_taken word (i + 1) ds)
+each_taken subcommand i no_items = refl
+each_taken subcommand i (item d ds) =
+    next_taken subcommand (DocFault.BadForm (DocPlace.Shape i)) (shape_at i d) (each_at (shape_for subcommand) (i + 1) ds)
+    (each_taken subcommand (i + 1) ds)
 
-shapes_taken : (word : Word) (d : Data) → AllTaken word (shapes_for word d)
+shapes_taken : (subcommand : Subcommand) (d : Data) → AllTaken subcommand (shapes_for subcommand d)
 unfolding AllTaken shapes_for
-shapes_taken word (array ds) = each_taken word 0 ds
-shapes_taken word null = tt
-shapes_taken word (boolean b) = tt
-shapes_taken word (number n) = tt
-shapes_taken word (string s) = tt
-shapes_taken word (object ms) = tt
+shapes_taken subcommand (array ds) = each_taken subcommand 0 ds
+shapes_taken subcommand null = tt
+shapes_taken subcommand (boolean b) = tt
+shapes_taken subcommand (number n) = tt
+shapes_taken subcommand (string s) = tt
+shapes_taken subcommand (object ms) = tt
 
 -- Forms.
 
@@ -212,17 +215,17 @@ root_within shapes d root is =
 same_document : (made document : Document) (P : Document → Type 0) → ◌≡◌ {A = Result Document DocFault} (Ok made) (Ok document) → P made → P document
 same_document made document P is holds = let same : made ≡ document = cc in subst P same holds
 
-form_known : (word : Word) (d : Data) (document : Document) → document_form word d ≡ Ok document
-    → AllTaken word (Ok document.shapes) × IsIn document.shapes document.root
+form_known : (subcommand : Subcommand) (d : Data) (document : Document) → document_form subcommand d ≡ Ok document
+    → AllTaken subcommand (Ok document.shapes) × IsIn document.shapes document.root
 unfolding document_form
-form_known word d document is =
+form_known subcommand d document is =
     let members = passed (broken DocPlace.Document (members_form d)) _ document is in
-    let shapes = passed (shapes_for word members.0.shapes) _ document members.2 in
+    let shapes = passed (shapes_for subcommand members.0.shapes) _ document members.2 in
     let root = passed (root_form (length shapes.0) members.0.root) _ document shapes.2 in
     let tokens = passed (tokens_form members.0.tokens) _ document root.2 in
     let script = passed (script_form members.0.commands) _ document tokens.2 in
-    same_document _ document (λ read. AllTaken word (Ok read.shapes) × IsIn read.shapes read.root) script.2
-    (subst (AllTaken word) shapes.1 (shapes_taken word members.0.shapes), root_within (length shapes.0) members.0.root root.0 root.1)
+    same_document _ document (λ read. AllTaken subcommand (Ok read.shapes) × IsIn read.shapes read.root) script.2
+    (subst (AllTaken subcommand) shapes.1 (shapes_taken subcommand members.0.shapes), root_within (length shapes.0) members.0.root root.0 root.1)
 
 -- The script.
 
@@ -238,20 +241,20 @@ script_known document u is =
 
 -- All together.
 
-pub document_in_order : (word : Word) (bytes : List ℕ) (document : Document) → document_of word bytes ≡ Ok document
-    → IsInOrder document × AllTaken word (Ok document.shapes)
+pub document_in_order : (subcommand : Subcommand) (bytes : List ℕ) (document : Document) → document_of subcommand bytes ≡ Ok document
+    → IsInOrder document × AllTaken subcommand (Ok document.shapes)
 unfolding document_of
-document_in_order word bytes document is =
+document_in_order subcommand bytes document is =
     let short = passed (at_most DOCUMENT_LIMIT (length bytes) DocFault.TooLong) _ document is in
     let tree = passed (ok_or (tree_of bytes) DocFault.NotJson) _ document short.2 in
     let float = passed (asks (not (has_float tree.0)) DocFault.HasFloat) _ document tree.2 in
-    let form = passed (document_form word tree.0) _ document float.2 in
+    let form = passed (document_form subcommand tree.0) _ document float.2 in
     let sizes = passed (sizes_pass form.0) _ document form.2 in
     let rules = passed (rules_pass form.0.shapes) _ document sizes.2 in
     let script = passed (script_passes form.0) _ document rules.2 in
     let few = sizes_known form.0 sizes.0 sizes.1 in
-    let known = form_known word tree.0 form.0 form.1 in
-    same_document form.0 document (λ read. IsInOrder read × AllTaken word (Ok read.shapes)) script.2 (
+    let known = form_known subcommand tree.0 form.0 form.1 in
+    same_document form.0 document (λ read. IsInOrder read × AllTaken subcommand (Ok read.shapes)) script.2 (
       record {
         checked = passes_checked form.0.shapes rules.0 rules.1;
         rooted = known.1;
@@ -263,8 +266,8 @@ document_in_order word bytes document is =
       known.0,
     )
 
-pub document_buildable : (bytes : List ℕ) (document : Document) → document_of Word.Build bytes ≡ Ok document → IsBuildable document
+pub document_buildable : (bytes : List ℕ) (document : Document) → document_of Subcommand.Build bytes ≡ Ok document → IsBuildable document
 unfolding AllTaken
 document_buildable bytes document is =
-    let known = document_in_order Word.Build bytes document is in
+    let known = document_in_order Subcommand.Build bytes document is in
     record { in_order = known.0; served = known.1 }

@@ -23,7 +23,7 @@ use Rattle.fr_script.specs.PlanReports.{NodeLine, node_kind_name, own_kind_name,
 use Rattle.fr_script.specs.Reports.{line_data, planned, unplanned, status_of, plan_of, run_of, outcome_of_run, outcome_of_plan, outcome_of_document, outcome_of}
 use Rattle.fr_script.specs.DocumentFacts.{IsInOrder, Succeeds}
 use Rattle.fr_script.specs.Documents.{Document, document_of}
-use Rattle.fr_script.specs.declared.word.Word.{Word}
+use Rattle.fr_script.specs.declared.subcommand.Subcommand.{Subcommand}
 use Rattle.fr_doc.specs.declared.fault.DocFault.{DocFault}
 use Rattle.fr_doc.specs.Details.{name_in}
 use Rattle.fr_shape.specs.Plannable.{IsPlannable}
@@ -154,15 +154,15 @@ module _ (refuses : RefusesFirst) (plans : PlansPlannable) where
       not_refused document.shapes (plan_of document)
       (refuses document.shapes root ∙ (plans document.shapes root in_order.checked in_order.rooted).1 plannable)
 
-  in_any_case : (word : Word) (found : Result Document DocFault)
-      → ((document : Document) → found ≡ Ok document → IsInOrder document) → Succeeds word found
-      → status_of (outcome_of_document word found) ≡ 0
-  in_any_case Word.Build (Ok document) known completes = value_status document (run_of document) completes
-  in_any_case Word.Plan (Ok document) known plannable = known_planned document (known document refl) plannable
-  in_any_case Word.Build (Err fault) known none = absurd none
-  in_any_case Word.Plan (Err fault) known none = absurd none
+  in_any_case : (subcommand : Subcommand) (found : Result Document DocFault)
+      → ((document : Document) → found ≡ Ok document → IsInOrder document) → Succeeds subcommand found
+      → status_of (outcome_of_document subcommand found) ≡ 0
+  in_any_case Subcommand.Build (Ok document) known completes = value_status document (run_of document) completes
+  in_any_case Subcommand.Plan (Ok document) known plannable = known_planned document (known document refl) plannable
+  in_any_case Subcommand.Build (Err fault) known none = absurd none
+  in_any_case Subcommand.Plan (Err fault) known none = absurd none
 
-  pub succeeds : (word : Word) (bytes : List ℕ) → Succeeds word (document_of word bytes)
-      → status_of (outcome_of word bytes) ≡ 0
-  succeeds word bytes =
-      in_any_case word (document_of word bytes) (λ document is. (document_in_order word bytes document is).0)
+  pub succeeds : (subcommand : Subcommand) (bytes : List ℕ) → Succeeds subcommand (document_of subcommand bytes)
+      → status_of (outcome_of subcommand bytes) ≡ 0
+  succeeds subcommand bytes =
+      in_any_case subcommand (document_of subcommand bytes) (λ document is. (document_in_order subcommand bytes document is).0)

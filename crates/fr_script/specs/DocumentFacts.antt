@@ -8,7 +8,7 @@ use Rattle.fr_shape.specs.Numbered.{IsNumbered}
 use Rattle.fr_model.specs.Served.{IsServed}
 use Rattle.fr_model.specs.Scripts.{IsValid}
 use Rattle.fr_script.specs.declared.sizes.TheConstants.{COMMAND_LIMIT, TOKEN_LIMIT}
-use Rattle.fr_script.specs.declared.word.Word.{Word}
+use Rattle.fr_script.specs.declared.subcommand.Subcommand.{Subcommand}
 use Rattle.fr_script.specs.Documents.{Document}
 use Rattle.fr_script.specs.Reports.{run_of}
 
@@ -26,9 +26,9 @@ pub record IsBuildable (document : Document) : Type 0 where
   pub in_order : IsInOrder document
   pub served : IsServed document.shapes
 
--- The document has no fault, and what the word asks of it can be done: its script runs to a value, or its root can be
+-- The document has no fault, and what the subcommand asks of it can be done: its script runs to a value, or its root can be
 -- planned.
-abbrev pub Succeeds : Word → Result Document DocFault → Type 0
-Succeeds Word.Build (Ok document) = IsOk (run_of document)
-Succeeds Word.Plan (Ok document) = IsPlannable document.shapes document.root
-Succeeds word (Err fault) = ⊥
+abbrev pub Succeeds : Subcommand → Result Document DocFault → Type 0
+Succeeds Subcommand.Build (Ok document) = IsOk (run_of document)
+Succeeds Subcommand.Plan (Ok document) = IsPlannable document.shapes document.root
+Succeeds subcommand (Err fault) = ⊥

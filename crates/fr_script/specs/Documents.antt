@@ -24,7 +24,7 @@ use Rattle.fr_doc.specs.ShapeForms.{shape_at}
 use Rattle.fr_model.specs.Commands.{Call}
 use Rattle.fr_model.specs.Scripts.{value_brought, tokens_of}
 use Rattle.fr_script.specs.declared.sizes.TheConstants.{SHAPE_LIMIT, PART_LIMIT, COMMAND_LIMIT, TOKEN_LIMIT, DEPTH_LIMIT}
-use Rattle.fr_script.specs.declared.word.Word.{Word}
+use Rattle.fr_script.specs.declared.subcommand.Subcommand.{Subcommand}
 use Rattle.fr_script.specs.CommandForms.{call_form}
 use Rattle.fr_script.specs.Members.{members_form}
 
@@ -69,25 +69,25 @@ unfoldable pub script_form : Data → Result (List Call) DocFault
 script_form (array ds) = each_at call_at 0 ds
 script_form _ = Err (DocFault.BadForm DocPlace.Commands)
 
--- the shapes that a word takes: `plan` takes all, `build` those that the builder serves so far
-abbrev pub takes : Word → Shape → Bool
-takes Word.Build shape = serves shape
-takes Word.Plan shape = true
+-- the shapes that a subcommand takes: `plan` takes all, `build` those that the builder serves so far
+abbrev pub takes : Subcommand → Shape → Bool
+takes Subcommand.Build shape = serves shape
+takes Subcommand.Plan shape = true
 
-unfoldable pub shape_for : Word → ℕ → Data → Result Shape DocFault
-shape_for word i d = do
+unfoldable pub shape_for : Subcommand → ℕ → Data → Result Shape DocFault
+shape_for subcommand i d = do
   shape ← shape_at i d
-  _ ← asks (takes word shape) (DocFault.BadForm (DocPlace.Shape i))
+  _ ← asks (takes subcommand shape) (DocFault.BadForm (DocPlace.Shape i))
   Ok shape
 
-unfoldable pub shapes_for : Word → Data → Result Table DocFault
-shapes_for word (array ds) = each_at (shape_for word) 0 ds
-shapes_for word _ = Err (DocFault.BadForm DocPlace.Shapes)
+unfoldable pub shapes_for : Subcommand → Data → Result Table DocFault
+shapes_for subcommand (array ds) = each_at (shape_for subcommand) 0 ds
+shapes_for subcommand _ = Err (DocFault.BadForm DocPlace.Shapes)
 
-unfoldable pub document_form : Word → Data → Result Document DocFault
-document_form word d = do
+unfoldable pub document_form : Subcommand → Data → Result Document DocFault
+document_form subcommand d = do
   members ← broken DocPlace.Document (members_form d)
-  shapes ← shapes_for word members.shapes
+  shapes ← shapes_for subcommand members.shapes
   root ← root_form (length shapes) members.root
   tokens ← tokens_form members.tokens
   script ← script_form members.commands
@@ -252,13 +252,13 @@ script_passes document =
 abbrev pub tree_of : List ℕ → Option Data
 tree_of bytes = if is_utf8 bytes then read bytes else None
 
--- the document that bytes are to a word, or their first fault
-unfoldable pub document_of : Word → List ℕ → Result Document DocFault
-document_of word bytes = do
+-- the document that bytes are to a subcommand, or their first fault
+unfoldable pub document_of : Subcommand → List ℕ → Result Document DocFault
+document_of subcommand bytes = do
   _ ← at_most DOCUMENT_LIMIT (length bytes) DocFault.TooLong
   d ← ok_or (tree_of bytes) DocFault.NotJson
   _ ← asks (not (has_float d)) DocFault.HasFloat
-  document ← document_form word d
+  document ← document_form subcommand d
   _ ← sizes_pass document
   _ ← rules_pass document.shapes
   _ ← script_passes document

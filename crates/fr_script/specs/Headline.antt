@@ -9,7 +9,7 @@ use Rattle.fr_model.specs.Commands.{IsFieldScript}
 use Rattle.fr_model.specs.Journal.{journal_run}
 use Rattle.fr_model.specs.Scripts.{brought}
 use Rattle.fr_script.specs.declared.answering.Answer.{Answer}
-use Rattle.fr_script.specs.declared.word.Word.{Word}
+use Rattle.fr_script.specs.declared.subcommand.Subcommand.{Subcommand}
 use Rattle.fr_script.specs.Documents.{Document, document_of}
 use Rattle.fr_script.specs.Reports.{Outcome, faulty, built, refused, planned, unplanned, none_answered, outcome_of}
 use Rattle.fr_script.specs.Tokens.{StandOnce}
@@ -45,9 +45,9 @@ KeepsPromise (Err fault) (unplanned other) = ⊥
 KeepsPromise (Err fault) (faulty other) = fault ≡ other
 
 -- what is promised of the outcome of some bytes: under `plan` there is nothing to keep
-abbrev pub IsPromised : Word → List ℕ → Type 0
-IsPromised Word.Build bytes = KeepsPromise (document_of Word.Build bytes) (outcome_of Word.Build bytes)
-IsPromised Word.Plan bytes = Unit {0}
+abbrev pub IsPromised : Subcommand → List ℕ → Type 0
+IsPromised Subcommand.Build bytes = KeepsPromise (document_of Subcommand.Build bytes) (outcome_of Subcommand.Build bytes)
+IsPromised Subcommand.Plan bytes = Unit {0}
 
 -- a built value was made by as many calls as the script has commands
 abbrev pub IsMadeByCalls : Result Document DocFault → Answer → Type 0

@@ -19,7 +19,7 @@ use Rattle.fr_plan.specs.Build.{Built as Planned, Made, planned as the_plan}
 use Rattle.fr_shape.specs.declared.error.PlanFault.{PlanFault}
 use Rattle.fr_shape.specs.Look.{Table}
 use Rattle.fr_shape.specs.Texts.{plan_fault_text}
-use Rattle.fr_script.specs.declared.word.Word.{Word}
+use Rattle.fr_script.specs.declared.subcommand.Subcommand.{Subcommand}
 use Rattle.fr_script.specs.Documents.{Document, document_of}
 use Rattle.fr_script.specs.PlanReports.{NodeLine, outline_line}
 
@@ -62,14 +62,14 @@ outcome_of_plan table (Err error) = unplanned error.operation
 abbrev pub plan_of : Document → Planned Made
 plan_of document = the_plan document.shapes (record { 0 = document.root })
 
-abbrev pub outcome_of_document : Word → Result Document DocFault → Outcome
-outcome_of_document word (Err fault) = faulty fault
-outcome_of_document Word.Build (Ok document) = outcome_of_run document (run_of document)
-outcome_of_document Word.Plan (Ok document) = outcome_of_plan document.shapes (plan_of document)
+abbrev pub outcome_of_document : Subcommand → Result Document DocFault → Outcome
+outcome_of_document subcommand (Err fault) = faulty fault
+outcome_of_document Subcommand.Build (Ok document) = outcome_of_run document (run_of document)
+outcome_of_document Subcommand.Plan (Ok document) = outcome_of_plan document.shapes (plan_of document)
 
--- what the bytes of an input come to under a word
-abbrev pub outcome_of : Word → List ℕ → Outcome
-outcome_of word bytes = outcome_of_document word (document_of word bytes)
+-- what the bytes of an input come to under a subcommand
+abbrev pub outcome_of : Subcommand → List ℕ → Outcome
+outcome_of subcommand bytes = outcome_of_document subcommand (document_of subcommand bytes)
 
 -- 0 for a value or a plan, 1 where there is none, 2 for a faulty document
 abbrev pub status_of : Outcome → ℕ
@@ -188,11 +188,11 @@ abbrev pub report : Table → (root : ℕ) → Outcome → List ℕ
 report table root outcome = line_of (outcome_data table root outcome)
 
 -- of a document: its own table and root tell the names, and a fault has none
-abbrev pub report_of_document : Word → Result Document DocFault → List ℕ
-report_of_document word (Ok document) =
-    report document.shapes document.root (outcome_of_document word (Ok document))
-report_of_document word (Err fault) = line_of (fault_data fault)
+abbrev pub report_of_document : Subcommand → Result Document DocFault → List ℕ
+report_of_document subcommand (Ok document) =
+    report document.shapes document.root (outcome_of_document subcommand (Ok document))
+report_of_document subcommand (Err fault) = line_of (fault_data fault)
 
--- of the bytes of an input under a word
-abbrev pub report_of : Word → List ℕ → List ℕ
-report_of word bytes = report_of_document word (document_of word bytes)
+-- of the bytes of an input under a subcommand
+abbrev pub report_of : Subcommand → List ℕ → List ℕ
+report_of subcommand bytes = report_of_document subcommand (document_of subcommand bytes)

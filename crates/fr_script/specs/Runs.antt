@@ -3,26 +3,26 @@ use Rattle.std.specs.Prelude.{◌≡◌, ℕ, List, [], ◌∷◌, Option, Some,
 use Rattle.std.specs.declared.alloc.Global.{Global}
 use Rattle.std.specs.Io.KnownBytes.{append_known}
 use Rattle.std.specs.Str.{bytes_eq}
-use Rattle.fr_script.specs.declared.word.Word.{Word}
+use Rattle.fr_script.specs.declared.subcommand.Subcommand.{Subcommand}
 use Rattle.fr_script.specs.Reports.{outcome_of, status_of, report_of}
 
-abbrev pub word_named : List ℕ → Option Word
-word_named name =
-    if bytes_eq name (codes "build") then Some Word.Build else
-    if bytes_eq name (codes "plan") then Some Word.Plan else None
+abbrev pub subcommand_named : List ℕ → Option Subcommand
+subcommand_named name =
+    if bytes_eq name (codes "build") then Some Subcommand.Build else
+    if bytes_eq name (codes "plan") then Some Subcommand.Plan else None
 
--- the word that is asked for: the only one there is
-abbrev pub asked : List (String Global) → Option Word
+-- the subcommand that is asked for: the only one there is
+abbrev pub asked : List (String Global) → Option Subcommand
 asked [] = None
-asked (word ∷ []) = word_named (string_bytes word)
-asked (word ∷ other ∷ words) = None
+asked (subcommand ∷ []) = subcommand_named (string_bytes subcommand)
+asked (subcommand ∷ other ∷ words) = None
 
 -- the line for any other words
 abbrev pub usage_line : List ℕ
 usage_line = codes "usage: build | plan | gen N\n"
 
--- The status is that of what the bytes come to under the word, and their report stands behind what the sink had taken
+-- The status is that of what the bytes come to under the subcommand, and their report stands behind what the sink had taken
 -- before, where that is told.
-pub record Tells (word : Word) (bytes : List ℕ) (ended : ℕ) (before after : Option (List ℕ)) : Type 0 where
-  pub status : ended ≡ status_of (outcome_of word bytes)
-  pub written : after ≡ append_known before (report_of word bytes)
+pub record Tells (subcommand : Subcommand) (bytes : List ℕ) (ended : ℕ) (before after : Option (List ℕ)) : Type 0 where
+  pub status : ended ≡ status_of (outcome_of subcommand bytes)
+  pub written : after ≡ append_known before (report_of subcommand bytes)

@@ -12,8 +12,8 @@ use crate::command_form::script_of;
 use crate::members::members_of;
 use crate::served::is_served;
 use crate::sizes::test_sizes;
+use crate::subcommand::Subcommand;
 use crate::validity::find_invalid;
-use crate::word::Word;
 use fr_doc::{DOCUMENT_LIMIT, DocFault, DocPlace, ReadError, count_of, has_float, shape_of};
 use fr_model::Script;
 use fr_shape::{Items, Shape, ShapeId, ShapeTable};
@@ -29,11 +29,15 @@ pub struct Document {
     pub script: Script,
 }
 
-/// The document that bytes are to a word, or their first fault.
-pub fn read_document(alloc: Global, word: Word, bytes: &[u8]) -> Result<Document, ReadError>
-    ensures document { GivesFor document_view (document_of word bytes.now) result }
+/// The document that bytes are to a subcommand, or their first fault.
+pub fn read_document(
+    alloc: Global,
+    subcommand: Subcommand,
+    bytes: &[u8],
+) -> Result<Document, ReadError>
+    ensures document { GivesFor document_view (document_of subcommand bytes.now) result }
 {
-    let (document, _) = read_with_tree(alloc, word, bytes)?;
+    let (document, _) = read_with_tree(alloc, subcommand, bytes)?;
     Ok(document)
 }
 
@@ -43,10 +47,11 @@ pub fn read_document(alloc: Global, word: Word, bytes: &[u8]) -> Result<Document
 #[tactic(auto, unfolding(crate::specs::Documents::document_of))]
 pub(crate) fn read_with_tree(
     alloc: Global,
-    word: Word,
+    subcommand: Subcommand,
     bytes: &[u8],
 ) -> Result<(Document, Json), ReadError>
-    ensures document { GivesFor (λ read. document_view read.0) (document_of word bytes.now) result }
+    ensures document { GivesFor (λ read. document_view read.0)
+        (document_of subcommand bytes.now) result }
 {
     if bytes.len() > DOCUMENT_LIMIT {
         return Err(ReadError::Fault(DocFault::TooLong));
@@ -55,7 +60,7 @@ pub(crate) fn read_with_tree(
     if has_float(&json) {
         return Err(ReadError::Fault(DocFault::HasFloat));
     }
-    let document = read_form(alloc, word, &json)?;
+    let document = read_form(alloc, subcommand, &json)?;
     if let Err(fault) = test_sizes(&document) {
         return Err(ReadError::Fault(fault));
     }
@@ -81,13 +86,13 @@ fn read_tree(alloc: Global, bytes: &[u8]) -> Result<Json, ReadError>
 
 /// Reads the members of a document one after another, up to the first place whose form is broken.
 #[tactic(auto, unfolding(crate::specs::Documents::document_form))]
-fn read_form(alloc: Global, word: Word, json: &Json) -> Result<Document, ReadError>
-    ensures { GivesFor document_view (document_form word (data_of json.now)) result }
+fn read_form(alloc: Global, subcommand: Subcommand, json: &Json) -> Result<Document, ReadError>
+    ensures { GivesFor document_view (document_form subcommand (data_of json.now)) result }
 {
     let Some(members) = members_of(json) else {
         return Err(ReadError::Fault(DocFault::BadForm(DocPlace::Document)));
     };
-    let shapes = read_shapes(alloc, word, members.shapes)?;
+    let shapes = read_shapes(alloc, subcommand, members.shapes)?;
     let root = read_root(shapes.len(), members.root)?;
     let tokens = read_tokens(members.tokens)?;
     let script = script_of(alloc, members.commands)?;
@@ -99,29 +104,38 @@ fn read_form(alloc: Global, word: Word, json: &Json) -> Result<Document, ReadErr
     })
 }
 
-/// Reads the shapes one after another, up to the first whose form is broken or that the word
+/// Reads the shapes one after another, up to the first whose form is broken or that the subcommand
 /// doesn't take.
 #[tactic(auto, unfolding(crate::specs::Documents::shapes_for))]
-fn read_shapes(alloc: Global, word: Word, json: &Json) -> Result<Items<Shape>, ReadError>
-    ensures { Gives (shapes_for word (data_of json.now)) result }
+fn read_shapes(
+    alloc: Global,
+    subcommand: Subcommand,
+    json: &Json,
+) -> Result<Items<Shape>, ReadError>
+    ensures { Gives (shapes_for subcommand (data_of json.now)) result }
 {
     let Json::Array(items) = json else {
         return Err(ReadError::Fault(DocFault::BadForm(DocPlace::Shapes)));
     };
     let mut shapes = Items::new(alloc);
     for (i, item) in items.iter().enumerate() {
-        shapes.push(read_shape(alloc, word, i, item)?)?;
+        shapes.push(read_shape(alloc, subcommand, i, item)?)?;
     }
     Ok(shapes)
 }
 
-/// The shape of this number in the table's array, if the word takes it.
+/// The shape of this number in the table's array, if the subcommand takes it.
 #[tactic(auto, unfolding(crate::specs::Documents::shape_for))]
-fn read_shape(alloc: Global, word: Word, i: usize, json: &Json) -> Result<Shape, ReadError>
-    ensures { Gives (shape_for word i (data_of json.now)) result }
+fn read_shape(
+    alloc: Global,
+    subcommand: Subcommand,
+    i: usize,
+    json: &Json,
+) -> Result<Shape, ReadError>
+    ensures { Gives (shape_for subcommand i (data_of json.now)) result }
 {
     let shape = shape_of(alloc, i, json)?;
-    if takes(word, &shape) {
+    if takes(subcommand, &shape) {
         return Ok(shape);
     }
     match u32::try_from(i) {
@@ -130,12 +144,12 @@ fn read_shape(alloc: Global, word: Word, i: usize, json: &Json) -> Result<Shape,
     }
 }
 
-fn takes(word: Word, shape: &Shape) -> bool
-    ensures { result ≡ takes word shape.now }
+fn takes(subcommand: Subcommand, shape: &Shape) -> bool
+    ensures { result ≡ takes subcommand shape.now }
 {
-    match word {
-        Word::Build => is_served(shape),
-        Word::Plan => true,
+    match subcommand {
+        Subcommand::Build => is_served(shape),
+        Subcommand::Plan => true,
     }
 }
 

@@ -3,7 +3,7 @@ ghost use Rattle.std.specs.Prelude.{◌≡◌, List, [], ℕ, None, Some, Ok};
 ghost use Rattle.fr_model.specs.Commands.{Call};
 ghost use Rattle.fr_model.specs.Scripts.{IsValid};
 ghost use Rattle.fr_shape.specs.Look.{Table};
-ghost use Rattle.fr_script.specs.declared.word.Word.{Word};
+ghost use Rattle.fr_script.specs.declared.subcommand.Subcommand.{Subcommand};
 ghost use Rattle.fr_script.specs.DocumentFacts.{IsBuildable, IsInOrder, Succeeds};
 ghost use Rattle.fr_script.specs.Documents.{Document, document_of, first_invalid};
 ghost use Rattle.fr_script.specs.FirstInvalid.{IsFirstInvalid};
@@ -22,16 +22,17 @@ pub fn law_valid_scripts()
 
 /// A document without faults is in order, and what one asks for under `build` may be built.
 pub fn law_documents_in_order()
-    ensures in_order { (word : Word) (bytes : List ℕ) (document : Document)
-        → document_of word bytes ≡ Ok document → IsInOrder document }
+    ensures in_order { (subcommand : Subcommand) (bytes : List ℕ) (document : Document)
+        → document_of subcommand bytes ≡ Ok document → IsInOrder document }
     ensures buildable { (bytes : List ℕ) (document : Document)
-        → document_of Word.Build bytes ≡ Ok document → IsBuildable document }
+        → document_of Subcommand.Build bytes ≡ Ok document → IsBuildable document }
 {}
 
 /// A document whose script runs to a value, or whose root can be planned, has the status 0.
 pub fn law_successes()
-    ensures succeeds { (word : Word) (bytes : List ℕ) → Succeeds word (document_of word bytes)
-        → status_of (outcome_of word bytes) ≡ 0 }
+    ensures succeeds { (subcommand : Subcommand) (bytes : List ℕ)
+        → Succeeds subcommand (document_of subcommand bytes)
+        → status_of (outcome_of subcommand bytes) ≡ 0 }
 {
     law_first_refusal();
 }

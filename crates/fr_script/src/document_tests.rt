@@ -10,9 +10,9 @@ use crate::document_laws::law_documents_in_order;
 use crate::plan_answer::PlanAnswer;
 use crate::planning::plan_document;
 use crate::serving::answer;
+use crate::subcommand::Subcommand;
 use crate::tests::NESTED;
 use crate::validity::{ScriptFault, is_valid_script};
-use crate::word::Word;
 use fr_partial::Built;
 use fr_plan::TypePlanNodeKind;
 use fr_shape::{Ledger, NoHooks, Value};
@@ -28,7 +28,7 @@ const DOCUMENT: &str = r#"{"shapes":[
 #[test]
 fn a_document_is_read_and_its_script_is_valid(rt: HostRuntime) -> Result<(), Fail> {
     let alloc = rt.alloc();
-    let document = read_document(alloc, Word::Build, DOCUMENT.as_bytes())
+    let document = read_document(alloc, Subcommand::Build, DOCUMENT.as_bytes())
         .ok()
         .ok_or("a fault")?;
     assert_eq!(rt; document.table.len(), 3);
@@ -101,7 +101,7 @@ fn built_from(alloc: Global, document: Document) -> Result<Built, Fail>
 
 /// The same of the bytes of a document.
 fn built_of(alloc: Global, bytes: &[u8]) -> Result<Built, Fail> {
-    match read_document(alloc, Word::Build, bytes) {
+    match read_document(alloc, Subcommand::Build, bytes) {
         Ok(document) => {
             law_documents_in_order();
             built_from(alloc, document)

@@ -42,6 +42,7 @@ mod running;
 mod served;
 mod serving;
 mod sizes;
+mod subcommand;
 #[cfg(test)]
 mod tests;
 #[cfg(test)]
@@ -49,7 +50,6 @@ mod text_tests;
 mod validity;
 #[cfg(test)]
 mod variant_tests;
-mod word;
 
 pub use answering::Answer;
 pub use building::{ScriptError, build_script};
@@ -65,5 +65,5 @@ pub use planning::plan_document;
 pub use running::run;
 pub use serving::answer;
 pub use sizes::{COMMAND_LIMIT, DEPTH_LIMIT, PART_LIMIT, SHAPE_LIMIT, TOKEN_LIMIT};
+pub use subcommand::Subcommand;
 pub use validity::{ScriptFault, is_valid_script};
-pub use word::Word;

@@ -8,11 +8,11 @@ ghost use Rattle.fr_script.specs.Documents.{document_of};
 ghost use Rattle.fr_script.specs.Headline.{KeepsPromise};
 ghost use Rattle.fr_script.specs.Reports.{outcome_of, report_of};
 ghost use Rattle.fr_script.specs.Runs.{asked, usage_line, Tells};
-ghost use Rattle.fr_script.specs.declared.word.Word.{Word as TheWord};
+ghost use Rattle.fr_script.specs.declared.subcommand.Subcommand.{Subcommand as TheSubcommand};
 
 use crate::document_laws::law_successes;
 use crate::serving::respond;
-use crate::word::Word;
+use crate::subcommand::Subcommand;
 use fr_doc::{INPUT_LIMIT, InputFault, Sink, Source, read_input, write_report};
 use std::alloc::Global;
 
@@ -29,12 +29,13 @@ pub fn run<S: Source, K: Sink>(alloc: Global, words: &[String], source: &mut S, 
 
     // One of the words, where the source tells what it has left: the outcome of all those bytes is
     // reported.
-    ensures reported { (word : TheWord) → asked words.now ≡ Some word → result ≤ 3
+    ensures reported { (subcommand : TheSubcommand) → asked words.now ≡ Some subcommand → result ≤ 3
         → IfSome (S.left source.old) (λ bytes.
-        Tells word bytes result (K.taken sink.old) (K.taken sink.new)) }
-    ensures promised { asked words.now ≡ Some TheWord.Build → result ≤ 3
+        Tells subcommand bytes result (K.taken sink.old) (K.taken sink.new)) }
+    ensures promised { asked words.now ≡ Some TheSubcommand.Build → result ≤ 3
         → IfSome (S.left source.old) (λ bytes.
-        KeepsPromise (document_of TheWord.Build bytes) (outcome_of TheWord.Build bytes)) }
+        KeepsPromise (document_of TheSubcommand.Build bytes)
+        (outcome_of TheSubcommand.Build bytes)) }
     ensures reads { LosesAtMost INPUT_LIMIT (S.left source.old) (S.left source.new) }
 
     // Other words: nothing is read, and the usage line is written.
@@ -47,22 +48,23 @@ pub fn run<S: Source, K: Sink>(alloc: Global, words: &[String], source: &mut S, 
     // The devices' faults, and out of memory.
     ensures complete { ¬ Rose (S.faults source.old) (S.faults source.new)
         → ¬ Rose (K.faults sink.old) (K.faults sink.new) → (result ≤ 3) ⊎ (result ≡ 6) }
-    ensures succeeds { (word : TheWord) → asked words.now ≡ Some word
+    ensures succeeds { (subcommand : TheSubcommand) → asked words.now ≡ Some subcommand
         → ¬ Rose (S.faults source.old) (S.faults source.new)
         → ¬ Rose (K.faults sink.old) (K.faults sink.new)
-        → IfSome (S.left source.old) (λ bytes. Succeeds word (document_of word bytes)
+        → IfSome (S.left source.old) (λ bytes. Succeeds subcommand (document_of subcommand bytes)
         → (result ≡ 0) ⊎ (result ≡ 6)) }
     ensures read_fault { result ≡ 4 → Rose (S.faults source.old) (S.faults source.new) }
     ensures write_fault { result ≡ 5 → Rose (K.faults sink.old) (K.faults sink.new) }
     ensures unwritten { (result ≡ 4) ⊎ (result ≡ 6) → sink.new ≡ sink.old }
-    ensures beginning { (word : TheWord) → asked words.now ≡ Some word → result ≡ 5
+    ensures beginning { (subcommand : TheSubcommand) → asked words.now ≡ Some subcommand
+        → result ≡ 5
         → IfSome (S.left source.old) (λ bytes. TakesBeginning (K.taken sink.old)
-        (K.taken sink.new) (report_of word bytes)) }
+        (K.taken sink.new) (report_of subcommand bytes)) }
     ensures usage_beginning { result ≡ 5 → asked words.now ≡ None
         → TakesBeginning (K.taken sink.old) (K.taken sink.new) usage_line }
 {
     law_successes();
-    let Some(word) = find_word(words) else {
+    let Some(subcommand) = find_subcommand(words) else {
         return match write_report(sink, USAGE.as_bytes()) {
             Ok(()) => 3,
             Err(_) => 5,
@@ -73,7 +75,7 @@ pub fn run<S: Source, K: Sink>(alloc: Global, words: &[String], source: &mut S, 
         Err(InputFault::Failed) => return 4,
         Err(InputFault::OutOfMemory) => return 6,
     };
-    let Ok(response) = respond(alloc, word, bytes.as_slice()) else {
+    let Ok(response) = respond(alloc, subcommand, bytes.as_slice()) else {
         return 6;
     };
     match write_report(sink, response.text.as_bytes()) {
@@ -82,14 +84,14 @@ pub fn run<S: Source, K: Sink>(alloc: Global, words: &[String], source: &mut S, 
     }
 }
 
-/// The word that is asked for, if it is the only one and is known.
-fn find_word(words: &[String]) -> Option<Word>
+/// The subcommand that is asked for, if it is the only one and is known.
+fn find_subcommand(words: &[String]) -> Option<Subcommand>
     ensures { result ≡ asked words.now }
 {
     match words {
-        [word] => match word.as_str() {
-            "build" => Some(Word::Build),
-            "plan" => Some(Word::Plan),
+        [subcommand] => match subcommand.as_str() {
+            "build" => Some(Subcommand::Build),
+            "plan" => Some(Subcommand::Plan),
             _ => None,
         },
         _ => None,

@@ -6,7 +6,7 @@ ghost use Rattle.fr_script.specs.Documents.{document_of};
 ghost use Rattle.fr_script.specs.Headline.{KeepsPromise, IsMadeByCalls, IsPromised};
 ghost use Rattle.fr_script.specs.Outcomes.{is_want_of_memory};
 ghost use Rattle.fr_script.specs.Reading.{document_view};
-ghost use Rattle.fr_script.specs.declared.word.Word.{Word as TheWord};
+ghost use Rattle.fr_script.specs.declared.subcommand.Subcommand.{Subcommand as TheSubcommand};
 ghost use Rattle.fr_script.specs.Reports.{outcome_of, outcome_of_document, outcome_of_run, report_of, report_of_document, run_of, status_of};
 
 use crate::answering::Answer;
@@ -17,7 +17,7 @@ use crate::plan_report::plan_report_of;
 use crate::planning::plan_root;
 use crate::released::released_tokens;
 use crate::report::{report_of, report_of_fault};
-use crate::word::Word;
+use crate::subcommand::Subcommand;
 use fr_doc::ReadError;
 use fr_shape::{Ledger, NoHooks, OutOfMemory, ReflectErrorKind, ShapeTable};
 use serde_json::Value as Json;
@@ -26,13 +26,13 @@ use std::alloc::Global;
 /// Reads a document, runs its script over a new ledger, and returns what came of it.
 pub fn answer(alloc: Global, bytes: &[u8]) -> Result<Answer, OutOfMemory>
     ensures outcome { IfOk result (λ answer.
-        outcome_view answer ≡ outcome_of TheWord.Build bytes.now) }
+        outcome_view answer ≡ outcome_of TheSubcommand.Build bytes.now) }
     ensures promise { IfOk result (λ answer.
-        KeepsPromise (document_of TheWord.Build bytes.now) (outcome_view answer)) }
+        KeepsPromise (document_of TheSubcommand.Build bytes.now) (outcome_view answer)) }
     ensures calls { IfOk result (λ answer.
-        IsMadeByCalls (document_of TheWord.Build bytes.now) answer) }
+        IsMadeByCalls (document_of TheSubcommand.Build bytes.now) answer) }
 {
-    match read_document(alloc, Word::Build, bytes) {
+    match read_document(alloc, Subcommand::Build, bytes) {
         Ok(document) => {
             law_documents_in_order();
             let (_, answer) = answer_document(alloc, document)?;
@@ -97,20 +97,20 @@ pub struct Response {
     tree: Option<Json>,
 }
 
-/// The status and the whole report on a document, under a word.
-pub fn respond(alloc: Global, word: Word, bytes: &[u8]) -> Result<Response, OutOfMemory>
+/// The status and the whole report on a document, under a subcommand.
+pub fn respond(alloc: Global, subcommand: Subcommand, bytes: &[u8]) -> Result<Response, OutOfMemory>
     ensures status { IfOk result (λ response.
-        response.status ≡ status_of (outcome_of word bytes.now)) }
+        response.status ≡ status_of (outcome_of subcommand bytes.now)) }
     ensures text { IfOk result (λ response.
-        string_bytes response.text ≡ report_of word bytes.now) }
-    ensures promise { OnOk result (IsPromised word bytes.now) }
+        string_bytes response.text ≡ report_of subcommand bytes.now) }
+    ensures promise { OnOk result (IsPromised subcommand bytes.now) }
 {
-    match read_with_tree(alloc, word, bytes) {
+    match read_with_tree(alloc, subcommand, bytes) {
         Ok((document, tree)) => {
             law_documents_in_order();
-            let (status, text) = match word {
-                Word::Build => respond_to_build(alloc, document)?,
-                Word::Plan => respond_to_plan(alloc, document)?,
+            let (status, text) = match subcommand {
+                Subcommand::Build => respond_to_build(alloc, document)?,
+                Subcommand::Plan => respond_to_plan(alloc, document)?,
             };
             Ok(Response {
                 status,
@@ -134,11 +134,11 @@ pub fn respond(alloc: Global, word: Word, bytes: &[u8]) -> Result<Response, OutO
 fn respond_to_build(alloc: Global, document: Document) -> Result<(u8, String), OutOfMemory>
     requires { IsBuildable (document_view document) }
     ensures status { IfOk result (λ response. response.0
-        ≡ status_of (outcome_of_document TheWord.Build (Ok (document_view document)))) }
+        ≡ status_of (outcome_of_document TheSubcommand.Build (Ok (document_view document)))) }
     ensures text { IfOk result (λ response. string_bytes response.1
-        ≡ report_of_document TheWord.Build (Ok (document_view document))) }
+        ≡ report_of_document TheSubcommand.Build (Ok (document_view document))) }
     ensures promise { OnOk result (KeepsPromise (Ok (document_view document))
-        (outcome_of_document TheWord.Build (Ok (document_view document)))) }
+        (outcome_of_document TheSubcommand.Build (Ok (document_view document)))) }
 {
     let root = document.root;
     let (table, answer) = answer_document(alloc, document)?;
@@ -152,9 +152,9 @@ fn respond_to_build(alloc: Global, document: Document) -> Result<(u8, String), O
 fn respond_to_plan(alloc: Global, document: Document) -> Result<(u8, String), OutOfMemory>
     requires { IsInOrder (document_view document) }
     ensures status { IfOk result (λ response. response.0
-        ≡ status_of (outcome_of_document TheWord.Plan (Ok (document_view document)))) }
+        ≡ status_of (outcome_of_document TheSubcommand.Plan (Ok (document_view document)))) }
     ensures text { IfOk result (λ response. string_bytes response.1
-        ≡ report_of_document TheWord.Plan (Ok (document_view document))) }
+        ≡ report_of_document TheSubcommand.Plan (Ok (document_view document))) }
 {
     let answer = plan_root(alloc, document)?;
     match plan_report_of(alloc, &answer) {

@@ -7,7 +7,7 @@ use Rattle.fr_doc.specs.declared.fault.DocFault.{DocFault}
 use Rattle.fr_script.specs.Documents.{Document, document_of}
 use Rattle.fr_script.specs.Headline.{KeepsPromise, IsPromised}
 use Rattle.fr_script.specs.Runs.{asked}
-use Rattle.fr_script.specs.declared.word.Word.{Word}
+use Rattle.fr_script.specs.declared.subcommand.Subcommand.{Subcommand}
 use Rattle.fr_script.proofs.TakeLaws.{at_limit, outcome_at_limit, report_at_limit, loses, over_told}
 use Rattle.fr_script.proofs.running.run.Goals as goal
 
@@ -20,30 +20,30 @@ returns-in-Ok-write_report-clause-reads g c = loses INPUT_LIMIT _ _ c.in-Ok-read
 pub returns-clause-reads : goal.returns-clause-reads
 returns-clause-reads g c = loses INPUT_LIMIT _ _ c.in-Ok-read_input.ensures.rest
 
--- what was read has the outcome of all that was left, under the word that is asked for
-same_outcome : (word asked : Word) (read bytes slice : List ℕ) → word ≡ asked → slice ≡ read → read ≡ take INPUT_LIMIT bytes
-    → outcome_of word slice ≡ outcome_of asked bytes
-same_outcome word asked read bytes slice same whole cut =
-    ap (outcome_of word) (whole ∙ cut) ∙ outcome_at_limit word INPUT_LIMIT bytes refl ∙ ap (λ w. outcome_of w bytes) same
+-- what was read has the outcome of all that was left, under the subcommand that is asked for
+same_outcome : (subcommand asked : Subcommand) (read bytes slice : List ℕ) → subcommand ≡ asked → slice ≡ read → read ≡ take INPUT_LIMIT bytes
+    → outcome_of subcommand slice ≡ outcome_of asked bytes
+same_outcome subcommand asked read bytes slice same whole cut =
+    ap (outcome_of subcommand) (whole ∙ cut) ∙ outcome_at_limit subcommand INPUT_LIMIT bytes refl ∙ ap (λ w. outcome_of w bytes) same
 
 -- and their report
-same_report : (word asked : Word) (read bytes slice : List ℕ) → word ≡ asked → slice ≡ read → read ≡ take INPUT_LIMIT bytes
-    → report_of word slice ≡ report_of asked bytes
-same_report word asked read bytes slice same whole cut =
-    ap (report_of word) (whole ∙ cut) ∙ report_at_limit word INPUT_LIMIT bytes refl ∙ ap (λ w. report_of w bytes) same
+same_report : (subcommand asked : Subcommand) (read bytes slice : List ℕ) → subcommand ≡ asked → slice ≡ read → read ≡ take INPUT_LIMIT bytes
+    → report_of subcommand slice ≡ report_of asked bytes
+same_report subcommand asked read bytes slice same whole cut =
+    ap (report_of subcommand) (whole ∙ cut) ∙ report_at_limit subcommand INPUT_LIMIT bytes refl ∙ ap (λ w. report_of w bytes) same
 
-only_word : (found : Option Word) (word asked : Word) → found ≡ Some word → found ≡ Some asked → word ≡ asked
-only_word found word asked is same = cc
+only_one : (found : Option Subcommand) (subcommand asked : Subcommand) → found ≡ Some subcommand → found ≡ Some asked → subcommand ≡ asked
+only_one found subcommand asked is same = cc
 
 pub returns-in-Ok-write_report-clause-reported : goal.returns-in-Ok-write_report-clause-reported
-returns-in-Ok-write_report-clause-reported g c word asks low =
+returns-in-Ok-write_report-clause-reported g c subcommand asks low =
     over_told (g.S.Source.left c.args.source.now) (λ bytes. c.in-Ok-read_input.bytes ≡ take INPUT_LIMIT bytes) _
     (λ bytes cut.
-    let is : c.in-Some.word ≡ word = only_word (asked c.args.words.now) c.in-Some.word word (sym c.in-Some.ensures) asks in
-    let same : outcome_of c.in-Some.word c.as_slice.result.now ≡ outcome_of word bytes
-    = same_outcome c.in-Some.word word c.in-Ok-read_input.bytes bytes c.as_slice.result.now is c.as_slice.ensures.items cut in
-    let told : report_of c.in-Some.word c.as_slice.result.now ≡ report_of word bytes
-    = same_report c.in-Some.word word c.in-Ok-read_input.bytes bytes c.as_slice.result.now is c.as_slice.ensures.items cut in
+    let is : c.in-Some.subcommand ≡ subcommand = only_one (asked c.args.words.now) c.in-Some.subcommand subcommand (sym c.in-Some.ensures) asks in
+    let same : outcome_of c.in-Some.subcommand c.as_slice.result.now ≡ outcome_of subcommand bytes
+    = same_outcome c.in-Some.subcommand subcommand c.in-Ok-read_input.bytes bytes c.as_slice.result.now is c.as_slice.ensures.items cut in
+    let told : report_of c.in-Some.subcommand c.as_slice.result.now ≡ report_of subcommand bytes
+    = same_report c.in-Some.subcommand subcommand c.in-Ok-read_input.bytes bytes c.as_slice.result.now is c.as_slice.ensures.items cut in
     record {
       status = c.in-Ok-respond.ensures.status ∙ ap status_of same;
       written =
@@ -54,12 +54,12 @@ returns-in-Ok-write_report-clause-reported g c word asks low =
     c.in-Ok-read_input.ensures.bytes
 
 pub returns-clause-beginning : goal.returns-clause-beginning
-returns-clause-beginning g c word asks five =
+returns-clause-beginning g c subcommand asks five =
     over_told (g.S.Source.left c.args.source.now) (λ bytes. c.in-Ok-read_input.bytes ≡ take INPUT_LIMIT bytes) _
     (λ bytes cut.
-    let told : report_of c.in-Some.word c.as_slice.result.now ≡ report_of word bytes
-    = same_report c.in-Some.word word c.in-Ok-read_input.bytes bytes c.as_slice.result.now
-    (only_word (asked c.args.words.now) c.in-Some.word word (sym c.in-Some.ensures) asks) c.as_slice.ensures.items cut in
+    let told : report_of c.in-Some.subcommand c.as_slice.result.now ≡ report_of subcommand bytes
+    = same_report c.in-Some.subcommand subcommand c.in-Ok-read_input.bytes bytes c.as_slice.result.now
+    (only_one (asked c.args.words.now) c.in-Some.subcommand subcommand (sym c.in-Some.ensures) asks) c.as_slice.ensures.items cut in
     subst (λ (text : List ℕ). TakesBeginning (g.K.Sink.taken c.args.sink.now) (g.K.Sink.taken c.write_report-2.new.sink) text)
     (c.as_bytes-2.ensures.value ∙ c.in-Ok-respond.ensures.text ∙ told)
     c.in-Err-write_report.ensures.err)
@@ -69,18 +69,19 @@ pub returns-in-Ok-write_report-clause-promised : goal.returns-in-Ok-write_report
 returns-in-Ok-write_report-clause-promised g c asks low =
     over_told (g.S.Source.left c.args.source.now) (λ bytes. c.in-Ok-read_input.bytes ≡ take INPUT_LIMIT bytes) _
     (λ bytes cut.
-    let same : c.in-Some.word ≡ Word.Build = only_word (asked c.args.words.now) c.in-Some.word Word.Build (sym c.in-Some.ensures) asks in
-    subst (λ (document : Result Document DocFault). KeepsPromise document (outcome_of_document Word.Build document))
-    (ap (document_of Word.Build) (c.as_slice.ensures.items ∙ cut) ∙ at_limit Word.Build INPUT_LIMIT bytes refl)
-    (subst (λ (word : Word). IsPromised word c.as_slice.result.now) same c.in-Ok-respond.ensures.promise))
+    let same : c.in-Some.subcommand ≡ Subcommand.Build
+    = only_one (asked c.args.words.now) c.in-Some.subcommand Subcommand.Build (sym c.in-Some.ensures) asks in
+    subst (λ (document : Result Document DocFault). KeepsPromise document (outcome_of_document Subcommand.Build document))
+    (ap (document_of Subcommand.Build) (c.as_slice.ensures.items ∙ cut) ∙ at_limit Subcommand.Build INPUT_LIMIT bytes refl)
+    (subst (λ (subcommand : Subcommand). IsPromised subcommand c.as_slice.result.now) same c.in-Ok-respond.ensures.promise))
     c.in-Ok-read_input.ensures.bytes
 
 pub returns-in-Ok-write_report-clause-succeeds : goal.returns-in-Ok-write_report-clause-succeeds
-returns-in-Ok-write_report-clause-succeeds g c word asks calm quiet =
+returns-in-Ok-write_report-clause-succeeds g c subcommand asks calm quiet =
     over_told (g.S.Source.left c.args.source.now) (λ bytes. c.in-Ok-read_input.bytes ≡ take INPUT_LIMIT bytes) _
     (λ bytes cut succeeds.
-    let same : outcome_of c.in-Some.word c.as_slice.result.now ≡ outcome_of word bytes
-    = same_outcome c.in-Some.word word c.in-Ok-read_input.bytes bytes c.as_slice.result.now
-    (only_word (asked c.args.words.now) c.in-Some.word word (sym c.in-Some.ensures) asks) c.as_slice.ensures.items cut in
-    inl (c.in-Ok-respond.ensures.status ∙ ap status_of same ∙ c.law_successes.ensures.succeeds word bytes succeeds))
+    let same : outcome_of c.in-Some.subcommand c.as_slice.result.now ≡ outcome_of subcommand bytes
+    = same_outcome c.in-Some.subcommand subcommand c.in-Ok-read_input.bytes bytes c.as_slice.result.now
+    (only_one (asked c.args.words.now) c.in-Some.subcommand subcommand (sym c.in-Some.ensures) asks) c.as_slice.ensures.items cut in
+    inl (c.in-Ok-respond.ensures.status ∙ ap status_of same ∙ c.law_successes.ensures.succeeds subcommand bytes succeeds))
     c.in-Ok-read_input.ensures.bytes

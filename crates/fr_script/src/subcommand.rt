@@ -2,7 +2,7 @@
 
 /// `Build` runs a document's script, `Plan` plans the document's root.
 #[derive(Clone, Copy, PartialEq, Eq)]
-pub enum Word {
+pub enum Subcommand {
     Build,
     Plan,
 }
