@@ -116,7 +116,7 @@ valid_is hooks table s tracker i made v e = go _ e
     go (Some kind) e = cc
     go None e = e
 
--- what a hole takes, if it takes anything, as a child of this form
+-- what a hole takes, if it takes anything, as a child of a place that is begun so
 taken_template : (column : Column) (table : Table) (s : ℕ) (tracker : Tracker) (i : ℕ) (v : Val) → IsChecked table
     → hole_takes column table s tracker i ≡ Some v → IsTemplate table (child_as table s tracker i) v
 taken_template column table s (as_fields None) i v checked e = fill_template column table s i v checked e

@@ -3,7 +3,7 @@ use Rattle.std.proofs.Common.{◌≡◌, ◌<◌, if◌then◌else◌, ◌∷◌
 use Rattle.fr_model.proofs.Common.{ℕ, zero, suc, Bool, true, false, List, [], length, length-append, Option, Some, None, refl, sym, ◌∙◌, ap, subst, arith, option_map, Def, Operation, fits, all_keys_once, members_keys_once, Table, def_of, is_dynamic, vals_occur, Val, dyn, Dynamics, Members, dyn_array, dyn_object, no_dynamics, first_dynamic, no_members, member, is_begun_object, array_of, object_of, array_anew, object_anew, begun_array, begun_object, kept_array, kept_object, entry_refusal, entry_found, entry_number, number_or_last, and_entry, with_entry, element_vals, member_vals, member_keys, elements_in, members_of_object, dynamic_in, Tracker, as_items, ItemsKind, as_entries, EntriesKind, Tree, hole, whole, begun, Trees, no_trees, branch, and_last, count_trees, wholes, fresh, tree_occurs, trees_occur, Mode, strict, deferred, TakesItemsAs, HasEntries, IsTouched, AreTouched, AreDone, Suits, RestsAround, IsOff, AllOff, AtCursor, OffBut}
 use Rattle.fr_model.proofs.Becoming.{stays_kept, Placed, Becoming, IsKept, becoming}
 use Rattle.fr_model.proofs.Items.{last_suits, last_touched, last_leads, last_holds, wholes_touched}
-use Rattle.fr_model.proofs.Basis.{apart_last, found_at, member_keys_apart, enter_touched, fresh_suits, fresh_at_cursor, wholes_off, all_deferred, rests_here, wholes_rest, fresh_rests, rest_but, last_rests, count_last, SuitFrom, settled_as, both_true, fresh_holds, wholes_hold, done_but, done_none, without_last}
+use Rattle.fr_model.proofs.Basis.{apart_last, found_at, member_keys_apart, enter_touched, fresh_suits, fresh_at_cursor, wholes_off, all_deferred, rests_here, wholes_rest, fresh_rests, rest_but, last_rests, count_last, SuitFrom, settled_as, both_true, fresh_holds, opened_holds, done_but, done_none, without_last}
 
 pub dynamic_def : (def : Def) → is_dynamic def ≡ true → def ≡ Def.Dynamic
 dynamic_def Def.Dynamic e = refl
@@ -27,10 +27,6 @@ elements_suit table s is i no_dynamics once = tt
 elements_suit table s is i (first_dynamic d ds) once =
     let both = both_true _ _ once in (rw (settled_as table s is refl) both.0, elements_suit table s is (suc i) ds both.1)
 
-elements_hold : (ds : Dynamics) (t : ℕ) → vals_occur (element_vals ds) t ≡ 0
-elements_hold no_dynamics t = refl
-elements_hold (first_dynamic d ds) t = let rest = elements_hold ds t in omega arith
-
 whole_array_keeps : (mode : Mode) (table : Table) (s : ℕ) (v : Val) (kept : Tree) → def_of table s ≡ Def.Dynamic
     → fits table s v ≡ true → option_map array_of (elements_in (dynamic_in v)) ≡ Some kept → IsKept mode table s [] (whole v) kept
 whole_array_keeps mode table s (dyn (dyn_array ds)) kept is fit e =
@@ -42,7 +38,7 @@ whole_array_keeps mode table s (dyn (dyn_array ds)) kept is fit e =
         leads = wholes_off mode _;
       };
       rest = λ rested. (record { values = element_vals ds; are = refl }, wholes_rest _);
-      hold = λ t. wholes_hold _ t ∙ elements_hold ds t;
+      hold = λ t. opened_holds (as_items ItemsKind.Array) 0 (whole (dyn (dyn_array ds))) t;
     })
 whole_array_keeps mode table s (dyn _) kept is fit e = cc
 whole_array_keeps mode table s _ kept is fit e = cc
@@ -75,10 +71,6 @@ members_suit table s keys is i (member key d ms) once =
     let both = both_true _ _ first.0 in
     (rw (settled_as table s is refl) both.1, members_suit table s keys is (suc i) ms first.1)
 
-members_hold : (ms : Members) (t : ℕ) → vals_occur (member_vals ms) t ≡ 0
-members_hold no_members t = refl
-members_hold (member key d ms) t = let rest = members_hold ms t in omega arith
-
 members_counted : (ms : Members) → count_trees (wholes (member_vals ms)) ≡ length (member_keys ms)
 members_counted no_members = refl
 members_counted (member key d ms) = ap suc (members_counted ms)
@@ -99,7 +91,7 @@ whole_object_keeps mode table s (dyn (dyn_object ms)) kept is fit e =
         leads = wholes_off mode _;
       };
       rest = λ rested. (record { values = member_vals ms; are = refl }, wholes_rest _);
-      hold = λ t. wholes_hold _ t ∙ members_hold ms t;
+      hold = λ t. opened_holds (as_entries (EntriesKind.Object [])) 0 (whole (dyn (dyn_object ms))) t;
     })
 whole_object_keeps mode table s (dyn _) kept is fit e = cc
 whole_object_keeps mode table s _ kept is fit e = cc

@@ -140,7 +140,7 @@ rightly_changed table s tracker ts i change touched =
     right_kept table s tracker ts _ (content_changed ts i change touched) (all_changed ts i change touched)
     (entries_changed ts i change touched)
 
--- the children that a place of this form has, or gets when child i is entered
+-- the children that a place that is begun so has, or gets when child i is entered
 pub record Opening (mode : Mode) (table : Table) (s i : ℕ) (tracker : Tracker) (t : Tree) : Type 0 where
   pub children : Trees
   pub is : opened (def_of table s) t ≡ begun tracker children

@@ -132,7 +132,7 @@ has_pointee table (Def.Pointer pointer) e = go pointer.constructible pointer.poi
     go false pointee e = cc
 has_pointee table _ e = cc
 
--- what its form asks of a begun place, whatever its children are: a pointer to a slice is one, and an object has no key twice
+-- what is asked of a place that is begun so, whatever its children are: a pointer to a slice is one, and an object has no key twice
 abbrev pub IsSoundAs : Table → ℕ → Tracker → Type 0
 IsSoundAs table s (as_items ItemsKind.Slice) = MayPoint table s true
 IsSoundAs table s (as_items ItemsKind.ClosedSlice) = MayPoint table s true

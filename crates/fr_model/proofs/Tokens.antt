@@ -1,6 +1,8 @@
 -- How often a token stands in a tree that is changed at one place.
 use Rattle.std.proofs.Common.{◌≡◌, ◌+◌, ◌<◌, if◌then◌else◌, ◌∷◌}
-use Rattle.fr_model.proofs.Common.{ℕ, zero, suc, Bool, true, false, [], refl, ◌∙◌, arith, None, Def, is_empty_struct, Table, def_of, Vals, Entries, product, list_of, set_of, map_of, no_vals, first, no_entries, entry, vals_occur, entries_occur, Place, child_count, in_turn, Tracker, as_fields, as_elements, as_items, ItemsKind, as_entries, EntriesKind, tracker_of, fresh, Tree, hole, entered, whole, begun, Trees, no_trees, branch, tree_nth, change_nth, tree_at, change_child, change_at, count_trees, holes, wholes, tree_occurs, trees_occur, Mode, opened_as, enter, enter_child, Leads}
+use Rattle.fr_model.proofs.Common.{ℕ, zero, suc, Bool, true, false, [], refl, ◌∙◌, arith, Option, Some, None, Def, is_empty_struct, Table, def_of, Vals, product, no_vals, first, occurs, vals_occur, Place, child_count, Tracker, tracker_of, fresh, Tree, hole, entered, whole, begun, Trees, no_trees, branch, tree_nth, change_nth, tree_at, change_child, change_at, count_trees, holes, wholes, tree_occurs, trees_occur, Mode, opened_as, opened_value, parts_as, enter, enter_child, Leads}
+use Rattle.std.specs.Prelude.{IfSome}
+use Rattle.fr_model.specs.PartLaws.{parts_hold}
 use Rattle.fr_model.proofs.Agreement.{leads_within, leads_child}
 
 -- a child is entered
@@ -13,19 +15,16 @@ pub wholes_hold : (vs : Vals) (t : ℕ) → trees_occur (wholes vs) t ≡ vals_o
 wholes_hold no_vals t = refl
 wholes_hold (first v vs) t = let rest = wholes_hold vs t in omega arith
 
-pub turns_hold : (es : Entries) (t : ℕ) → vals_occur (in_turn es) t ≡ entries_occur es t
-turns_hold no_entries t = refl
-turns_hold (entry k v es) t = let rest = turns_hold es t in omega arith
-
 pub opened_holds : (tracker : Tracker) (count : ℕ) (tree : Tree) (t : ℕ)
     → tree_occurs (opened_as tracker count tree) t ≡ tree_occurs tree t
+opened_holds tracker count hole t = refl
 opened_holds tracker count entered t = holes_hold count t
-opened_holds (as_fields None) count (whole (product vs)) t = wholes_hold vs t
-opened_holds as_elements count (whole (product vs)) t = wholes_hold vs t
-opened_holds (as_items ItemsKind.List) count (whole (list_of vs)) t = wholes_hold vs t
-opened_holds (as_items ItemsKind.Set) count (whole (set_of vs)) t = wholes_hold vs t
-opened_holds (as_entries (EntriesKind.Map base)) count (whole (map_of es)) t = wholes_hold (in_turn es) t ∙ turns_hold es t
-opened_holds _ count _ t = refl
+opened_holds tracker count (begun made trees) t = refl
+opened_holds tracker count (whole v) t = go (parts_as tracker v) (parts_hold tracker v t)
+  where
+    go : (parts : Option Vals) → IfSome parts (λ vs. vals_occur vs t ≡ occurs v t) → tree_occurs (opened_value tracker v parts) t ≡ occurs v t
+    go (Some vs) same = wholes_hold vs t ∙ same
+    go None same = refl
 
 -- a fresh place holds no token
 -- what holds of a place that is entered, and of the empty product where there are no fields, holds of a fresh place

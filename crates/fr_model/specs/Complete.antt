@@ -134,8 +134,8 @@ made_by Def.Other preset of_fills = None
 abbrev pub made_of_entered : Column → Meanings → Table → ℕ → Option Val
 made_of_entered column hooks table s = made_by (def_of table s) (preset_of table s) (made_of_fills column hooks table s)
 
--- The value that a place of shape s makes: a whole place its own; an entered place as above; a begun place what its form
--- makes of its children's, of which a hole takes its fill, where each makes one that passes its validators. A hole by
+-- The value that a place of shape s makes: a whole place its own; an entered place as above; a begun place what is
+-- made, as it is begun, of its children's, of which a hole takes its fill, where each makes one that passes its validators. A hole by
 -- itself makes none.
 abbrev mutual
   pub complete : Column → Meanings → Table → ℕ → Tree → Option Val

@@ -1,6 +1,6 @@
 -- The parts of dynamic values: elements of arrays, and entries of objects under their keys.
 use Rattle.std.specs.Prelude.{◌&&◌, ◌∷◌}
-use Rattle.fr_model.specs.Common.{ℕ, zero, suc, Bool, true, not, List, [], Option, Some, None, bytes_eq, Val, Vals, dyn, no_vals, first, Dynamic, Dynamics, Members, dyn_null, dyn_array, dyn_object, no_dynamics, first_dynamic, no_members, member}
+use Rattle.fr_model.specs.Common.{ℕ, zero, suc, Bool, true, not, List, [], Option, Some, None, option_map_or, bytes_eq, Val, Vals, dyn, no_vals, first, Dynamic, Dynamics, Members, dyn_null, dyn_array, dyn_object, no_dynamics, first_dynamic, no_members, member}
 
 -- What parts make
 
@@ -40,6 +40,10 @@ elements_in _ = None
 abbrev pub members_of_object : Dynamic → Option Members
 members_of_object (dyn_object ms) = Some ms
 members_of_object _ = None
+
+-- the keys of the entries that a dynamic object's value has
+abbrev pub object_keys : Val → List (List ℕ)
+object_keys v = option_map_or member_keys (members_of_object (dynamic_in v)) []
 
 -- Keys
 

@@ -1,7 +1,9 @@
 -- How a place is entered: each way on to one of its children, what becomes of the place, and where the cursor goes.
 use Rattle.std.specs.Prelude.{◌∷◌, ◌++◌}
-use Rattle.fr_model.specs.Common.{ℕ, [], List, Option, Some, None, unwrap_or, Def, Table, def_of, Val, Vals}
-use Rattle.fr_model.specs.Basis.{with_key, content_anew, entry_number, with_entry, count_children, parts_of, items_of, set_items_of, entries_of, Tracker, as_fields, as_elements, as_content, as_items, ItemsKind, as_entries, EntriesKind, tracker_of, tracker_at, over_base, Tree, hole, entered, whole, begun, for_hole, wholes, holes, fresh, child_as, count_below, change_child, change_at, State, cursor_tree, one_more_call}
+use Rattle.fr_model.specs.Common.{ℕ, [], List, Option, Some, None, option_map, unwrap_or, Def, Table, def_of, Val, Vals, no_vals, first}
+use Rattle.fr_model.specs.Basis.{with_key, content_anew, entry_number, with_entry, count_children, parts_of, items_of, set_items_of, entries_of, Tracker, as_fields, as_elements, as_content, ContentKind, as_items, ItemsKind, as_entries, EntriesKind, tracker_of, tracker_at, over_base, Tree, hole, entered, whole, begun, for_hole, wholes, holes, fresh, child_as, count_below, change_child, change_at, State, cursor_tree, one_more_call}
+use Rattle.fr_model.specs.Contents.{content_of}
+use Rattle.fr_model.specs.Dynamics.{dynamic_in, elements_in, element_vals, members_of_object, member_vals}
 use Rattle.fr_model.specs.Items.{with_item}
 
 -- A child as it is
@@ -11,20 +13,23 @@ abbrev pub opened_value : Tracker → Val → (parts : Option Vals) → Tree
 opened_value tracker v (Some vs) = begun (over_base tracker v) (wholes vs)
 opened_value tracker v None = whole v
 
--- the values of the children that a value has at a place that is to be begun so: a list's or a set's of its items, a map's of its
--- entries, a struct's or an array's of its parts
+-- the values of the children that a value has at a place that is to be begun so: a struct's or an array's of its parts, an option's of
+-- what it holds, a list's, a set's or a dynamic array's of its items, a map's or a dynamic object's of its entries
 abbrev pub parts_as : Tracker → Val → Option Vals
 parts_as (as_fields None) v = parts_of v
 parts_as as_elements v = parts_of v
 parts_as (as_items ItemsKind.List) v = items_of v
 parts_as (as_fields (Some k)) v = None
-parts_as (as_content kind) v = None
+parts_as (as_content ContentKind.Some) v = option_map (λ (held : Val). first held no_vals) (content_of v)
+parts_as (as_content ContentKind.Ok) v = None
+parts_as (as_content ContentKind.Err) v = None
+parts_as (as_content ContentKind.Pointer) v = None
 parts_as (as_items ItemsKind.Slice) v = None
 parts_as (as_items ItemsKind.ClosedSlice) v = None
 parts_as (as_items ItemsKind.Set) v = set_items_of v
 parts_as (as_entries (EntriesKind.Map base)) v = entries_of v
-parts_as (as_items ItemsKind.Array) v = None
-parts_as (as_entries (EntriesKind.Object keys)) v = None
+parts_as (as_items ItemsKind.Array) v = option_map element_vals (elements_in (dynamic_in v))
+parts_as (as_entries (EntriesKind.Object keys)) v = option_map member_vals (members_of_object (dynamic_in v))
 
 -- a place that is to be begun so, with so many children, as they see it: an entered one has a hole for each, a whole one
 -- is begun with whole children, a begun one stays as it is

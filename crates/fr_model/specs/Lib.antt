@@ -30,6 +30,7 @@ pub mod Journal
 pub mod Kinds
 pub mod Laws
 pub mod ListExamples
+pub mod PartLaws
 pub mod PathLaws
 pub mod Paths
 pub mod Places

@@ -38,18 +38,18 @@ abbrev pub HasBegun : Tree → Type 0
 HasBegun (begun tracker children) = Unit {0}
 HasBegun _ = ⊥
 
--- the place is begun in just this form
+-- the place is begun just so
 abbrev pub HasBegunAs : Tracker → Tree → Type 0
 HasBegunAs tracker (begun made children) = made ≡ tracker
 HasBegunAs tracker _ = ⊥
 
--- what is kept of a place, if anything is, is begun in this form
+-- what is kept of a place, if anything is, is begun so
 abbrev pub IsKeptAs : Tracker → (kept : Option Tree) → Type 0
 IsKeptAs tracker (Some tree) = HasBegunAs tracker tree
 IsKeptAs tracker None = Unit {0}
 
 -- A way on is admitted at such a place: to an item or a key where the place is begun, to an entry where it is begun as a dynamic
--- object, and to the one child of a form where what is kept is begun in that form. To a child by its number it always is.
+-- object, and to the one child of a place that is begun around it where what is kept is begun so. To a child by its number it always is.
 abbrev pub IsAdmittedOn : Tree → Way → Type 0
 IsAdmittedOn tree (Way.Child i) = Unit {0}
 IsAdmittedOn tree Way.Item = HasBegun tree
@@ -65,7 +65,7 @@ EnteringAddsItsStep =
     → path_of (enters table (cursor_shape table root state) state way)
     ≡ path_of state ++ step_on (def_of table (cursor_shape table root state)) (cursor_tree state) way ∷ []
 
--- what the commands keep of a side, of what a pointer points to, and of an option is begun in the form that they enter
+-- what the commands keep of a side, of what a pointer points to, and of an option is begun as what they enter
 abbrev pub KeptIsAdmitted : Type 0
 KeptIsAdmitted =
     (table : Table) (s : ℕ) (state : State) (tracker : Tracker)

@@ -23,7 +23,7 @@ abbrev pub FitsIfAny : Table → Option (ℕ × Val) → Type 0
 FitsIfAny table (Some (shape, v)) = IsIn table shape × (fits table shape v ≡ true)
 FitsIfAny table None = Unit {0}
 
--- the tokens that a command, or a script, brings, in order
+-- the tokens that a command brings, in order
 abbrev pub tokens_of : Call → List ℕ
 tokens_of command = tokens_if_any (value_brought command)
 

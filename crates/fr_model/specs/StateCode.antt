@@ -6,7 +6,7 @@ use mathlib.Core.Path.{ap, ◌∙◌}
 use Rattle.fr_shape.specs.Code.{val_code}
 use Rattle.fr_model.specs.Basis.{Tracker, as_fields, as_elements, as_content, ContentKind, as_items, ItemsKind, as_entries, EntriesKind, base_of_tracker, keys_of_tracker, tracker_number, Tree, hole, entered, whole, begun, Trees, no_trees, branch, Mode, strict, deferred, State}
 
--- the form that has a number, and of a map this base, of an object these keys
+-- the tracker that has a number, and of a map this base, of an object these keys
 abbrev pub tracker_numbered : ℕ → (base : ℕ) → (keys : List (List ℕ)) → Tracker
 tracker_numbered zero base keys = as_fields None
 tracker_numbered (suc zero) base keys = as_elements
@@ -23,7 +23,7 @@ tracker_numbered (suc (suc (suc (suc (suc (suc (suc (suc (suc (suc (suc zero))))
 tracker_numbered (suc (suc (suc (suc (suc (suc (suc (suc (suc (suc (suc (suc zero)))))))))))) base keys = as_entries (EntriesKind.Object keys)
 tracker_numbered (suc (suc (suc (suc (suc (suc (suc (suc (suc (suc (suc (suc (suc k))))))))))))) base keys = as_fields (Some k)
 
--- the keys of a form, as values that give them back
+-- the keys of an object, as values that give them back
 
 abbrev pub stored_keys : List (List ℕ) → Vals
 stored_keys [] = no_vals

@@ -2,6 +2,7 @@
 use Rattle.std.specs.Prelude.{◌+◌, ◌∷◌, if◌then◌else◌}
 use Rattle.fr_model.specs.Common.{ℕ, zero, suc, min, List, [], Option, Some, None, Def, Val, Vals, product, no_vals, first, occurs, is_empty_struct, Table, def_of, field_in}
 use Rattle.fr_model.specs.Trackers.{Tracker, as_fields, as_elements, as_content, ContentKind, as_items, ItemsKind, as_entries, EntriesKind, variant_of}
+use Rattle.fr_model.specs.Dynamics.{object_keys}
 use Rattle.fr_model.specs.Places.{Place, child_shape, shape_of_field, content_shape, ok_shape, err_shape, pointee_shape, item_shape, is_key, entry_shape, base_in}
 
 -- as what a place of this definition is begun by entering a field, an element or an item
@@ -40,14 +41,14 @@ abbrev pub selected : Tree → Option ℕ
 selected (begun tracker children) = variant_of tracker
 selected _ = None
 
--- as what a place that holds a value is begun: a map over the entries of the value
+-- as what a place that holds a value is begun: a map over the entries of the value, a dynamic object under the keys that it has
 abbrev pub over_base : Tracker → Val → Tracker
 over_base (as_entries (EntriesKind.Map base)) v = as_entries (EntriesKind.Map (base_in v))
 over_base (as_fields selected) v = as_fields selected
 over_base as_elements v = as_elements
 over_base (as_content kind) v = as_content kind
 over_base (as_items kind) v = as_items kind
-over_base (as_entries (EntriesKind.Object keys)) v = as_entries (EntriesKind.Object keys)
+over_base (as_entries (EntriesKind.Object keys)) v = as_entries (EntriesKind.Object (object_keys v))
 
 -- as what a place of this definition is begun once a part of it is entered: a begun one stays what it is
 abbrev pub tracker_at : Def → Tree → Tracker
