@@ -1,14 +1,14 @@
 -- What a place comes to, and its tokens.
 use Rattle.std.proofs.Common.{◌≡◌, ℕ, zero, suc, ◌+◌, Bool, true, false, List, [], ◌∷◌, length, replicate, option_map, Option, Some, None, IsSome, refl, sym, ◌∙◌, ap, arith, if◌then◌else◌}
-use Rattle.fr_frame.specs.Common.{Body, Cell, Conserved, ContentKind, Def, Entries, EntriesKind, HasAllChildren, IsFullAs, ItemsKind, Tracker, Val, Vals, Value, absent, as_content, as_elements, as_entries, as_fields, as_items, begun_body, body_occurs, cells_occur, cells_of_vals, entered_body, entries_occur, entries_of, entry, first, given, in_turn, made, map_of, no_entries, no_vals, occurs, opened, opened_some, parts_of, placed, product, set_items_of, vals_occur, vals_view, value_of, values_of, whole_body}
+use Rattle.fr_frame.specs.Common.{Body, Cell, Conserved, ContentKind, Def, Entries, EntriesKind, HasAllChildren, IfSome, IsFullAs, ItemsKind, Tracker, Val, Vals, Value, absent, as_content, as_elements, as_entries, as_fields, as_items, begun_body, body_occurs, cells_occur, cells_of_vals, dyn, element_vals, entered_body, entries_occur, entry, first, given, in_turn, made, map_of, member_vals, no_entries, no_vals, occurs, placed, product, vals_occur, vals_view, value_of, values_of, whole_body}
 use Rattle.fr_shape.specs.declared.shape.ShapeId.{ShapeId}
-use Rattle.fr_shape.specs.Val.{list_of, set_of, some}
+use Rattle.fr_shape.specs.Val.{Dynamics, Members, dyn_array, dyn_object, no_dynamics, first_dynamic, no_members, member, list_of, set_of, some}
 use Rattle.fr_model.specs.Complete.{value_as}
-use Rattle.fr_model.specs.Contents.{content_of}
-use Rattle.fr_model.specs.Places.{items_of, vals_nth}
+use Rattle.fr_model.specs.Places.{vals_nth}
+use Rattle.fr_model.specs.PartLaws.{parts_hold}
 use Rattle.fr_model.specs.Step.{parts_as}
 use Rattle.fr_model.specs.Well.{PointsTo}
-use Rattle.fr_frame.specs.Bodies.{boxes, can_make, gathers, is_around, is_one, opened_around, opened_by}
+use Rattle.fr_frame.specs.Bodies.{boxes, can_make, gathers, is_around, is_one}
 use Rattle.fr_frame.proofs.CellLaws.{values_occur}
 
 -- a place with a value lacks no child
@@ -154,70 +154,19 @@ vals_cells (first v vs) t = ap (λ (n : ℕ). occurs v t + n) (vals_cells vs t)
 pub whole_as_meant : (v w : Val) → Some v ≡ Some w → whole_body v ≡ whole_body w
 whole_as_meant v w e = let same : v ≡ w = cc in ap whole_body same
 
--- a value's parts, or its items, have its tokens
-
-product_occurs : (v : Val) (cells : List Cell) (t : ℕ) → option_map cells_of_vals (parts_of v) ≡ Some cells
-    → cells_occur cells t ≡ occurs v t
-product_occurs (product vs) cells t e =
-    let same : cells_of_vals vs ≡ cells = cc in
-    ap (λ (cs : List Cell). cells_occur cs t) (sym same) ∙ vals_cells vs t
-product_occurs _ cells t e = let no : None ≡ Some cells = e in cc
-
-list_occurs : (v : Val) (cells : List Cell) (t : ℕ) → option_map cells_of_vals (items_of v) ≡ Some cells
-    → cells_occur cells t ≡ occurs v t
-list_occurs (list_of vs) cells t e =
-    let same : cells_of_vals vs ≡ cells = cc in
-    ap (λ (cs : List Cell). cells_occur cs t) (sym same) ∙ vals_cells vs t
-list_occurs _ cells t e = let no : None ≡ Some cells = e in cc
-
-set_occurs : (v : Val) (cells : List Cell) (t : ℕ) → option_map cells_of_vals (set_items_of v) ≡ Some cells
-    → cells_occur cells t ≡ occurs v t
-set_occurs (set_of vs) cells t e =
-    let same : cells_of_vals vs ≡ cells = cc in
-    ap (λ (cs : List Cell). cells_occur cs t) (sym same) ∙ vals_cells vs t
-set_occurs _ cells t e = let no : None ≡ Some cells = e in cc
-
-turn_occurs : (es : Entries) (t : ℕ) → vals_occur (in_turn es) t ≡ entries_occur es t
-turn_occurs no_entries t = refl
-turn_occurs (entry k v es) t = omega (arith, turn_occurs es t)
-
-map_occurs : (v : Val) (cells : List Cell) (t : ℕ) → option_map cells_of_vals (entries_of v) ≡ Some cells
-    → cells_occur cells t ≡ occurs v t
-map_occurs (map_of es) cells t e =
-    let same : cells_of_vals (in_turn es) ≡ cells = cc in
-    ap (λ (cs : List Cell). cells_occur cs t) (sym same) ∙ vals_cells (in_turn es) t ∙ turn_occurs es t
-map_occurs _ cells t e = let no : None ≡ Some cells = e in cc
-
-pub parts_occur : (tracker : Tracker) (v : Val) (cells : List Cell) (t : ℕ) → option_map cells_of_vals (parts_as tracker v) ≡ Some cells
-    → cells_occur cells t ≡ occurs v t
-parts_occur (as_fields None) v cells t e = product_occurs v cells t e
-parts_occur as_elements v cells t e = product_occurs v cells t e
-parts_occur (as_items ItemsKind.List) v cells t e = list_occurs v cells t e
-parts_occur (as_items ItemsKind.Set) v cells t e = set_occurs v cells t e
-parts_occur (as_entries (EntriesKind.Map base)) v cells t e = map_occurs v cells t e
-parts_occur _ v cells t e = let no : None ≡ Some cells = e in cc
+-- a value's parts have its tokens
 
 pub none_occur : (count t : ℕ) → cells_occur (replicate count absent) t ≡ 0
 none_occur zero t = refl
 none_occur (suc count) t = omega (arith, none_occur count t)
 
-opened_value : (tracker : Tracker) (v : Val) (parts : Option Vals) (t : ℕ) → ((vs : Vals) → parts ≡ Some vs → vals_occur vs t ≡ occurs v t)
-    → body_occurs (opened_by tracker v parts) t ≡ occurs v t
-opened_value tracker v (Some vs) t same = vals_cells vs t ∙ same vs refl
-opened_value tracker v None t same = refl
-
-parts_have : (tracker : Tracker) (v : Val) (t : ℕ) (vs : Vals) → parts_as tracker v ≡ Some vs → vals_occur vs t ≡ occurs v t
-parts_have tracker v t vs e = sym (vals_cells vs t) ∙ parts_occur tracker v (cells_of_vals vs) t (ap (option_map cells_of_vals) e)
-
-pub opened_occurs : (tracker : Tracker) (count : ℕ) (body : Body) (t : ℕ) → body_occurs (opened tracker count body) t ≡ body_occurs body t
-opened_occurs tracker count entered_body t = none_occur count t
-opened_occurs tracker count (whole_body v) t = opened_value tracker v (parts_as tracker v) t (parts_have tracker v t)
-opened_occurs tracker count (begun_body as_before cells) t = refl
-
-opened_content : (v : Val) (t : ℕ) → body_occurs (opened_around v (content_of v)) t ≡ occurs v t
-opened_content (some held) t = let one : occurs held t + 0 ≡ occurs held t = omega arith in one
-opened_content _ t = refl
-
-pub opened_some_occurs : (body : Body) (t : ℕ) → body_occurs (opened_some body) t ≡ body_occurs body t
-opened_some_occurs (whole_body v) t = opened_content v t
-opened_some_occurs _ t = refl
+pub parts_occur : (tracker : Tracker) (v : Val) (cells : List Cell) (t : ℕ) → option_map cells_of_vals (parts_as tracker v) ≡ Some cells
+    → cells_occur cells t ≡ occurs v t
+parts_occur tracker v cells t = go (parts_as tracker v) (parts_hold tracker v t)
+  where
+    go : (parts : Option Vals) → IfSome parts (λ vs. vals_occur vs t ≡ occurs v t) → option_map cells_of_vals parts ≡ Some cells
+        → cells_occur cells t ≡ occurs v t
+    go (Some vs) same e =
+        let is : cells_of_vals vs ≡ cells = cc in
+        ap (λ (cs : List Cell). cells_occur cs t) (sym is) ∙ vals_cells vs t ∙ same
+    go None same e = let no : None ≡ Some cells = e in cc

@@ -39,19 +39,16 @@ cells_same bits other i (v ∷ vs) same =
 -- one child changed
 pub cells_set : (bits other : BitSet) (i : ℕ) (vs : List Value) (k : ℕ) (v : Value) (c : Cell)
     → ((j : ℕ) → j ≢ i + k → finite.contains other.members j ≡ finite.contains bits.members j)
-    → cell (finite.contains other.members (i + k)) (view v) ≡ c
-    → cells_of other i (set vs k v) ≡ set (cells_of bits i vs) k c
+    → cell (finite.contains other.members (i + k)) (view v) ≡ c → cells_of other i (set vs k v) ≡ set (cells_of bits i vs) k c
 cells_set bits other i [] k v c same is = refl
 cells_set bits other i (w ∷ vs) zero v c same is =
     let here : i ≡ i + 0 = omega arith in
     ap (λ (n : ℕ). cell (finite.contains other.members n) (view v) ∷ cells_of other (suc i) vs) here
-    ∙ ap (λ (d : Cell). d ∷ cells_of other (suc i) vs) is
-    ∙ ap (λ (cs : List Cell). c ∷ cs)
+    ∙ ap (λ (d : Cell). d ∷ cells_of other (suc i) vs) is ∙ ap (λ (cs : List Cell). c ∷ cs)
     (cells_same bits other (suc i) vs (λ j h. same j (let ne : j ≢ i + 0 = omega arith in ne)))
 cells_set bits other i (w ∷ vs) (suc k) v c same is =
     let here : suc i + k ≡ i + suc k = omega arith in
-    ap (λ (b : Bool). cell b (view w) ∷ cells_of other (suc i) (set vs k v))
-    (same i (let ne : i ≢ i + suc k = omega arith in ne))
+    ap (λ (b : Bool). cell b (view w) ∷ cells_of other (suc i) (set vs k v)) (same i (let ne : i ≢ i + suc k = omega arith in ne))
     ∙ ap (λ (cs : List Cell). cell (finite.contains bits.members i) (view w) ∷ cs)
     (cells_set bits other (suc i) vs k v c (λ j h. same j (let ne : j ≢ i + suc k = omega arith in ne))
     (ap (λ (n : ℕ). cell (finite.contains other.members n) (view v)) here ∙ is))
@@ -64,8 +61,7 @@ cells_absent bits i [] clear gone = refl
 cells_absent bits i (v ∷ vs) clear gone =
     let here : view v ≡ unit = All-head (λ (x : Value). view x ≡ unit) v vs gone in
     ap (λ (b : Bool). cell b (view v) ∷ cells_of bits (suc i) vs) (clear i)
-    ∙ ap (λ (x : Val). in_slot x ∷ cells_of bits (suc i) vs) here
-    ∙ ap (λ (cs : List Cell). absent ∷ cs)
+    ∙ ap (λ (x : Val). in_slot x ∷ cells_of bits (suc i) vs) here ∙ ap (λ (cs : List Cell). absent ∷ cs)
     (cells_absent bits (suc i) vs clear (All-tail (λ (x : Value). view x ≡ unit) v vs gone))
 
 -- all there
@@ -75,8 +71,7 @@ pub cells_given : (bits : BitSet) (i : ℕ) (vs : List Value)
 cells_given bits i [] full = refl
 cells_given bits i (v ∷ vs) full =
     ap (λ (b : Bool). cell b (view v) ∷ cells_of bits (suc i) vs) (full i (omega arith) (omega arith))
-    ∙ ap (λ (cs : List Cell). given (view v) ∷ cs)
-    (cells_given bits (suc i) vs (λ j h k. full j (omega arith) (omega arith)))
+    ∙ ap (λ (cs : List Cell). given (view v) ∷ cs) (cells_given bits (suc i) vs (λ j h k. full j (omega arith) (omega arith)))
 
 pub values_of_given : (vs : List Value) → values_of (map (λ (v : Value). given (view v)) vs) ≡ Some (vals_view vs)
 values_of_given [] = refl
@@ -101,8 +96,7 @@ pub cells_put : (bits other : BitSet) (vs : List Value) (cs : List Cell) (k : �
 cells_put bits other vs cs k v c e same is =
     let here : k ≡ 0 + k = omega arith in
     cells_set bits other 0 vs k v c (λ j h. same j (let ne : j ≢ k = omega arith in ne))
-    (ap (λ (n : ℕ). cell (finite.contains other.members n) (view v)) (sym here) ∙ is)
-    ∙ ap (λ (ds : List Cell). set ds k c) e
+    (ap (λ (n : ℕ). cell (finite.contains other.members n) (view v)) (sym here) ∙ is) ∙ ap (λ (ds : List Cell). set ds k c) e
 
 pub nth_is : (vs : List Value) (k : ℕ) (v : Value) → k < length vs → v ≡ get_or vs k v → slice_get vs k ≡ Some v
 nth_is [] k v h e = absurd (omega arith)
@@ -145,8 +139,7 @@ no_value_here cs k b v e is =
 
 pub slot_here : (cs : List Cell) (k : ℕ) (b : Bool) (v : Val) → slice_get cs k ≡ Some (cell b v) → b ≡ false
     → slot_of_cell (in_slot v) ≡ slot_at cs k
-slot_here cs k b v e is =
-    sym (ap (option_and_then slot_of_cell) e ∙ ap (λ (d : Bool). slot_of_cell (cell d v)) is)
+slot_here cs k b v e is = sym (ap (option_and_then slot_of_cell) e ∙ ap (λ (d : Bool). slot_of_cell (cell d v)) is)
 
 pub no_slot_of_value : (cs : List Cell) (k : ℕ) (b : Bool) (v : Val) → slice_get cs k ≡ Some (cell b v) → b ≡ true → slot_at cs k ≡ None
 no_slot_of_value cs k b v e is = ap (option_and_then slot_of_cell) e ∙ ap (λ (d : Bool). slot_of_cell (cell d v)) is
@@ -180,10 +173,10 @@ missing_value bits i (v ∷ vs) (suc k) h e =
     none_more (Some v) = refl
     none_more None = refl
 
-element : (vs : List Value) (k : ℕ) → k < length vs → (v : Value) × (slice_get vs k ≡ Some v)
+element : {X : Type 0} (xs : List X) (k : ℕ) → k < length xs → (x : X) × (slice_get xs k ≡ Some x)
 element [] k h = absurd (omega arith)
-element (v ∷ vs) zero h = (v, refl)
-element (v ∷ vs) (suc k) h = element vs k (omega arith)
+element (x ∷ xs) zero h = (x, refl)
+element (x ∷ xs) (suc k) h = element xs k (omega arith)
 
 element_cell : (bits : BitSet) (vs : List Value) (cs : List Cell) (k : ℕ) → cells_of bits 0 vs ≡ cs → k < length cs
     → (v : Val) × (slice_get cs k ≡ Some (cell (finite.contains bits.members k) v))
@@ -233,8 +226,7 @@ values_from bits i (v ∷ vs) h = go (finite.contains bits.members i) refl (λ k
 
 pub values_are : (bits : BitSet) (vs : List Value) (cs : List Cell) → cells_of bits 0 vs ≡ cs → IsSome (values_of cs)
     → values_of cs ≡ Some (vals_view vs)
-values_are bits vs cs e h =
-    ap values_of (sym e) ∙ values_from bits 0 vs (ap (λ (ds : List Cell). is_some (values_of ds)) e ∙ h)
+values_are bits vs cs e h = ap values_of (sym e) ∙ values_from bits 0 vs (ap (λ (ds : List Cell). is_some (values_of ds)) e ∙ h)
 
 -- where a value is missing some bit isn't set, and where one bit isn't set a value is missing
 pub bits_by : (bits : BitSet) (i : ℕ) (vs : List Value) → IsSome (values_of (cells_of bits i vs)) → (j : ℕ) → i ≤ j → j < i + length vs
@@ -276,16 +268,14 @@ cells_by_values (given u ∷ cs) vs e = go (values_of cs) refl (λ ws. cells_by_
   where
     go : (rest : Option Vals) → values_of cs ≡ rest
         → ((ws : List Value) → values_of cs ≡ Some (vals_view ws) → cs ≡ map (λ (v : Value). given (view v)) ws)
-        → (vs : List Value) → one_more (Some u) rest ≡ Some (vals_view vs)
-        → given u ∷ cs ≡ map (λ (v : Value). given (view v)) vs
+        → (vs : List Value) → one_more (Some u) rest ≡ Some (vals_view vs) → given u ∷ cs ≡ map (λ (v : Value). given (view v)) vs
     go None is so vs e = let no : None ≡ Some (vals_view vs) = e in cc
     go (Some us) is so [] e = let no : Some (first u us) ≡ Some no_vals = e in cc
     go (Some us) is so (v ∷ vs) e =
         let both_are : Some (first u us) ≡ Some (first (view v) (vals_view vs)) = e in
         let here : u ≡ view v = cc in
         let others : us ≡ vals_view vs = cc in
-        ap (λ (w : Val). given w ∷ cs) here
-        ∙ ap (λ (l : List Cell). given (view v) ∷ l)
+        ap (λ (w : Val). given w ∷ cs) here ∙ ap (λ (l : List Cell). given (view v) ∷ l)
         (so vs (is ∙ ap (λ (ws : Vals). Some ws) others))
 
 -- Tokens of children.
@@ -306,16 +296,11 @@ pub cell_value_occurs : (c : Cell) (t : ℕ) → cell_occurs c t ≡ value_occur
 cell_value_occurs absent t = refl
 cell_value_occurs _ t = refl
 
-pub cell_there : (cs : List Cell) (k : ℕ) → k < length cs → (c : Cell) × (slice_get cs k ≡ Some c)
-cell_there [] k h = absurd (omega arith)
-cell_there (c ∷ cs) zero h = (c, refl)
-cell_there (c ∷ cs) (suc k) h = cell_there cs k (omega arith)
-
 -- a child whose value is taken
 pub occur_taken : (cs : List Cell) (k : ℕ) (d : Cell) (t : ℕ) → k < length cs
     → cells_occur (set cs k d) t + value_occurs (value_at cs k) t ≡ cells_occur cs t + cell_occurs d t
 occur_taken cs k d t h =
-    let at : (c : Cell) × (slice_get cs k ≡ Some c) = cell_there cs k h in
+    let at : (c : Cell) × (slice_get cs k ≡ Some c) = element cs k h in
     let value : value_occurs (value_at cs k) t ≡ cell_occurs at.0 t
     = ap (λ (o : Option Cell). value_occurs (option_and_then value_of_cell o) t) at.1 ∙ sym (cell_value_occurs at.0 t) in
     omega (arith, occur_set cs k at.0 d t at.1)
@@ -380,8 +365,7 @@ module _ (all now : List Cell) (before ledger : List ℕ) (n : ℕ) (so_far : Re
   releasing_room v h e =
       Room_fewer (occurs v) (cells_occur now) ledger
       (λ t. let is : occurs v t ≡ value_occurs (value_at now n) t = ap (λ (o : Option Val). value_occurs o t) e in
-      omega (arith, taken_out t h))
-      so_far.room
+      omega (arith, taken_out t h)) so_far.room
 
   pub releasing_step : (next : List Cell) (after : List ℕ) → n < length now → next ≡ set now n absent
       → RoseBy (value_occurs (value_at now n)) ledger after → Releasing all next before after (n + 1)
@@ -394,8 +378,7 @@ module _ (all now : List Cell) (before ledger : List ℕ) (n : ℕ) (so_far : Re
         room =
             Room_risen (value_occurs (value_at now n)) (cells_occur (set now n absent)) ledger after
             (Room_same (cells_occur now) (both (value_occurs (value_at now n)) (cells_occur (set now n absent))) ledger
-            (λ t. omega (arith, taken_out t h)) so_far.room)
-            rose;
+            (λ t. omega (arith, taken_out t h)) so_far.room) rose;
         cleared = cleared_more now n h so_far.cleared;
       })
 
@@ -403,8 +386,7 @@ module _ (all now : List Cell) (before ledger : List ℕ) (n : ℕ) (so_far : Re
   releasing_ends h = record {
     same_length = so_far.same_length;
     each = λ t.
-        let none : cells_occur now t ≡ 0
-        = all_cleared now t (λ k l u. so_far.cleared k (omega (arith, so_far.count)) u) in
+        let none : cells_occur now t ≡ 0 = all_cleared now t (λ k l u. so_far.cleared k (omega (arith, so_far.count)) u) in
         omega (arith, so_far.released t);
   }
 
@@ -464,12 +446,8 @@ pub cells_pushed : (bits wide other : BitSet) (vs : List Value) (cs : List Cell)
     → in_slot (view v) ≡ absent → cells_of other 0 (vs ++ v ∷ []) ≡ cs ++ absent ∷ []
 cells_pushed bits wide other vs cs v e same unset gone =
     let here : 0 + length vs ≡ length vs = omega arith in
-    cells_more bits other 0 vs v absent
-    (λ j ne.
-    unset j
+    cells_more bits other 0 vs v absent (λ j ne. unset j
     ∙ bit_unset (length vs) j (finite.contains wide.members j) (let other_one : j ≢ length vs = omega arith in other_one)
-    ∙ same j)
-    (ap (λ (n : ℕ). cell (finite.contains other.members n) (view v)) here
+    ∙ same j) (ap (λ (n : ℕ). cell (finite.contains other.members n) (view v)) here
     ∙ ap (λ (b : Bool). cell b (view v)) (unset (length vs) ∙ bit_unset_here (length vs) (finite.contains wide.members (length vs)))
-    ∙ gone)
-    ∙ ap (λ (ds : List Cell). ds ++ absent ∷ []) e
+    ∙ gone) ∙ ap (λ (ds : List Cell). ds ++ absent ∷ []) e

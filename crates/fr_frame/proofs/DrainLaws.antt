@@ -4,8 +4,9 @@ use Rattle.fr_frame.specs.Common.{Box, Cell, FreesItem, FreesItems, Global, Held
 use Rattle.std.proofs.lemmas.Bool.{eq-eqb, false≢true}
 use Rattle.std.proofs.lemmas.Bool.Decides.{eqb_tells}
 use Rattle.std.proofs.lemmas.Option.{get_or_from_slice_get, slice_get_read}
-use Rattle.fr_frame.specs.Items.{IsItemFreed, IsListAt}
+use Rattle.fr_frame.specs.Items.{IsItemFreed}
 use Rattle.fr_frame.proofs.SeenLaws.{HoldSame, items_set, seen_as_same, slot_seen_same}
+use Rattle.fr_frame.proofs.HeapLaws.{set_gets, set_keeps}
 
 -- Children that are filled in, from number `at` on.
 
@@ -33,25 +34,12 @@ filled_from held n i (suc at) k (c ∷ cells) slot items e h =
 filled_next : (held : Held) (n at : ℕ) (cells now : List Cell) (slot : SlotId) (items : List SlotId) → at < length cells
     → now ≡ set cells at (item_cell held n at slot)
     → with_items held n 0 (at + 1) now items ≡ with_items held n 0 at cells (slot ∷ items)
-filled_next held n at cells now slot items h is =
-    rw (add-one, is) (filled_from held n 0 at at cells slot items (omega arith) h)
+filled_next held n at cells now slot items h is = rw (add-one, is) (filled_from held n 0 at at cells slot items (omega arith) h)
 
 -- Slots.
 
-pub set_gets : {X : Type 0} (xs : List X) (i : ℕ) (x y : X) → slice_get xs i ≡ Some x → slice_get (set xs i y) i ≡ Some y
-set_gets [] i x y e = cc
-set_gets (z ∷ xs) zero x y e = refl
-set_gets (z ∷ xs) (suc i) x y e = set_gets xs i x y e
-
-pub set_keeps : {X : Type 0} (xs : List X) (i : ℕ) (y : X) (j : ℕ) → j ≢ i → slice_get (set xs i y) j ≡ slice_get xs j
-set_keeps [] i y j ne = refl
-set_keeps (z ∷ xs) zero y zero ne = absurd (ne refl)
-set_keeps (z ∷ xs) zero y (suc j) ne = refl
-set_keeps (z ∷ xs) (suc i) y zero ne = refl
-set_keeps (z ∷ xs) (suc i) y (suc j) ne = set_keeps xs i y j (λ (e : j ≡ i). ne (ap (λ (k : ℕ). suc k) e))
-
 -- an item of another list, or with another number
-other_list : (n i : ℕ) (item : Item) → item.list.0 ≢ n → value_held n i (Some item) ≡ None
+pub other_list : (n i : ℕ) (item : Item) → item.list.0 ≢ n → value_held n i (Some item) ≡ None
 other_list n i item ne = go (eqb_tells item.list.0 n)
   where
     go : ((nat_eq item.list.0 n ≡ true) × (item.list.0 ≡ n)) ⊎ ((nat_eq item.list.0 n ≡ false) × (item.list.0 ≢ n))
@@ -59,7 +47,7 @@ other_list n i item ne = go (eqb_tells item.list.0 n)
     go (inl same) = absurd (ne same.1)
     go (inr other) = rw other.0 refl
 
-other_item : (n i : ℕ) (item : Item) → item.number ≢ i → value_held n i (Some item) ≡ None
+pub other_item : (n i : ℕ) (item : Item) → item.number ≢ i → value_held n i (Some item) ≡ None
 other_item n i item ne = go (eqb_tells item.number i) (nat_eq item.list.0 n)
   where
     held : (of_list is_number : Bool) → Option Val
@@ -70,6 +58,12 @@ other_item n i item ne = go (eqb_tells item.number i) (nat_eq item.list.0 n)
     go (inl same) b = absurd (ne same.1)
     go (inr other) true = rw other.0 refl
     go (inr other) false = refl
+
+pub item_held : (n i : ℕ) (item : Item) → item.list.0 ≡ n → item.number ≡ i → value_held n i (Some item) ≡ Some (view item.value)
+item_held n i item list number =
+    let of_list : nat_eq item.list.0 n ≡ true = eq-eqb item.list.0 n list in
+    let numbered : nat_eq item.number i ≡ true = eq-eqb item.number i number in
+    rw (of_list, numbered) refl
 
 -- An item that is sought where it is: it is there, and its slot is free once it was taken out.
 
@@ -99,8 +93,7 @@ module _ (slots : List Slot) (n i m at : ℕ) (slot : Slot) (is : is_some (value
   there = item_there slots m n i is
 
   is_there : slot ≡ Slot.Item there.0
-  is_there =
-      read ∙ ap (λ (k : ℕ). get_or slots k slot) same ∙ get_or_from_slice_get slots m (Slot.Item there.0) slot there.1
+  is_there = read ∙ ap (λ (k : ℕ). get_or slots k slot) same ∙ get_or_from_slice_get slots m (Slot.Item there.0) slot there.1
 
   pub taken_is : (item : Item) × (slot ≡ Slot.Item item)
   taken_is = (there.0, is_there)
@@ -109,13 +102,8 @@ module _ (slots : List Slot) (n i m at : ℕ) (slot : Slot) (is : is_some (value
   taken_value item e =
       let both : Slot.Item item ≡ Slot.Item there.0 = sym e ∙ is_there in
       let one : item ≡ there.0 = cc in
-      sym (ap (λ (o : Option Slot). value_held n i (option_and_then item_in o)) there.1 ∙ held ∙ ap (λ (x : Item). Some (view x.value)) (sym one))
-    where
-      held : value_held n i (Some there.0) ≡ Some (view there.0.value)
-      held =
-          let of_list : nat_eq there.0.list.0 n ≡ true = eq-eqb there.0.list.0 n there.2 in
-          let numbered : nat_eq there.0.number i ≡ true = eq-eqb there.0.number i there.3 in
-          rw (of_list, numbered) refl
+      sym (ap (λ (o : Option Slot). value_held n i (option_and_then item_in o)) there.1 ∙ item_held n i there.0 there.2 there.3
+      ∙ ap (λ (x : Item). Some (view x.value)) (sym one))
 
   pub taken_freed : (now : Slot) (next : Option SlotId) → now ≡ Slot.Free next → IsItemFreed slots (set slots at now) m n i
   taken_freed now next e = record {
@@ -201,13 +189,10 @@ others_hold n a b l ne each here m i = go (eqb_tells m n)
     freed : FreesItem n (slice_get a m) (slice_get b m) → held (slice_get a m) ≡ held (slice_get b m)
     freed (inl same) = ap held same
     freed (inr item) =
-        ap held item.2
-        ∙ other_list l i item.0 (λ (e : item.0.list.0 ≡ l). ne (sym e ∙ item.3))
-        ∙ sym (ap held item.4)
+        ap held item.2 ∙ other_list l i item.0 (λ (e : item.0.list.0 ≡ l). ne (sym e ∙ item.3)) ∙ sym (ap held item.4)
 
     go : ((nat_eq m n ≡ true) × (m ≡ n)) ⊎ ((nat_eq m n ≡ false) × (m ≢ n)) → held (slice_get a m) ≡ held (slice_get b m)
-    go (inl same) =
-        subst (λ (k : ℕ). held (slice_get a k) ≡ held (slice_get b k)) (sym same.1) (ap (value_held l i) here)
+    go (inl same) = subst (λ (k : ℕ). held (slice_get a k) ≡ held (slice_get b k)) (sym same.1) (ap (value_held l i) here)
     go (inr other) = freed (each m other.1)
 
 -- all slots are seen as they were where the list's own is
@@ -220,8 +205,7 @@ drained_seen n a b each here is = seen_as_same a b (λ (m : ℕ). go m (eqb_tell
     SeenSame : ℕ → Type 0
     SeenSame m = option_map (slot_seen (items_of a) m) (slice_get a m) ≡ option_map (slot_seen (items_of b) m) (slice_get b m)
 
-    seen : (m : ℕ) (o : Option Slot) → m ≢ n
-        → option_map (slot_seen (items_of a) m) o ≡ option_map (slot_seen (items_of b) m) o
+    seen : (m : ℕ) (o : Option Slot) → m ≢ n → option_map (slot_seen (items_of a) m) o ≡ option_map (slot_seen (items_of b) m) o
     seen m None ne = refl
     seen m (Some slot) ne = ap (λ (x : Slot). Some x) (slot_seen_same (items_of a) (items_of b) m slot (others_hold n a b m ne each here))
 
@@ -257,8 +241,7 @@ module _ (n : ℕ) (a b : List Slot) (place : Place) (items : Box (Rope SlotId) 
       rw (set_keeps b n (Slot.Used (record place { piece = piece })) m ne, ← set_keeps a n Slot.Reserved m ne) (frees.each m)
 
   drain_as_many : length drained ≡ length a
-  drain_as_many =
-      length-set b n (Slot.Used (record place { piece = piece })) ∙ frees.as_many ∙ length-set a n Slot.Reserved
+  drain_as_many = length-set b n (Slot.Used (record place { piece = piece })) ∙ frees.as_many ∙ length-set a n Slot.Reserved
 
   drain_plain : IsPlainAt drained n
   drain_plain = subst (λ (o : Option Slot). IsSomeAnd o IsPlain) (sym used) tt
@@ -300,26 +283,13 @@ is_drained n a b at to slot kept place items piece h at_is read is kept_is frees
   where
     was : slice_get a n ≡ Some (Slot.List place items)
     was =
-        ap (slice_get a) (sym at_is) ∙ slice_get_read a (length a) at slot refl h read
-        ∙ ap (λ (x : Slot). Some x) is
+        ap (slice_get a) (sym at_is) ∙ slice_get_read a (length a) at slot refl h read ∙ ap (λ (x : Slot). Some x) is
 
     freed : FreesItems n (set a n Slot.Reserved) b
     freed = rw (at_is, kept_is) at frees
 
     filled : piece ≡ piece_with (items_of (set a n Slot.Reserved)) n items.value.items place.piece
     filled = rw (at_is, kept_is) at put
-
--- a list's slot is one of them
-pub list_inside : (slots : List Slot) (n : ℕ) → IsListAt slots n → n < length slots
-list_inside [] n list = absurd list
-list_inside (s ∷ slots) zero list = omega arith
-list_inside (s ∷ slots) (suc n) list = let k : n < length slots = list_inside slots n list in omega arith
-
--- what is read at a list's slot is a list
-pub list_read : (slots : List Slot) (n at : ℕ) (slot : Slot) → at ≡ n → slot ≡ get_or slots at slot → IsListAt slots n → is_list slot ≡ true
-list_read slots n at slot e read list =
-    subst (λ (o : Option Slot). IsSomeAnd o (λ (s : Slot). is_list s ≡ true))
-    (ap (slice_get slots) (sym e) ∙ slice_get_read slots (length slots) at slot refl (omega (arith, list_inside slots n list, e)) read) list
 
 -- the list with its items
 pub list_in : (slot : Slot) → is_list slot ≡ true → (place : Place) × (items : Box (Rope SlotId) Global) × (slot ≡ Slot.List place items)

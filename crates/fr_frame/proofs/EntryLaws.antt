@@ -1,7 +1,7 @@
 -- The children of a whole map: the keys and values of its entries, in turn.
 use Rattle.std.proofs.Common.{◌≡◌, ℕ, zero, suc, ◌+◌, ◌≤◌, List, [], ◌∷◌, ◌++◌, length, replicate, ◌*◌, Option, Some, set, refl, sym, ◌∙◌, ap, subst, arith}
-use Rattle.fr_frame.specs.Common.{Cell, IfSome, Vals, Value, absent, cells_of_vals, entries_view, given, in_turn, view}
-use Rattle.fr_model.specs.Places.{count_entries}
+use Rattle.fr_frame.specs.Common.{Cell, Entries, IfSome, IsSome, Val, Vals, Value, absent, cells_of_vals, entries_of, entries_view, entry, given, in_turn, map_of, no_entries, view}
+use Rattle.fr_model.specs.Places.{base_in, count_entries}
 
 abbrev pub entry_cells : List (Value × Value) → List Cell
 entry_cells es = cells_of_vals (in_turn (entries_view es))
@@ -120,3 +120,13 @@ as_many found es count cells is counted made =
     let so : count + count ≡ length (entry_cells es)
     = subst (λ (o : Option Vals). IfSome o (λ vs. count + count ≡ length (cells_of_vals vs))) is counted in
     omega (arith, so, entry_count es, ap length made, none_length (2 * count))
+
+turns_counted : (es : Entries) → length (cells_of_vals (in_turn es)) ≡ count_entries es + count_entries es
+turns_counted no_entries = refl
+turns_counted (entry key held es) = omega (arith, turns_counted es)
+
+-- as many as the entries of the value, which are its base
+pub base_counted : (v : Val) (count : ℕ) → IsSome (entries_of v) → IfSome (entries_of v) (λ vs. count + count ≡ length (cells_of_vals vs))
+    → count ≡ base_in v
+base_counted (map_of es) count has counted = omega (arith, turns_counted es, counted)
+base_counted _ count has counted = absurd (cc)

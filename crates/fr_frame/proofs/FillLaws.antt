@@ -1,7 +1,7 @@
 -- Filling the children that aren't there, one after the other.
-use Rattle.std.proofs.Common.{◌≡◌, ℕ, zero, suc, ◌+◌, ◌<◌, ◌≤◌, Bool, true, false, ◌&&◌, List, [], ◌∷◌, ◌++◌, length, replicate, Option, Some, None, IsSome, slice_get, set, refl, sym, ◌∙◌, ap, subst, arith, below_more}
+use Rattle.std.proofs.Common.{◌≡◌, ℕ, zero, suc, ◌+◌, ◌≤◌, Bool, true, false, ◌&&◌, List, [], ◌∷◌, ◌++◌, length, replicate, Option, Some, None, IsSome, slice_get, set, refl, sym, ◌∙◌, ap, subst, arith}
 use Rattle.std.specs.List.{list_all, flat_map}
-use Rattle.fr_frame.specs.Common.{AreUnplaced, Cell, Column, ContentKind, Def, EntriesKind, Field, IsChecked, IsLightFill, ItemsKind, KeepGiven, Table, Tracker, Val, Vals, Value, VariantDef, absent, as_content, as_elements, as_entries, as_fields, as_items, cells_occur, deferred_column, field_in, field_of_variant, fields_of_tracker, fill_of_field, filled, given, hole_takes, is_some, occurs, one_more, option_copied, option_map, option_or, placed, preset_of, strict_column, tokens, value_at, value_occurs, value_of_cell, values_of}
+use Rattle.fr_frame.specs.Common.{AreUnplaced, Body, Cell, Column, Def, Field, IsChecked, IsClosed, IsFull, IsFullAs, KeepGiven, KeepsTracker, ReflectErrorKind, Table, Tracker, Val, Value, VariantDef, absent, as_fields, begun_body, body_occurs, cell_occurs, cells_occur, child_count, def_of, defaulted, defaulted_by, defaulted_cell, defaulted_cells, defaulted_nth, defaulted_struct, deferred_column, entered_body, field_in, field_of_variant, fields_of_tracker, fill_of_field, first_asked, given, hole_takes, is_some, occurs, option_copied, option_map, option_or, placed, preset_of, strict_column, tokens, value_at, value_of_cell, values_of, whole_body, Vals, one_more, value_occurs}
 use Rattle.std.specs.Borrow.{Bor}
 use Rattle.std.specs.Prelude.{option_to_list}
 use Rattle.fr_shape.specs.declared.shape.Shape.{Shape}
@@ -13,10 +13,13 @@ use Rattle.fr_shape.specs.Lists.{is_nil}
 use Rattle.fr_shape.specs.Look.{def_or_other}
 use Rattle.fr_shape.specs.Tokens.{times}
 use Rattle.fr_shape.specs.TokenLaws.{occurs_times}
-use Rattle.fr_model.specs.Places.{fill_by, fill_in}
+use Rattle.fr_model.specs.Places.{count_children, fill_by, fill_in}
+use Rattle.fr_frame.specs.Asking.{defaulted_first}
+use Rattle.fr_frame.specs.Bodies.{IsUnplaced}
+use Rattle.fr_frame.specs.Defaults.{taken}
 use Rattle.fr_frame.specs.Filling.{child_value}
+use Rattle.fr_frame.proofs.AskLaws.{both_there}
 use Rattle.fr_frame.proofs.TrackerLaws.{others_take}
-use Rattle.fr_frame.proofs.CellLaws.{occur_taken}
 
 -- Templates of a checked table hold no token.
 
@@ -25,8 +28,7 @@ both_true true true h = (refl, refl)
 both_true true false h = absurd (cc)
 both_true false b h = absurd (cc)
 
-all_at : {X : Type 0} (p : X → Bool) (xs : List X) (i : ℕ) (x : X) → list_all p xs ≡ true → slice_get xs i ≡ Some x
-    → p x ≡ true
+all_at : {X : Type 0} (p : X → Bool) (xs : List X) (i : ℕ) (x : X) → list_all p xs ≡ true → slice_get xs i ≡ Some x → p x ≡ true
 all_at p [] i x h e = absurd (cc)
 all_at p (y ∷ ys) zero x h e =
     let same : y ≡ x = cc in
@@ -56,11 +58,9 @@ preset_light table s v checked e = go (slice_get table s) refl
     go : (found : Option Shape) → slice_get table s ≡ found → tokens v ≡ []
     go None h = let none : preset_of table s ≡ None = rw h refl in absurd (cc)
     go (Some shape) h =
-        in_preset table s shape.preset v
-        (both_true (list_all (is_template table s) (option_to_list shape.preset))
+        in_preset table s shape.preset v (both_true (list_all (is_template table s) (option_to_list shape.preset))
         (list_all (λ (field : Field). default_is_template table field.shape.0 field.default) (fields_of shape.def))
-        (checked.templates s shape h)).0
-        (rw h at e)
+        (checked.templates s shape h)).0 (rw h at e)
 
 module _ (table : Table) (s : ℕ) (of_variant : Bool) (field : Field) (v : Val) (checked : IsChecked table)
     (own : default_is_template table field.shape.0 field.default ≡ true) where
@@ -141,11 +141,8 @@ fill_light column table s selected i v checked e = go (slice_get table s) refl
     go : (found : Option Shape) → slice_get table s ≡ found → tokens v ≡ []
     go None h = let none : fill_in column table s selected i ≡ None = rw h refl in absurd (cc)
     go (Some shape) h =
-        at_field (field_in shape.def selected i) refl
-        (subst
-        (λ (found : Option Shape).
-        fill_of_field column table s (is_some selected) (field_in (def_or_other found) selected i) ≡ Some v)
-        h e)
+        at_field (field_in shape.def selected i) refl (subst (λ (found : Option Shape).
+        fill_of_field column table s (is_some selected) (field_in (def_or_other found) selected i) ≡ Some v) h e)
       where
         defaults : list_all (λ (field : Field). default_is_template table field.shape.0 field.default) (fields_of shape.def) ≡ true
         defaults =
@@ -168,168 +165,220 @@ takes_light column table s (as_fields None) i v checked e = fill_light column ta
 takes_light column table s (as_fields (Some k)) i v checked e = fill_light column table s (Some k) i v checked e
 takes_light column table s _ i v checked e = absurd (cc)
 
--- What the children are filled to.
+-- Putting fills there, one child after the other.
 
-both_there : (value : Option Val) (values : Option Vals) → IsSome (one_more value values) → IsSome value × IsSome values
-both_there (Some v) (Some vs) h = (refl, refl)
-both_there (Some v) None h = absurd (cc)
-both_there None values h = absurd (cc)
+-- a child that is there stays
+pub nth_there : (fill : Option Val) (i : ℕ) (cs : List Cell) → IsSome (value_at cs i) → defaulted_nth fill i cs ≡ cs
+nth_there fill i [] h = refl
+nth_there fill zero (given w ∷ cs) h = refl
+nth_there fill zero (absent ∷ cs) h = absurd (cc)
+nth_there fill zero (placed n ∷ cs) h = absurd (cc)
+nth_there fill (suc i) (c ∷ cs) h = ap (λ (ds : List Cell). c ∷ ds) (nth_there fill i cs h)
 
-module _ (table : Table) (s : ℕ) (tracker : Tracker) where
-  -- a child that isn't there has a fill, where all are filled
-  fill_there : (cs : List Cell) (j k : ℕ) → k < length cs → IsSome (filled table s tracker j cs) → value_at cs k ≡ None
-      → IsSome (hole_takes strict_column table s tracker (j + k))
-  fill_there [] j k h there none = absurd (omega arith)
-  fill_there (c ∷ cs) j zero h there none =
-      let here : j ≡ j + 0 = omega arith in
-      let own : IsSome (child_value table s tracker j (value_of_cell c))
-      = (both_there (child_value table s tracker j (value_of_cell c)) (filled table s tracker (suc j) cs) there).0 in
-      subst (λ (n : ℕ). IsSome (hole_takes strict_column table s tracker n)) here
-      (subst (λ (o : Option Val). IsSome (option_or o (hole_takes strict_column table s tracker j))) none own)
-  fill_there (c ∷ cs) j (suc k) h there none =
-      let here : suc j + k ≡ j + suc k = omega arith in
-      subst (λ (n : ℕ). IsSome (hole_takes strict_column table s tracker n)) here
-      (fill_there cs (suc j) k (omega arith)
-      (both_there (child_value table s tracker j (value_of_cell c)) (filled table s tracker (suc j) cs) there).1 none)
+cell_nothing : (c : Cell) → defaulted_cell None c ≡ c
+cell_nothing absent = refl
+cell_nothing (given v) = refl
+cell_nothing (placed n) = refl
 
-  -- putting its fill there changes nothing of that
-  filled_set : (cs : List Cell) (j k : ℕ) (v : Val) → k < length cs → value_at cs k ≡ None → hole_takes strict_column table s tracker (j + k) ≡ Some v
-      → filled table s tracker j (set cs k (given v)) ≡ filled table s tracker j cs
-  filled_set [] j k v h none takes = absurd (omega arith)
-  filled_set (c ∷ cs) j zero v h none takes =
-      let here : j + 0 ≡ j = omega arith in
-      ap (λ (o : Option Val). one_more o (filled table s tracker (suc j) cs))
-      (sym takes ∙ ap (hole_takes strict_column table s tracker) here ∙ sym (ap (λ (o : Option Val). option_or o (hole_takes strict_column table s tracker j)) none))
-  filled_set (c ∷ cs) j (suc k) v h none takes =
-      let here : suc j + k ≡ j + suc k = omega arith in
-      ap (one_more (child_value table s tracker j (value_of_cell c)))
-      (filled_set cs (suc j) k v (omega arith) none (ap (hole_takes strict_column table s tracker) here ∙ takes))
+-- one that isn't there and takes nothing too
+pub nth_nothing : (i : ℕ) (cs : List Cell) → defaulted_nth None i cs ≡ cs
+nth_nothing i [] = refl
+nth_nothing zero (c ∷ cs) = ap (λ (d : Cell). d ∷ cs) (cell_nothing c)
+nth_nothing (suc i) (c ∷ cs) = ap (λ (ds : List Cell). c ∷ ds) (nth_nothing i cs)
 
-  -- children that are all there are filled to their values
-  filled_there : (cs : List Cell) (j : ℕ) → ((k : ℕ) → k < length cs → IsSome (value_at cs k))
-      → values_of cs ≡ filled table s tracker j cs
-  filled_there [] j there = refl
-  filled_there (c ∷ cs) j there =
-      ap (one_more (value_of_cell c)) (filled_there cs (suc j) (λ k h. there (suc k) (omega arith)))
-      ∙ ap (λ (o : Option Val). one_more o (filled table s tracker (suc j) cs)) (own (value_of_cell c) (there 0 (omega arith)))
+-- and one that takes something holds that
+pub nth_fill : (v : Val) (i : ℕ) (cs : List Cell) → value_at cs i ≡ None → AreUnplaced cs
+    → set cs i (given v) ≡ defaulted_nth (Some v) i cs
+nth_fill v i [] none closed = refl
+nth_fill v zero (absent ∷ cs) none closed = refl
+nth_fill v zero (given x ∷ cs) none closed = absurd (cc)
+nth_fill v zero (placed n ∷ cs) none closed = absurd closed.0
+nth_fill v (suc i) (c ∷ cs) none closed = ap (λ (ds : List Cell). c ∷ ds) (nth_fill v i cs none closed.1)
+
+-- Children that are the same but for the fills that some took.
+
+pub record IsAlike (old new : List Cell) : Type 0 where
+  pub count : length new ≡ length old
+  pub closed : AreUnplaced old → AreUnplaced new
+  pub same_tokens : (t : ℕ) → cells_occur new t ≡ cells_occur old t
+  pub kept : KeepGiven old new
+
+alike_same : (cs : List Cell) → IsAlike cs cs
+alike_same cs = record { count = refl; closed = λ h. h; same_tokens = λ t. refl; kept = keep cs }
+  where
+    keep : (cs : List Cell) → KeepGiven cs cs
+    keep [] = tt
+    keep (absent ∷ cs) = keep cs
+    keep (given v ∷ cs) = (refl, keep cs)
+    keep (placed n ∷ cs) = keep cs
+
+module _ (fill : Option Val) (light : (v : Val) → fill ≡ Some v → tokens v ≡ []) where
+  cell_closed : (c : Cell) → IsUnplaced c → IsUnplaced (defaulted_cell fill c)
+  cell_closed absent h = go fill
     where
-      own : (o : Option Val) → IsSome o → o ≡ option_or o (hole_takes strict_column table s tracker j)
-      own (Some v) h = refl
-      own None h = absurd (cc)
+      go : (fill : Option Val) → IsUnplaced (taken fill)
+      go (Some v) = tt
+      go None = tt
+  cell_closed (given v) h = h
+  cell_closed (placed n) h = h
 
-there_set : (cs : List Cell) (n : ℕ) (v : Val) → n < length cs → (k : ℕ) → k < n + 1 → (k < n → IsSome (value_at cs k))
-    → IsSome (value_at (set cs n (given v)) k)
-there_set [] n v h k l so = absurd (omega arith)
-there_set (c ∷ cs) zero v h zero l so = refl
-there_set (c ∷ cs) zero v h (suc k) l so = absurd (omega arith)
-there_set (c ∷ cs) (suc n) v h zero l so = so (omega arith)
-there_set (c ∷ cs) (suc n) v h (suc k) l so = there_set cs n v (omega arith) k (omega arith) (λ m. so (omega arith))
+  cell_tokens : (c : Cell) (t : ℕ) → cell_occurs (defaulted_cell fill c) t ≡ cell_occurs c t
+  cell_tokens absent t = go fill light
+    where
+      go : (fill : Option Val) → ((v : Val) → fill ≡ Some v → tokens v ≡ []) → cell_occurs (taken fill) t ≡ 0
+      go (Some v) light = light_occurs v t (light v refl)
+      go None light = refl
+  cell_tokens (given v) t = refl
+  cell_tokens (placed n) t = refl
 
-unplaced_set : (cs : List Cell) (n : ℕ) (v : Val) → AreUnplaced cs → AreUnplaced (set cs n (given v))
-unplaced_set [] n v h = tt
-unplaced_set (c ∷ cs) zero v h = (tt, h.1)
-unplaced_set (c ∷ cs) (suc n) v h = (h.0, unplaced_set cs n v h.1)
+  cell_kept : (c : Cell) (cs ds : List Cell) → KeepGiven cs ds → KeepGiven (c ∷ cs) (defaulted_cell fill c ∷ ds)
+  cell_kept absent cs ds h = h
+  cell_kept (given v) cs ds h = (refl, h)
+  cell_kept (placed n) cs ds h = h
+
+  alike_more : (c : Cell) (cs ds : List Cell) → IsAlike cs ds → IsAlike (c ∷ cs) (defaulted_cell fill c ∷ ds)
+  alike_more c cs ds so = record {
+    count = ap suc so.count;
+    closed = λ h. (cell_closed c h.0, so.closed h.1);
+    same_tokens = λ t. omega (arith, cell_tokens c t, so.same_tokens t);
+    kept = cell_kept c cs ds so.kept;
+  }
+
+module _ (column : Column) (table : Table) (s : ℕ) (tracker : Tracker) where
+  abbrev takes : ℕ → Option Val
+  takes i = hole_takes column table s tracker i
+
+  abbrev first : ℕ → ℕ → List Cell → List Cell
+  first i n cs = defaulted_first column table s tracker i n cs
+
+  abbrev all : ℕ → List Cell → List Cell
+  all i cs = defaulted_cells column table s tracker i cs
+
+  first_step : (i n : ℕ) (cs : List Cell) → defaulted_nth (takes (i + n)) n (first i n cs) ≡ first i (suc n) cs
+  first_step i zero [] = refl
+  first_step i zero (c ∷ cs) =
+      let here : i + 0 ≡ i = omega arith in
+      ap (λ (k : ℕ). defaulted_cell (takes k) c ∷ cs) here
+  first_step i (suc n) [] = refl
+  first_step i (suc n) (c ∷ cs) =
+      let here : i + suc n ≡ suc i + n = omega arith in
+      ap (λ (k : ℕ). defaulted_cell (takes i) c ∷ defaulted_nth (takes k) n (first (suc i) n cs)) here
+      ∙ ap (λ (ds : List Cell). defaulted_cell (takes i) c ∷ ds) (first_step (suc i) n cs)
+
+  pub first_more : (n : ℕ) (cs : List Cell) → defaulted_nth (takes n) n (first 0 n cs) ≡ first 0 (n + 1) cs
+  first_more n cs =
+      let here : n ≡ 0 + n = omega arith in
+      let next : suc n ≡ n + 1 = omega arith in
+      ap (λ (k : ℕ). defaulted_nth (takes k) n (first 0 n cs)) here ∙ first_step 0 n cs ∙ ap (λ (k : ℕ). first 0 k cs) next
+
+  pub first_all : (i n : ℕ) (cs : List Cell) → length cs ≤ n → first i n cs ≡ all i cs
+  first_all i zero [] h = refl
+  first_all i (suc n) [] h = refl
+  first_all i zero (c ∷ cs) h = absurd (omega arith)
+  first_all i (suc n) (c ∷ cs) h = ap (λ (ds : List Cell). defaulted_cell (takes i) c ∷ ds) (first_all (suc i) n cs (omega arith))
+
+  pub first_alike : IsChecked table → (i n : ℕ) (cs : List Cell) → IsAlike cs (first i n cs)
+  first_alike checked i zero cs = alike_same cs
+  first_alike checked i (suc n) [] = alike_same []
+  first_alike checked i (suc n) (c ∷ cs) =
+      alike_more (takes i) (λ v e. takes_light column table s tracker i v checked e) c cs (first (suc i) n cs)
+      (first_alike checked (suc i) n cs)
+
+  pub all_alike : IsChecked table → (i : ℕ) (cs : List Cell) → IsAlike cs (all i cs)
+  all_alike checked i cs = subst (IsAlike cs) (first_all i (length cs) cs (omega arith)) (first_alike checked i (length cs) cs)
+
+  -- children that are all there stay
+  pub all_there_stay : (i : ℕ) (cs : List Cell) → IsSome (values_of cs) → cs ≡ all i cs
+  all_there_stay i [] h = refl
+  all_there_stay i (given v ∷ cs) h =
+      ap (λ (ds : List Cell). given v ∷ ds) (all_there_stay (suc i) cs (both_there (Some v) (values_of cs) h).1)
+  all_there_stay i _ h = absurd (cc)
+
+  -- and so do those that aren't fields
+  pub others_stay : fields_of_tracker tracker ≡ None → (i : ℕ) (cs : List Cell) → cs ≡ all i cs
+  others_stay others i [] = refl
+  others_stay others i (c ∷ cs) =
+      ap (λ (ds : List Cell). c ∷ ds) (others_stay others (suc i) cs) ∙ ap (λ (d : Cell). d ∷ all (suc i) cs)
+      (sym (cell_nothing c) ∙ ap (λ (fill : Option Val). defaulted_cell fill c) (sym (others_take table s column tracker others i)))
+
+  -- a child's value, with its fill
+  pub value_then : (i : ℕ) (c : Cell) → IsUnplaced c
+      → value_of_cell (defaulted_cell (takes i) c) ≡ child_value column table s tracker i (value_of_cell c)
+  value_then i absent closed = go (takes i)
+    where
+      go : (fill : Option Val) → value_of_cell (taken fill) ≡ fill
+      go (Some v) = refl
+      go None = refl
+  value_then i (given v) closed = refl
+  value_then i (placed n) closed = absurd closed
+
+  -- what is asked of children with their fills
+  pub asked_then : (asks : ℕ → Option Val → Option ReflectErrorKind) (i : ℕ) (cs : List Cell) → AreUnplaced cs
+      → first_asked asks i (all i cs) ≡ first_asked (λ k own. asks k (child_value column table s tracker k own)) i cs
+  asked_then asks i [] closed = refl
+  asked_then asks i (c ∷ cs) closed =
+      ap (λ (v : Option Val). option_or (asks i v) (first_asked asks (suc i) (all (suc i) cs))) (value_then i c closed.0)
+      ∙ ap (option_or (asks i (child_value column table s tracker i (value_of_cell c)))) (asked_then asks (suc i) cs closed.1)
+
+-- Places.
 
 pub none_placed : (n : ℕ) → AreUnplaced (replicate n absent)
 none_placed zero = tt
 none_placed (suc n) = (tt, none_placed n)
 
--- a child whose value is there keeps it where another one takes its fill
-
-pub keep_same : (cs : List Cell) → KeepGiven cs cs
-keep_same [] = tt
-keep_same (absent ∷ cs) = keep_same cs
-keep_same (given v ∷ cs) = (refl, keep_same cs)
-keep_same (placed n ∷ cs) = keep_same cs
-
-keep_set : (old new : List Cell) (k : ℕ) (v : Val) → KeepGiven old new → value_at new k ≡ None → KeepGiven old (set new k (given v))
-keep_set [] new k v h none = tt
-keep_set (c ∷ cs) [] k v h none = tt
-keep_set (given w ∷ cs) (d ∷ ds) zero v h none = let there : value_of_cell d ≡ Some w = ap value_of_cell h.0 in absurd (cc)
-keep_set _ (d ∷ ds) zero v h none = h
-keep_set (absent ∷ cs) (d ∷ ds) (suc k) v h none = keep_set cs ds k v h none
-keep_set (given w ∷ cs) (d ∷ ds) (suc k) v h none = (h.0, keep_set cs ds k v h.1 none)
-keep_set (placed n ∷ cs) (d ∷ ds) (suc k) v h none = keep_set cs ds k v h none
-
--- Filling in order: the children before i are there, and what all come to is the same as in the beginning.
-pub record Filling (table : Table) (s : ℕ) (tracker : Tracker) (initial now : List Cell) (i : ℕ) : Type 0 where
-  pub same : filled table s tracker 0 now ≡ filled table s tracker 0 initial
-  pub there : (k : ℕ) → k < i → IsSome (value_at now k)
-  pub same_tokens : (t : ℕ) → cells_occur now t ≡ cells_occur initial t
-  pub closed : AreUnplaced initial → AreUnplaced now
-  pub kept : KeepGiven initial now
-
-pub filling_begins : (table : Table) (s : ℕ) (tracker : Tracker) (initial : List Cell) → Filling table s tracker initial initial 0
-filling_begins table s tracker initial = record {
-  same = refl;
-  there = λ k h. absurd (omega arith);
-  same_tokens = λ t. refl;
-  closed = λ h. h;
-  kept = keep_same initial;
-}
-
-module _ (table : Table) (s : ℕ) (tracker : Tracker) (initial now : List Cell) (i : ℕ) (so_far : Filling table s tracker initial now i) where
-  pub filling_there : IsSome (value_at now i) → Filling table s tracker initial now (i + 1)
-  filling_there here = record {
-    same = so_far.same;
-    there = below_more (λ (k : ℕ). IsSome (value_at now k)) i so_far.there here;
-    same_tokens = so_far.same_tokens;
-    closed = so_far.closed;
-    kept = so_far.kept;
-  }
-
-  pub filling_light : IsChecked table → i < length now → IsSome (filled table s tracker 0 initial) → value_at now i ≡ None
-      → IsLightFill (hole_takes strict_column table s tracker i)
-  filling_light checked h fills none = go (hole_takes strict_column table s tracker i) refl (fill_there table s tracker now 0 i h (subst IsSome (sym so_far.same) fills) none)
-    where
-      go : (fill : Option Val) → hole_takes strict_column table s tracker i ≡ fill → IsSome (hole_takes strict_column table s tracker (0 + i)) → IsLightFill fill
-      go (Some v) e there = takes_light strict_column table s tracker i v checked e
-      go None e there =
-          let here : 0 + i ≡ i = omega arith in
-          let none_there : hole_takes strict_column table s tracker (0 + i) ≡ None = ap (hole_takes strict_column table s tracker) here ∙ e in
-          absurd (cc)
-
-  pub filling_set : (v : Val) → IsChecked table → i < length now → value_at now i ≡ None → hole_takes strict_column table s tracker i ≡ Some v
-      → Filling table s tracker initial (set now i (given v)) (i + 1)
-  filling_set v checked h none takes =
-      let here : 0 + i ≡ i = omega arith in
-      record {
-        same = filled_set table s tracker now 0 i v h none (ap (hole_takes strict_column table s tracker) here ∙ takes) ∙ so_far.same;
-        there = λ k l. there_set now i v h k l (λ m. so_far.there k m);
-        same_tokens = λ t.
-            let light : occurs v t ≡ 0 = light_occurs v t (takes_light strict_column table s tracker i v checked takes) in
-            let gone : value_occurs (value_at now i) t ≡ 0 = ap (λ (o : Option Val). value_occurs o t) none in
-            omega (arith, occur_taken now i (given v) t h, so_far.same_tokens t);
-        closed = λ l. unplaced_set now i v (so_far.closed l);
-        kept = keep_set initial now i v so_far.kept none;
-      }
-
-  pub filling_ends : length now ≤ i → values_of now ≡ filled table s tracker 0 initial
-  filling_ends h = filled_there table s tracker now 0 (λ k l. so_far.there k (omega arith)) ∙ so_far.same
-
--- children that are there already take nothing, nor do those for which there are no fills
-
-module _ (table : Table) (s : ℕ) where
-  pub values_filled : (tracker : Tracker) (i : ℕ) (cs : List Cell) → IsSome (values_of cs) → values_of cs ≡ filled table s tracker i cs
-  values_filled tracker i [] h = refl
-  values_filled tracker i (given v ∷ cs) h =
-      ap (one_more (Some v)) (values_filled tracker (suc i) cs (both_there (Some v) (values_of cs) h).1)
-  values_filled tracker i _ h = absurd (cc)
-
-  module _ (tracker : Tracker) (others : fields_of_tracker tracker ≡ None) where
-    nothing_filled : (i : ℕ) (cs : List Cell) → None ≡ one_more (hole_takes strict_column table s tracker i) (filled table s tracker (suc i) cs)
-    nothing_filled i cs =
-        sym (ap (λ (o : Option Val). one_more o (filled table s tracker (suc i) cs)) (others_take table s strict_column tracker others i))
-
-    pub others_filled : (i : ℕ) (cs : List Cell) → values_of cs ≡ filled table s tracker i cs
-    others_filled i [] = refl
-    others_filled i (absent ∷ cs) = nothing_filled i cs
-    others_filled i (placed n ∷ cs) = nothing_filled i cs
-    others_filled i (given v ∷ cs) = ap (one_more (Some v)) (others_filled (suc i) cs)
-
-pub none_occur : (n t : ℕ) → cells_occur (replicate n absent) t ≡ 0
+none_occur : (n t : ℕ) → cells_occur (replicate n absent) t ≡ 0
 none_occur zero t = refl
 none_occur (suc n) t = omega (arith, none_occur n t)
+
+pub length_holes : (n : ℕ) → length (replicate n absent) ≡ n
+length_holes zero = refl
+length_holes (suc n) = ap suc (length_holes n)
+
+-- a place is still what it was, but for the fills that it took
+pub record HasFilled (table : Table) (s : ℕ) (old new : Body) : Type 0 where
+  pub closed : IsClosed old → IsClosed new
+  pub same_tokens : (t : ℕ) → body_occurs new t ≡ body_occurs old t
+  pub full : IsFull table s old → IsFull table s new
+  pub keeps : KeepsTracker old new
+
+module _ (column : Column) (table : Table) (s : ℕ) (checked : IsChecked table) where
+  stays_entered : HasFilled table s entered_body entered_body
+  stays_entered = record { closed = λ h. tt; same_tokens = λ t. refl; full = λ h. tt; keeps = refl }
+
+  by_def : (def : Def) (preset : Option Val) → def_of table s ≡ def → preset_of table s ≡ preset
+      → HasFilled table s entered_body (defaulted_by def preset (defaulted_struct column table s))
+  by_def (Def.Struct struct) (Some v) is e = record {
+    closed = λ h. tt;
+    same_tokens = λ t. light_occurs v t (preset_light table s v checked e);
+    full = λ h. tt;
+    keeps = refl;
+  }
+  by_def (Def.Struct struct) None is e =
+      let alike : IsAlike (replicate (child_count table s) absent) (defaulted_cells column table s (as_fields None) 0 (replicate (child_count table s) absent))
+      = all_alike column table s (as_fields None) checked 0 (replicate (child_count table s) absent) in
+      record {
+        closed = λ h. alike.closed (none_placed (child_count table s));
+        same_tokens = λ t. alike.same_tokens t ∙ none_occur (child_count table s) t;
+        full = λ h. subst (λ (def : Def).
+            IsFullAs def (as_fields None) (length (defaulted_cells column table s (as_fields None) 0 (replicate (child_count table s) absent))))
+            (sym is) (alike.count ∙ length_holes (child_count table s) ∙ ap count_children is);
+        keeps = refl;
+      }
+  by_def (Def.Option t) (Some v) is e = record { closed = λ h. tt; same_tokens = λ t. refl; full = λ h. tt; keeps = refl }
+  by_def (Def.Option t) None is e = stays_entered
+  by_def _ preset is e = stays_entered
+
+  pub has_filled : (body : Body) → HasFilled table s body (defaulted column table s body)
+  has_filled entered_body = by_def (def_of table s) (preset_of table s) refl refl
+  has_filled (whole_body v) = record { closed = λ h. h; same_tokens = λ t. refl; full = λ h. h; keeps = refl }
+  has_filled (begun_body tracker cells) =
+      let alike : IsAlike cells (defaulted_cells column table s tracker 0 cells) = all_alike column table s tracker checked 0 cells in
+      record {
+        closed = alike.closed;
+        same_tokens = alike.same_tokens;
+        full = λ h. subst (IsFullAs (def_of table s) tracker) (sym alike.count) h;
+        keeps = (refl, alike.count, alike.kept);
+      }
 
 -- whether a child that is looked up has a value
 

@@ -113,8 +113,7 @@ pub keys_more : (parts : List Value) (i : ℕ) (k : Value) (done new all : List 
 keys_more parts i k done new all pushed within is so =
     ap (λ l. l ++ turn_keys (drop (2 * (i + 1)) parts)) pushed
     ∙ append_assoc done (view k ∷ []) (turn_keys (drop (2 * (i + 1)) parts))
-    ∙ ap (λ l. done ++ l) (sym (turn_more parts (2 * i) (2 * (i + 1)) k (omega arith) within is))
-    ∙ so
+    ∙ ap (λ l. done ++ l) (sym (turn_more parts (2 * i) (2 * (i + 1)) k (omega arith) within is)) ∙ so
 
 -- and all of them
 pub keys_all : (parts : List Value) (i : ℕ) (done all : List Val) → length parts ≤ 2 * i + 1 → done ++ turn_keys (drop (2 * i) parts) ≡ all → done ≡ all

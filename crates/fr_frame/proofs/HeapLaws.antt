@@ -1,10 +1,10 @@
 -- Lists of slots as heaps: what a change of one slot does.
-use Rattle.std.proofs.Common.{◌≡◌, ◌≢◌, ◌⊎◌, ℕ, zero, suc, ◌+◌, ◌<◌, ◌≤◌, true, false, List, [], ◌∷◌, ◌++◌, length, Option, Some, None, slice_get, set, get_or, option_map, nat_eq, inl, inr, refl, sym, ◌∙◌, ap, arith, if◌then◌else◌}
+use Rattle.std.proofs.Common.{◌≡◌, ◌≢◌, ◌⊎◌, ℕ, zero, suc, ◌+◌, ◌<◌, ◌≤◌, Bool, true, false, List, [], ◌∷◌, ◌++◌, length, Option, Some, None, IsSomeAnd, slice_get, set, get_or, option_map, nat_eq, inl, inr, refl, sym, ◌∙◌, ap, ap₂, subst, arith, if◌then◌else◌}
 use Rattle.fr_frame.specs.Common.{Body, Heap, IsInUse, Node, Shows, Slot, heap_of, node_in, option_and_then, slot_occurs, slots_occur, with_body, with_slot}
 use Rattle.std.proofs.lemmas.Grind.{common_steps}
 use Rattle.std.proofs.lemmas.Bool.Decides.{nat_tests}
 
--- Heaps.
+-- Numbers.
 
 pub same_number : (n : ℕ) → nat_eq n n ≡ true
 same_number n = grind (arith, common_steps, nat_tests)
@@ -12,27 +12,150 @@ same_number n = grind (arith, common_steps, nat_tests)
 pub other_number : (m n : ℕ) → m ≢ n → nat_eq m n ≡ false
 other_number m n ne = grind (arith, common_steps, nat_tests)
 
+pub number_cases : (m n : ℕ) → (m ≡ n) ⊎ (m ≢ n)
+number_cases m n = grind (arith, common_steps, nat_tests)
+
+-- Lists of whatever.
+
+pub got : {X : Type 0} (xs : List X) (n : ℕ) (x : X) → n < length xs → x ≡ get_or xs n x → slice_get xs n ≡ Some x
+got [] n x h e = absurd (omega arith)
+got (y ∷ xs) zero x h e = ap (λ z. Some z) (sym e)
+got (y ∷ xs) (suc n) x h e = got xs n x (omega arith) e
+
+-- what is read at an index lies there
+pub read : {X : Type 0} (xs : List X) (n at : ℕ) (x : X) → at ≡ n → n < length xs → x ≡ get_or xs at x → slice_get xs n ≡ Some x
+read xs n at x e inside is = got xs n x inside (is ∙ ap (λ (k : ℕ). get_or xs k x) e)
+
+-- something of which this is so stands at the number
+pub holds_inside : {X : Type 0} (xs : List X) (n : ℕ) (P : X → Type 0) → IsSomeAnd (slice_get xs n) P → n < length xs
+holds_inside [] n P h = absurd h
+holds_inside (y ∷ xs) zero P h = omega arith
+holds_inside (y ∷ xs) (suc n) P h = let k : n < length xs = holds_inside xs n P h in omega arith
+
+pub there : {X : Type 0} (xs : List X) (n : ℕ) (x : X) → slice_get xs n ≡ Some x → n < length xs
+there [] n x e = cc
+there (y ∷ xs) zero x e = omega arith
+there (y ∷ xs) (suc n) x e = let k : n < length xs = there xs n x e in omega arith
+
+-- so it is so of what is read there
+pub holds_read : {X : Type 0} (xs : List X) (n at : ℕ) (x : X) (P : X → Type 0) → at ≡ n → x ≡ get_or xs at x
+    → IsSomeAnd (slice_get xs n) P → P x
+holds_read xs n at x P e is h = subst (λ (found : Option _). IsSomeAnd found P) (read xs n at x e (holds_inside xs n P h) is) h
+
+pub set_gets : {X : Type 0} (xs : List X) (i : ℕ) (x y : X) → slice_get xs i ≡ Some x → slice_get (set xs i y) i ≡ Some y
+set_gets [] i x y e = cc
+set_gets (z ∷ xs) zero x y e = refl
+set_gets (z ∷ xs) (suc i) x y e = set_gets xs i x y e
+
+pub set_keeps : {X : Type 0} (xs : List X) (i : ℕ) (y : X) (j : ℕ) → j ≢ i → slice_get (set xs i y) j ≡ slice_get xs j
+set_keeps [] i y j ne = refl
+set_keeps (z ∷ xs) zero y zero ne = absurd (ne refl)
+set_keeps (z ∷ xs) zero y (suc j) ne = refl
+set_keeps (z ∷ xs) (suc i) y zero ne = refl
+set_keeps (z ∷ xs) (suc i) y (suc j) ne = set_keeps xs i y j (λ (e : j ≡ i). ne (ap (λ (k : ℕ). suc k) e))
+
+pub set_twice : {X : Type 0} (xs : List X) (n : ℕ) (a b : X) → set (set xs n a) n b ≡ set xs n b
+set_twice [] n a b = refl
+set_twice (x ∷ xs) zero a b = refl
+set_twice (x ∷ xs) (suc n) a b = ap (λ (l : List _). x ∷ l) (set_twice xs n a b)
+
+pub set_swap : {X : Type 0} (xs : List X) (n m : ℕ) (a b : X) → n ≢ m → set (set xs n a) m b ≡ set (set xs m b) n a
+set_swap [] n m a b ne = refl
+set_swap (x ∷ xs) zero zero a b ne = absurd (ne refl)
+set_swap (x ∷ xs) zero (suc m) a b ne = refl
+set_swap (x ∷ xs) (suc n) zero a b ne = refl
+set_swap (x ∷ xs) (suc n) (suc m) a b ne =
+    ap (λ (l : List _). x ∷ l) (set_swap xs n m a b (λ (e : n ≡ m). ne (ap (λ (k : ℕ). suc k) e)))
+
+-- lists that have the same under each number
+pub same_lists : {X : Type 0} (a b : List X) → ((n : ℕ) → slice_get a n ≡ slice_get b n) → a ≡ b
+same_lists [] [] same = refl
+same_lists [] (y ∷ b) same = let e : None ≡ Some y = same zero in cc
+same_lists (x ∷ a) [] same = let e : Some x ≡ None = same zero in cc
+same_lists (x ∷ a) (y ∷ b) same =
+    let e : Some x ≡ Some y = same zero in
+    let first : x ≡ y = cc in
+    ap₂ (λ (s : _) (l : List _). s ∷ l) first (same_lists a b (λ n. same (suc n)))
+
+-- a list that has the same as another but under one number
+pub is_set : {X : Type 0} (a b : List X) (k : ℕ) (was now : X) → slice_get b k ≡ Some was → slice_get a k ≡ Some now
+    → ((n : ℕ) → n ≢ k → slice_get a n ≡ slice_get b n) → a ≡ set b k now
+is_set a b k was now before here others = same_lists a (set b k now) (λ n. go n (number_cases n k))
+  where
+    go : (n : ℕ) → (n ≡ k) ⊎ (n ≢ k) → slice_get a n ≡ slice_get (set b k now) n
+    go n (inl e) = ap (slice_get a) e ∙ here ∙ sym (set_gets b k was now before) ∙ sym (ap (slice_get (set b k now)) e)
+    go n (inr ne) = others n ne ∙ sym (set_keeps b k now n ne)
+
+-- Heaps.
+
 pub with_here : (heap : Heap) (n : ℕ) (x : Option Node) → with_slot heap n x n ≡ x
 with_here heap n x = rw same_number refl
 
 pub with_other : (heap : Heap) (n : ℕ) (x : Option Node) (m : ℕ) → m ≢ n → with_slot heap n x m ≡ heap m
 with_other heap n x m ne = let e : nat_eq m n ≡ false = other_number m n ne in rw e refl
 
-pub number_cases : (m n : ℕ) → (m ≡ n) ⊎ (m ≢ n)
-number_cases m n = grind (arith, common_steps, nat_tests)
+abbrev pub Alike : Heap → Heap → Type 0
+Alike a b = (m : ℕ) → a m ≡ b m
 
--- Lists.
+pub alike : (a b : Heap) → Alike a b → a ≡ b
+alike a b same = λ i m. same m i
+
+pub with_slot_alike : (a b : Heap) (n : ℕ) (x : Option Node) → Alike a b → Alike (with_slot a n x) (with_slot b n x)
+with_slot_alike a b n x same m = ap (λ (heap : Heap). with_slot heap n x m) (alike a b same)
+
+-- a slot that is given what it has
+pub with_same : (heap : Heap) (n : ℕ) → Alike (with_slot heap n (heap n)) heap
+with_same heap n m = go (number_cases m n)
+  where
+    go : (m ≡ n) ⊎ (m ≢ n) → with_slot heap n (heap n) m ≡ heap m
+    go (inl e) = ap (with_slot heap n (heap n)) e ∙ with_here heap n (heap n) ∙ sym (ap heap e)
+    go (inr ne) = with_other heap n (heap n) m ne
+
+-- a slot that is given one thing after another
+pub slot_twice : (heap : Heap) (n : ℕ) (x y : Option Node) → Alike (with_slot (with_slot heap n x) n y) (with_slot heap n y)
+slot_twice heap n x y m = go (nat_eq m n)
+  where
+    go : (b : Bool) → (if b then y else (if b then x else heap m)) ≡ (if b then y else heap m)
+    go true = refl
+    go false = refl
+
+-- the place that is found, with something else put at it
+abbrev pub changed : (Body → Body) → Option Node → Option Node
+changed change found = option_map (λ (x : Node). record x { body = change x.body }) found
+
+pub with_body_at : (heap : Heap) (n : ℕ) (at : Node) (change : Body → Body) → heap n ≡ Some at
+    → Alike (with_body heap n change) (with_slot heap n (Some (record at { body = change at.body })))
+with_body_at heap n at change here m = ap (λ (found : Option Node). with_slot heap n (changed change found) m) here
+
+-- where no place is, nothing changes
+pub with_body_free : (heap : Heap) (n : ℕ) (change : Body → Body) → heap n ≡ None → Alike heap (with_body heap n change)
+with_body_free heap n change free m =
+    sym (ap (λ (found : Option Node). with_slot heap n (changed change found) m) free
+    ∙ ap (λ (found : Option Node). with_slot heap n found m) (sym free) ∙ with_same heap n m)
+
+-- one change after another of the same place
+pub with_body_twice : (heap : Heap) (n : ℕ) (first then_next both_in_one : Body → Body)
+    → ((body : Body) → then_next (first body) ≡ both_in_one body)
+    → Alike (with_body (with_body heap n first) n then_next) (with_body heap n both_in_one)
+with_body_twice heap n first then_next both_in_one same m =
+    ap (λ (found : Option Node). with_slot (with_body heap n first) n (changed then_next found) m)
+    (with_here heap n (changed first (heap n)))
+    ∙ slot_twice heap n (changed first (heap n)) (changed then_next (changed first (heap n))) m
+    ∙ ap (λ (found : Option Node). with_slot heap n found m) (value (heap n))
+  where
+    value : (found : Option Node) → changed then_next (changed first found) ≡ changed both_in_one found
+    value None = refl
+    value (Some at) = ap (λ (b : Body). Some (record at { body = b })) (same at.body)
+
+-- Slots.
 
 pub occur_set : (slots : List Slot) (n : ℕ) (old new : Slot) (t : ℕ) → slice_get slots n ≡ Some old
     → slots_occur (set slots n new) t + slot_occurs old t ≡ slots_occur slots t + slot_occurs new t
 occur_set [] n old new t e = cc
 occur_set (s ∷ slots) zero old new t e =
-    let same : slot_occurs s t ≡ slot_occurs old t = ap (λ (o : Option Slot). option_occurs o t) e in
+    let is : s ≡ old = cc in
+    let same : slot_occurs s t ≡ slot_occurs old t = ap (λ (x : Slot). slot_occurs x t) is in
     omega arith
-  where
-    option_occurs : Option Slot → ℕ → ℕ
-    option_occurs (Some x) t = slot_occurs x t
-    option_occurs None t = 0
 occur_set (s ∷ slots) (suc n) old new t e = omega (arith, occur_set slots n old new t e)
 
 pub heap_append : (slots : List Slot) → Shows (slots ++ Slot.Reserved ∷ []) (heap_of slots)
@@ -55,57 +178,19 @@ inside [] n h = cc
 inside (s ∷ slots) zero h = omega arith
 inside (s ∷ slots) (suc n) h = let k : n < length slots = inside slots n h in omega arith
 
-pub free_there : (slots : List Slot) (n : ℕ) (slot : Slot) → slice_get slots n ≡ Some slot → heap_of slots n ≡ node_in slot
-free_there slots n slot e = ap (option_and_then node_in) e
-
-pub got : {X : Type 0} (xs : List X) (n : ℕ) (x : X) → n < length xs → x ≡ get_or xs n x → slice_get xs n ≡ Some x
-got [] n x h e = absurd (omega arith)
-got (y ∷ xs) zero x h e = ap (λ z. Some z) (sym e)
-got (y ∷ xs) (suc n) x h e = got xs n x (omega arith) e
-
 -- a slot that no place is in holds nothing
 pub free_holds : (slot : Slot) (t : ℕ) → node_in slot ≡ None → slot_occurs slot t ≡ 0
 free_holds (Slot.Used place) t e = cc
 free_holds (Slot.List place items) t e = cc
 free_holds _ t e = refl
 
--- Heaps that are alike.
-
-abbrev pub Alike : Heap → Heap → Type 0
-Alike a b = (m : ℕ) → a m ≡ b m
-
-pub with_slot_alike : (a b : Heap) (n : ℕ) (x : Option Node) → Alike a b → Alike (with_slot a n x) (with_slot b n x)
-with_slot_alike a b n x same m = ap (λ (y : Option Node). if nat_eq m n then x else y) (same m)
-
--- a place that is taken out and put back with another body
-pub taken_and_put : (heap mid after : Heap) (n : ℕ) (at : Node) (change : Body → Body) (body : Body) → heap n ≡ Some at
-    → Alike mid (with_slot heap n None) → body ≡ change at.body
-    → Alike after (with_slot mid n (Some (record at { body = body }))) → Alike after (with_body heap n change)
-taken_and_put heap mid after n at change body was out is put m = go (number_cases m n)
+-- a slot that is given something else
+pub shows_set : (slots : List Slot) (n : ℕ) (was now : Slot) → slice_get slots n ≡ Some was
+    → Shows (set slots n now) (with_slot (heap_of slots) n (node_in now))
+shows_set slots n was now e m = go (number_cases m n)
   where
-    value : option_map (λ (x : Node). record x { body = change x.body }) (heap n) ≡ Some (record at { body = body })
-    value = ap (option_map (λ (x : Node). record x { body = change x.body })) was ∙ ap (λ (b : Body). Some (record at { body = b })) (sym is)
-
-    go : (m ≡ n) ⊎ (m ≢ n) → after m ≡ with_body heap n change m
-    go (inl e) =
-        put m ∙ ap (with_slot mid n (Some (record at { body = body }))) e ∙ with_here mid n (Some (record at { body = body }))
-        ∙ sym value
-        ∙ sym (with_here heap n (option_map (λ (x : Node). record x { body = change x.body }) (heap n)))
-        ∙ ap (with_body heap n change) (sym e)
-    go (inr ne) =
-        put m ∙ with_other mid n (Some (record at { body = body })) m ne ∙ out m ∙ with_other heap n None m ne
-        ∙ sym (with_other heap n (option_map (λ (x : Node). record x { body = change x.body }) (heap n)) m ne)
-
--- where no place is, nothing changes
-pub with_body_free : (heap : Heap) (n : ℕ) (change : Body → Body) → heap n ≡ None → Alike heap (with_body heap n change)
-with_body_free heap n change free m = go (number_cases m n)
-  where
-    value : option_map (λ (x : Node). record x { body = change x.body }) (heap n) ≡ None
-    value = ap (option_map (λ (x : Node). record x { body = change x.body })) free
-
-    go : (m ≡ n) ⊎ (m ≢ n) → heap m ≡ with_body heap n change m
-    go (inl e) =
-        ap heap e ∙ free ∙ sym value
-        ∙ sym (with_here heap n (option_map (λ (x : Node). record x { body = change x.body }) (heap n)))
-        ∙ ap (with_body heap n change) (sym e)
-    go (inr ne) = sym (with_other heap n (option_map (λ (x : Node). record x { body = change x.body }) (heap n)) m ne)
+    go : (m ≡ n) ⊎ (m ≢ n) → heap_of (set slots n now) m ≡ with_slot (heap_of slots) n (node_in now) m
+    go (inl same) =
+        ap (heap_of (set slots n now)) same ∙ ap (option_and_then node_in) (set_gets slots n was now e)
+        ∙ sym (with_here (heap_of slots) n (node_in now)) ∙ sym (ap (with_slot (heap_of slots) n (node_in now)) same)
+    go (inr ne) = ap (option_and_then node_in) (set_keeps slots n now m ne) ∙ sym (with_other (heap_of slots) n (node_in now) m ne)

@@ -41,8 +41,7 @@ indexed_none bits values index room e = indexed_first bits values index 0 (omega
 
 pub count_is : (bits : BitSet) (values : List Value) (index : ValueIndex) (n : ℕ) → IsIndexed bits values index
     → ((vs : List Value) → Indexes index vs → n ≡ length vs) → n ≡ index.len
-count_is bits values index n is counted =
-    counted (take index.len values) is.just ∙ length-take-le index.len values is.within
+count_is bits values index n is counted = counted (take index.len values) is.just ∙ length-take-le index.len values is.within
 
 -- Changes.
 
@@ -65,8 +64,7 @@ pub indexed_set : (bits other : BitSet) (values : List Value) (index cut : Value
     → IsIndexed bits values index → IsCutAt i index cut → other.capacity ≡ bits.capacity
     → ((j : ℕ) → j ≢ i → finite.contains other.members j ≡ finite.contains bits.members j) → IsIndexed other (set values i v) cut
 indexed_set bits other values index cut i v is at capacity same =
-    indexed_changed bits other values (set values i v) index cut i is at
-    (omega (arith, length-set values i v, is.room, capacity))
+    indexed_changed bits other values (set values i v) index cut i is at (omega (arith, length-set values i v, is.room, capacity))
     (omega (arith, length-set values i v, is.within, at.fewer)) (take-set values i v)
     (λ j h. same j (let ne : j ≢ i = omega (arith, h) in ne))
 
@@ -120,8 +118,7 @@ first_or_later bits i [] (suc n) v all = refl
 first_or_later bits i (w ∷ vs) zero v all = refl
 first_or_later bits i (w ∷ vs) (suc n) v all =
     ap (λ (b : Bool). is_same_cell v (cell b (view w)) || has_same_cell v (cells_of bits (suc i) vs)) (all i (omega arith) (omega arith))
-    ∙ ap (λ (b : Bool). same (view w) v || b)
-    (first_or_later bits (suc i) vs n v (λ j h k. all j (omega arith) (omega arith)))
+    ∙ ap (λ (b : Bool). same (view w) v || b) (first_or_later bits (suc i) vs n v (λ j h k. all j (omega arith) (omega arith)))
     ∙ either_or (same (view w) v) (is_there v (vals_view (take n vs))) (has_same_cell v (drop n (cells_of bits (suc i) vs)))
 
 module _ (bits : BitSet) (values : List Value) (index : ValueIndex) (cs : List Cell) (v : Val) (n : ℕ) (is : IsIndexed bits values index)
@@ -144,11 +141,8 @@ pub indexed_before : (bits : BitSet) (values firsts : List Value) (index : Value
 indexed_before bits values firsts index i is count h e =
     let long : length firsts ≡ i + 1 = ap length e ∙ length-take-le (i + 1) values (omega arith) in
     let number : index.len ≡ length firsts - 1 = omega (arith, count, long) in
-    subst (λ (vs : List Value). Indexes index vs)
-    (ap (λ (n : ℕ). take n values) number
-    ∙ sym (take_within (length firsts - 1) (i + 1) values (omega (arith, long)))
-    ∙ ap (take (length firsts - 1)) (sym e))
-    is.just
+    subst (λ (vs : List Value). Indexes index vs) (ap (λ (n : ℕ). take n values) number
+    ∙ sym (take_within (length firsts - 1) (i + 1) values (omega (arith, long))) ∙ ap (take (length firsts - 1)) (sym e)) is.just
 
 -- without memory it stayed as it was
 pub indexed_refused : (bits : BitSet) (values firsts : List Value) (index new : ValueIndex) (i : ℕ) → IsIndexed bits values index
@@ -160,16 +154,14 @@ indexed_refused bits values firsts index new i is count h e refused =
     indexed_first bits values new i (omega (arith, h)) is.room (λ j l. is.there j (omega (arith, l, count)))
     (subst (λ (vs : List Value). Indexes new vs)
     (ap (take (length firsts - 1)) e ∙ take_within (length firsts - 1) (i + 1) values (omega (arith, long))
-    ∙ ap (λ (n : ℕ). take n values) number)
-    refused)
+    ∙ ap (λ (n : ℕ). take n values) number) refused)
 
 pub indexed_more : (bits : BitSet) (values firsts : List Value) (index new : ValueIndex) (i : ℕ) → IsIndexed bits values index
     → index.len ≡ i → i < length values → finite.contains bits.members i ≡ true → firsts ≡ take (i + 1) values → Indexes new firsts
     → IsIndexed bits values new × (new.len ≡ i + 1)
 indexed_more bits values firsts index new i is count h here e added =
     let long : length firsts ≡ i + 1 = ap length e ∙ length-take-le (i + 1) values (omega arith) in (
-      indexed_first bits values new (i + 1) (omega (arith, h)) is.room
-          (λ j l. by j l)
+      indexed_first bits values new (i + 1) (omega (arith, h)) is.room (λ j l. by j l)
           (subst (λ (vs : List Value). Indexes new vs) e added),
       added.count ∙ long,
     )

@@ -48,8 +48,7 @@ there_at (x ∷ values) (suc n) v h is = ap (λ b. same (view x) v || b) (there_
 
 pub there_none : (values : List Value) (v : Val) → ((n : ℕ) → n < length values → same (val_at (map view values) n) v ≡ false) → is_there v (vals_view values) ≡ false
 there_none [] v none = refl
-there_none (x ∷ values) v none =
-    (λ j. none 0 (omega arith) j || there_none values v (λ n h. none (suc n) (omega (arith, h))) j)
+there_none (x ∷ values) v none = (λ j. none 0 (omega arith) j || there_none values v (λ n h. none (suc n) (omega (arith, h))) j)
 
 -- Order
 
@@ -101,8 +100,7 @@ run_lacks vs run v apart n has =
 pub run_grows : (vs : List Val) (m : ℕ) (run : List ℕ) → m ≤ length vs → IsRun (take m vs) run → IsRun vs run
 run_grows vs m run within is_run = record {
   below = λ n has. omega (arith, is_run.below n has, length-take-le m vs within);
-  rising = λ j k up h.
-      (λ i. is_lt (compare (sym (first k h) i) (sym (first j (omega arith)) i))) ∙ is_run.rising j k up h;
+  rising = λ j k up h. (λ i. is_lt (compare (sym (first k h) i) (sym (first j (omega arith)) i))) ∙ is_run.rising j k up h;
 }
   where
     first : (k : ℕ) → k < length run → val_at (take m vs) (get_or run k 0) ≡ val_at vs (get_or run k 0)
@@ -148,8 +146,7 @@ module _ (vs : List Val) (m : ℕ) (runs : List (List ℕ)) (from : ℕ) (run : 
 
   held_after : (n : ℕ) → is_held (take from runs ++ run ∷ []) n ≡ is_held (take from runs) n || (nat_eq n m || is_held (drop from runs) n)
   held_after n =
-      list_any-append (λ r. has_number r n) (take from runs) (run ∷ [])
-      ∙ ap (λ b. is_held (take from runs) n || b)
+      list_any-append (λ r. has_number r n) (take from runs) (run ∷ []) ∙ ap (λ b. is_held (take from runs) n || b)
       (or_false (has_number run n) ∙ sym (list_any-IsPermutation (nat_eq n) (m ∷ joined (drop from runs)) run moved)
       ∙ ap (λ b. nat_eq n m || b) (number_joined (drop from runs) n))
     where
@@ -271,11 +268,8 @@ read_map f xs i x d h is = ap f is ∙ sym (get_or-map f xs i x d h)
 -- one more run's numbers
 pub joined_more : (runs : List (List ℕ)) (i : ℕ) (run done new all : List ℕ) → i < length runs → run ≡ get_or runs i [] → new ≡ done ++ run → done ++ joined (drop i runs) ≡ all → new ++ joined (drop (i + 1) runs) ≡ all
 joined_more runs i run done new all h is pushed so =
-    ap (λ l. l ++ joined (drop (i + 1) runs)) pushed
-    ∙ append_assoc done run (joined (drop (i + 1) runs))
-    ∙ (λ j. done ++ (is j ++ joined (drop (i + 1) runs)))
-    ∙ ap (λ l. done ++ joined l) (sym (drop_more runs i [] h))
-    ∙ so
+    ap (λ l. l ++ joined (drop (i + 1) runs)) pushed ∙ append_assoc done run (joined (drop (i + 1) runs))
+    ∙ (λ j. done ++ (is j ++ joined (drop (i + 1) runs))) ∙ ap (λ l. done ++ joined l) (sym (drop_more runs i [] h)) ∙ so
 
 -- what was found in a run is there
 pub there_found : (values : List Value) (v : Val) (o : Option ℕ) → is_some o ≡ true → IfSome o (λ n. n < length values) → IfSome o (λ n. same (val_at (map view values) n) v ≡ true) → is_some o ≡ is_there v (vals_view values)

@@ -5,70 +5,39 @@ use Rattle.fr_frame.specs.Common.{BitSet, Cell, Conserved, RoseBy, Val, Value, a
 use Rattle.fr_frame.specs.Cells.{swapped}
 use Rattle.fr_frame.proofs.CellLaws.{same_length}
 
--- The child of number i, moved so many steps back.
+-- these children with one more, of this number
+abbrev pub with_one : (n : ℕ) → Cell → List Cell → List Cell
+with_one zero c cs = c ∷ cs
+with_one (suc n) c [] = c ∷ []
+with_one (suc n) c (d ∷ cs) = d ∷ with_one n c cs
 
-abbrev pub past : (steps : ℕ) → Cell → List Cell → List Cell
-past zero c cs = c ∷ cs
-past (suc k) c [] = c ∷ []
-past (suc k) c (d ∷ cs) = d ∷ past k c cs
+-- which moves back behind the next one
+pub one_next : (n : ℕ) (c : Cell) (cs : List Cell) → n < length cs → swapped n (with_one n c cs) ≡ with_one (suc n) c cs
+one_next zero c [] h = absurd (omega arith)
+one_next zero c (d ∷ cs) h = refl
+one_next (suc n) c [] h = absurd (omega arith)
+one_next (suc n) c (d ∷ cs) h = ap (λ (l : List Cell). d ∷ l) (one_next n c cs (omega arith))
 
-abbrev pub sunk : (i steps : ℕ) → List Cell → List Cell
-sunk i k [] = []
-sunk zero k (c ∷ cs) = past k c cs
-sunk (suc i) k (c ∷ cs) = c ∷ sunk i k cs
+pub one_length : (n : ℕ) (c : Cell) (cs : List Cell) → length (with_one n c cs) ≡ suc (length cs)
+one_length zero c cs = refl
+one_length (suc n) c [] = refl
+one_length (suc n) c (d ∷ cs) = ap suc (one_length n c cs)
 
-past_next : (k : ℕ) (c : Cell) (cs : List Cell) → k < length cs → swapped k (past k c cs) ≡ past (suc k) c cs
-past_next zero c [] h = absurd (omega arith)
-past_next zero c (d ∷ cs) h = refl
-past_next (suc k) c [] h = absurd (omega arith)
-past_next (suc k) c (d ∷ cs) h = ap (λ (l : List Cell). d ∷ l) (past_next k c cs (omega arith))
+pub one_get : (n : ℕ) (c : Cell) (cs : List Cell) → n ≤ length cs → slice_get (with_one n c cs) n ≡ Some c
+one_get zero c cs h = refl
+one_get (suc n) c [] h = absurd (omega arith)
+one_get (suc n) c (d ∷ cs) h = one_get n c cs (omega arith)
 
-sunk_next : (i k n : ℕ) (cs : List Cell) → n ≡ i + k → n + 1 < length cs → swapped n (sunk i k cs) ≡ sunk i (suc k) cs
-sunk_next i k n [] e h = absurd (omega arith)
-sunk_next zero k n (c ∷ cs) e h =
-    let same : n ≡ k = omega (arith, e) in
-    ap (λ (m : ℕ). swapped m (past k c cs)) same ∙ past_next k c cs (omega (arith, same))
-sunk_next (suc i) k zero (c ∷ cs) e h = absurd (omega (arith, e))
-sunk_next (suc i) k (suc n) (c ∷ cs) e h = ap (λ (l : List Cell). c ∷ l) (sunk_next i k n cs (omega (arith, e)) (omega arith))
+pub one_last : (n : ℕ) (c : Cell) (cs : List Cell) → length cs ≤ n → with_one n c cs ≡ cs ++ c ∷ []
+one_last zero c [] h = refl
+one_last zero c (d ∷ cs) h = absurd (omega arith)
+one_last (suc n) c [] h = refl
+one_last (suc n) c (d ∷ cs) h = ap (λ (l : List Cell). d ∷ l) (one_last n c cs (omega arith))
 
-past_length : (k : ℕ) (c : Cell) (cs : List Cell) → length (past k c cs) ≡ suc (length cs)
-past_length zero c cs = refl
-past_length (suc k) c [] = refl
-past_length (suc k) c (d ∷ cs) = ap suc (past_length k c cs)
-
-pub sunk_length : (i k : ℕ) (cs : List Cell) → length (sunk i k cs) ≡ length cs
-sunk_length i k [] = refl
-sunk_length zero k (c ∷ cs) = past_length k c cs
-sunk_length (suc i) k (c ∷ cs) = ap suc (sunk_length i k cs)
-
-past_get : (k : ℕ) (c : Cell) (cs : List Cell) → k ≤ length cs → slice_get (past k c cs) k ≡ Some c
-past_get zero c cs h = refl
-past_get (suc k) c [] h = absurd (omega arith)
-past_get (suc k) c (d ∷ cs) h = past_get k c cs (omega arith)
-
-sunk_get : (i k n : ℕ) (cs : List Cell) (c : Cell) → n ≡ i + k → slice_get cs i ≡ Some c → n < length cs
-    → slice_get (sunk i k cs) n ≡ Some c
-sunk_get i k n [] c s e h = absurd (omega arith)
-sunk_get zero k n (d ∷ cs) c s e h =
-    let is : d ≡ c = cc in
-    let same : n ≡ k = omega (arith, s) in
-    ap (slice_get (past k d cs)) same ∙ past_get k d cs (omega (arith, same)) ∙ ap (λ (x : Cell). Some x) is
-sunk_get (suc i) k zero (d ∷ cs) c s e h = absurd (omega (arith, s))
-sunk_get (suc i) k (suc n) (d ∷ cs) c s e h = sunk_get i k n cs c (omega (arith, s)) e (omega arith)
-
-past_all : (k : ℕ) (c : Cell) (cs : List Cell) → length cs ≤ k → past k c cs ≡ cs ++ c ∷ []
-past_all zero c [] h = refl
-past_all zero c (d ∷ cs) h = absurd (omega arith)
-past_all (suc k) c [] h = refl
-past_all (suc k) c (d ∷ cs) h = ap (λ (l : List Cell). d ∷ l) (past_all k c cs (omega arith))
-
-sunk_all : (i k : ℕ) (cs : List Cell) (c : Cell) → slice_get cs i ≡ Some c → length cs ≤ i + k + 1
-    → sunk i k cs ≡ without_cell i cs ++ c ∷ []
-sunk_all i k [] c e h = cc
-sunk_all zero k (d ∷ cs) c e h =
-    let is : d ≡ c = cc in
-    past_all k d cs (omega arith) ∙ ap (λ (x : Cell). cs ++ x ∷ []) is
-sunk_all (suc i) k (d ∷ cs) c e h = ap (λ (l : List Cell). d ∷ l) (sunk_all i k cs c e (omega arith))
+pub one_back : (n : ℕ) (c : Cell) (cs : List Cell) → slice_get cs n ≡ Some c → with_one n c (without_cell n cs) ≡ cs
+one_back n c [] e = cc
+one_back zero c (d ∷ cs) e = let is : c ≡ d = cc in ap (λ (x : Cell). x ∷ cs) is
+one_back (suc n) c (d ∷ cs) e = ap (λ (l : List Cell). d ∷ l) (one_back n c cs e)
 
 pub get_inside : (cs : List Cell) (i : ℕ) (c : Cell) → slice_get cs i ≡ Some c → i < length cs
 get_inside [] i c e = cc
@@ -101,8 +70,7 @@ one_longer (c ∷ rest) last = ap suc (one_longer rest last)
 pub cells_popped : (bits : BitSet) (vs fewer : List Value) (cs rest : List Cell) (last : Cell) (n : ℕ) → cells_of bits 0 vs ≡ cs
     → cs ≡ rest ++ last ∷ [] → n ≡ length vs → fewer ≡ take (n - 1) vs → cells_of bits 0 fewer ≡ rest
 cells_popped bits vs fewer cs rest last n e is count popped =
-    ap (cells_of bits 0) popped ∙ cells_taken bits 0 vs (n - 1)
-    ∙ ap (take (n - 1)) (e ∙ is)
+    ap (cells_of bits 0) popped ∙ cells_taken bits 0 vs (n - 1) ∙ ap (take (n - 1)) (e ∙ is)
     ∙ all_but_last rest last (n - 1) (omega (
       arith,
       count,
@@ -191,40 +159,6 @@ no_child cs i h e f = go (slice_get cs i) refl
     go (Some (placed m)) g = let no : None ≡ Some m = e ∙ ap (option_and_then slot_of_cell) g in cc
     go (Some (given u)) g = let no : None ≡ Some u = f ∙ ap (option_and_then value_of_cell) g in cc
 
--- Moving it behind all others.
-
-pub record Sinking (all now : List Cell) (first at : ℕ) : Type 0 where
-  pub steps : ℕ
-  pub number : at ≡ first + steps
-  pub is : now ≡ sunk first steps all
-
-sunk_none : (i : ℕ) (cs : List Cell) → sunk i zero cs ≡ cs
-sunk_none i [] = refl
-sunk_none zero (c ∷ cs) = refl
-sunk_none (suc i) (c ∷ cs) = ap (λ (l : List Cell). c ∷ l) (sunk_none i cs)
-
-pub sinking_begins : (all : List Cell) (first : ℕ) → Sinking all all first first
-sinking_begins all first = record { steps = 0; number = omega arith; is = sym (sunk_none first all) }
-
-module _ (all now : List Cell) (first at : ℕ) (so_far : Sinking all now first at) (gone : slice_get all first ≡ Some absent) where
-  pub sinking_count : length now ≡ length all
-  sinking_count = ap length so_far.is ∙ sunk_length first so_far.steps all
-
-  pub sinking_here : at < length all → slice_get now at ≡ Some absent
-  sinking_here h =
-      ap (λ (cs : List Cell). slice_get cs at) so_far.is ∙ sunk_get first so_far.steps at all absent so_far.number gone h
-
-  pub sinking_step : (next : List Cell) → at + 1 < length all → next ≡ swapped at now → Sinking all next first (at + 1)
-  sinking_step next h is = record {
-    steps = suc so_far.steps;
-    number = omega (arith, so_far.number);
-    is =
-        is ∙ ap (swapped at) so_far.is ∙ sunk_next first so_far.steps at all so_far.number h;
-  }
-
-  pub sinking_ends : length all ≤ at + 1 → now ≡ without_cell first all ++ absent ∷ []
-  sinking_ends h = so_far.is ∙ sunk_all first so_far.steps all absent gone (omega (arith, so_far.number))
-
 -- The search.
 
 pub same_without : (v : Val) (i : ℕ) (cs : List Cell) → slice_get cs i ≡ Some absent
@@ -240,7 +174,7 @@ drop_here i [] c e = cc
 drop_here zero (d ∷ cs) c e = let is : d ≡ c = cc in ap (λ (x : Cell). x ∷ cs) is
 drop_here (suc i) (d ∷ cs) c e = drop_here i cs c e
 
-next_number : (i : ℕ) → suc i ≡ i + 1
+pub next_number : (i : ℕ) → suc i ≡ i + 1
 next_number i = omega arith
 
 element : (cs : List Cell) (i : ℕ) → i < length cs → (c : Cell) × (slice_get cs i ≡ Some c)
@@ -291,8 +225,7 @@ pub comes_last : (v : Val) (i : ℕ) (cs moved : List Cell) (last : ℕ) → sli
     → set moved last (given v) ≡ and_item_cell (without_cell i cs) v
 comes_last v i cs moved last e is moved_is last_is =
     ap (λ (l : List Cell). set l last (given v)) moved_is
-    ∙ ap (λ (k : ℕ). set (without_cell i cs ++ absent ∷ []) k (given v)) last_is
-    ∙ set_last (without_cell i cs) absent (given v)
+    ∙ ap (λ (k : ℕ). set (without_cell i cs ++ absent ∷ []) k (given v)) last_is ∙ set_last (without_cell i cs) absent (given v)
     ∙ ap (λ (b : Bool). if b then without_cell i cs else without_cell i cs ++ given v ∷ []) (sym (same_without v i cs e ∙ is))
 
 without_occurs : (i : ℕ) (cs : List Cell) (t : ℕ) → slice_get cs i ≡ Some absent → cells_occur (without_cell i cs) t ≡ cells_occur cs t
@@ -312,8 +245,7 @@ pub item_released : (v : Val) (i : ℕ) (cs new : List Cell) (before after : Lis
     → Conserved (λ t. cells_occur cs t + occurs v t) before (cells_occur new) after
 item_released v i cs new before after e is rose = record {
   same_length = rose.same_length;
-  kept_or_released = λ t.
-      omega (arith, rose.each t, without_occurs i cs t e, ap (λ (l : List Cell). cells_occur l t) is);
+  kept_or_released = λ t. omega (arith, rose.each t, without_occurs i cs t e, ap (λ (l : List Cell). cells_occur l t) is);
   none_falls = λ t. omega (arith, rose.each t);
 }
 
@@ -334,5 +266,4 @@ item_kept v i cs new ledger e is = record {
 pub comes_behind : (v : Val) (i : ℕ) (cs new : List Cell) → slice_get cs i ≡ Some absent → has_same_cell v cs ≡ false
     → new ≡ and_item_cell (without_cell i cs) v → new ≡ without_cell i cs ++ given v ∷ []
 comes_behind v i cs new e is new_is =
-    new_is
-    ∙ ap (λ (b : Bool). if b then without_cell i cs else without_cell i cs ++ given v ∷ []) (same_without v i cs e ∙ is)
+    new_is ∙ ap (λ (b : Bool). if b then without_cell i cs else without_cell i cs ++ given v ∷ []) (same_without v i cs e ∙ is)

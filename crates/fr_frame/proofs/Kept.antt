@@ -131,6 +131,5 @@ entry_room held before es between k v rest last is room c =
 -- the place of the next entry, and of those behind it
 pub placed_next : (es new : Entries) (k v : Value) (rest last : List Value) (places : List ℕ) (i : ℕ) → rest ≡ k ∷ (v ∷ last) → new ≡ with_entry_in es (view k) (view v) → drop i places ≡ entry_places es (vals_view rest) → drop (i + 1) places ≡ entry_places new (vals_view last)
 placed_next es new k v rest last places i is put placed =
-    sym (drop-drop 1 i places)
-    ∙ ap (drop 1) (placed ∙ ap (λ l. entry_places es (vals_view l)) is)
+    sym (drop-drop 1 i places) ∙ ap (drop 1) (placed ∙ ap (λ l. entry_places es (vals_view l)) is)
     ∙ ap (λ l. entry_places l (vals_view last)) (sym put)

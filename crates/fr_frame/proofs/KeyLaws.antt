@@ -1,12 +1,13 @@
 -- Finding a key by the index of the names.
-use Rattle.std.proofs.Common.{◌≡◌, ℕ, zero, suc, ◌<◌, Bool, true, false, not, ◌&&◌, ◌||◌, true≢false, List, [], ◌∷◌, length, map, Option, Some, None, is_some, IfSome, refl, sym, ap, subst, ◌∙◌, arith}
+use Rattle.std.proofs.Common.{◌≡◌, ℕ, zero, suc, ◌<◌, ◌≤◌, Bool, true, false, not, ◌&&◌, ◌||◌, true≢false, List, [], ◌∷◌, length, map, Option, Some, None, is_some, IfSome, slice_get, refl, sym, ap, subst, ◌∙◌, arith}
 use Rattle.fr_frame.specs.Common.{Val, Value, entry_found, is_there, keys_apart, names_of, option_map, same, val_at, vals_view, view}
 use Rattle.std.specs.Str.{bytes_eq}
 use Rattle.std.proofs.lemmas.List.{length-map}
 use Rattle.std.proofs.lemmas.Slice.Eq.{bytes_eq-Decides}
 use Rattle.fr_shape.specs.Val.{text}
 use Rattle.fr_shape.specs.View.{vals_of}
-use Rattle.fr_model.specs.Dynamics.{lacks}
+use Rattle.fr_model.specs.Dynamics.{key_nth, lacks}
+use Rattle.fr_frame.specs.KeyNames.{name_of}
 
 bytes_are : (xs ys : List ℕ) → bytes_eq xs ys ≡ true → xs ≡ ys
 bytes_are xs ys e = (bytes_eq-Decides xs ys).0 e
@@ -55,8 +56,7 @@ not_there key (other ∷ keys) e = go (bytes_eq other key) refl (bytes_eq key ot
     go : (a : Bool) → bytes_eq other key ≡ a → (b : Bool) → bytes_eq key other ≡ b → false ≡ (a || is_there (text key) (vals_of (map text keys)))
         → (false ≡ is_there (text key) (vals_of (map text keys)) → None ≡ entry_found key keys) → None ≡ entry_found key (other ∷ keys)
     go true here b back e rest = absurd (cc e)
-    go false here true back e rest =
-        absurd (true≢false (sym (bytes_same other key (sym (bytes_are key other back))) ∙ here))
+    go false here true back e rest = absurd (true≢false (sym (bytes_same other key (sym (bytes_are key other back))) ∙ here))
     go false here false back e rest = rw back (ap (option_map suc) (rest e))
 
 -- what the index finds is the entry of the key
@@ -74,8 +74,19 @@ pub found_in : (key : List ℕ) (keys : List (List ℕ)) (names slice : List Val
 found_in key keys names slice v o there within is shown sliced texts named apart =
     let so : map view slice ≡ map text keys = ap (map view) sliced ∙ texts ∙ ap (map text) named in
     let long : length slice ≡ length keys = sym (length-map slice view) ∙ ap length so ∙ length-map keys text in
-    found_is key keys o apart
-    (there ∙ (λ j. is_there (shown j) (vals_of (so j))))
+    found_is key keys o apart (there ∙ (λ j. is_there (shown j) (vals_of (so j))))
     (subst (λ (count : ℕ). IfSome o (λ n. n < count)) long within)
     (subst (λ (vs : List Val). IfSome o (λ n. same (val_at vs n) (text key) ≡ true)) so
     (subst (λ (u : Val). IfSome o (λ n. same (val_at (map view slice) n) u ≡ true)) shown is))
+
+-- The name of a number, if there is one.
+
+pub name_nth : (names : List Value) (i : ℕ) (name : Value) → slice_get names i ≡ Some name → name_of (view name) ≡ key_nth (names_of names) i
+name_nth [] i name e = cc
+name_nth (other ∷ names) zero name e = let same : other ≡ name = cc in ap (λ (v : Value). name_of (view v)) (sym same)
+name_nth (other ∷ names) (suc i) name e = name_nth names i name e
+
+pub no_name_nth : (names : List Value) (i : ℕ) → length names ≤ i → [] ≡ key_nth (names_of names) i
+no_name_nth [] i h = refl
+no_name_nth (other ∷ names) zero h = absurd (omega (arith, h))
+no_name_nth (other ∷ names) (suc i) h = no_name_nth names i (omega (arith, h))

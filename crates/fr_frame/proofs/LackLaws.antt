@@ -1,7 +1,7 @@
--- What a place lacks and what it makes, by what each of its children lacks and makes.
-use Rattle.std.proofs.Common.{◌≡◌, ℕ, zero, suc, ◌+◌, ◌-◌, ◌<◌, Bool, true, false, ◌||◌, not, List, [], ◌∷◌, length, map, drop, replicate, Option, Some, None, IsSome, slice_get, get_or, inl, inr, refl, sym, ◌∙◌, ap, subst, arith, if◌then◌else◌}
+-- What a place lacks and what it makes by the rules of either column, by what each of its children lacks and makes.
+use Rattle.std.proofs.Common.{◌≡◌, ℕ, zero, suc, ◌<◌, Bool, false, true, ◌||◌, not, List, [], ◌∷◌, length, map, replicate, Option, Some, None, IsSome, slice_get, get_or, refl, sym, ◌∙◌, ap, subst, arith, if◌then◌else◌}
 use Rattle.std.specs.List.{list_any}
-use Rattle.fr_frame.specs.Common.{AreTold, Body, Cell, Column, Def, Err, Field, FieldPlan, FieldRef, IfErr, IsCauseOf, IsTold, Meanings, Ok, Plan, ReflectErrorKind, Result, Table, Tracker, Val, Vals, VariantDef, absent, as_fields, begun_body, child_count, complete, def_of, entered_body, failing_child, field_in, field_of_variant, fields_of_tracker, fill_told, filled, filled_body, first_refused, given, has_validators, lack, lack_among, lack_of_child, lack_of_holes, made, missing_child, missing_value, one_more, option_or, own_tree, part_of, placed, preset_of, strict_column, trees_of, value_at, value_of_cell, values_of, whole_body}
+use Rattle.fr_frame.specs.Common.{AreTold, AreUnplaced, Body, Cell, Column, Def, Field, FieldPlan, FieldRef, IsChecked, IsClosed, IsFilled, IsFull, IsFullAs, IsNamed, IsTold, Meanings, Plan, Question, ReflectErrorKind, Table, Tracker, Val, Vals, VariantDef, absent, as_fields, ask, ask_field, begun_body, child_count, complete, def_of, defaulted, defaulted_by, defaulted_cell, defaulted_cells, defaulted_struct, entered_body, failing_child, field_at, field_fill, field_in, field_of_variant, first_asked, first_refused, has_validators, hole_takes, lack_of_child, made, missing_child, missing_value, one_more, option_or, own_tree, part_of, preset_of, strict_column, trees_of, value_of, value_of_cell, values_of, whole_body}
 use Rattle.std.specs.Option.{option_map_or}
 use Rattle.std.specs.Prelude.{slice_index_or}
 use Rattle.fr_shape.specs.declared.shape.ScalarKind.{ScalarKind}
@@ -10,12 +10,14 @@ use Rattle.fr_shape.specs.Lists.{is_nil}
 use Rattle.fr_shape.specs.Validators.{passes, passes_at, message, kind_of}
 use Rattle.fr_rules.specs.declared.validators.PrecomputedValidator.{PrecomputedValidator}
 use Rattle.fr_rules.specs.Validators.{passes_held, validator_of}
-use Rattle.fr_model.specs.Complete.{complete_all, made_by, made_of_fills, lack_by, lack_of_hole, failing_field, first_failing, valid_child, unless_failing, unless_there}
+use Rattle.fr_model.specs.Complete.{complete_all, made_by, made_of_fills, lack_by, failing_field, first_failing, valid_child, unless_failing, unless_there}
 use Rattle.fr_model.specs.Places.{fill_at, each_child}
 use Rattle.fr_plan.specs.Fields.{fields_in, has_validator}
 use Rattle.fr_plan.specs.Plans.{precomputed, with_kind, kind_of as kind_in_plan}
 use Rattle.fr_frame.specs.Filling.{IsToldAt, child_value}
-use Rattle.fr_frame.proofs.TrackerLaws.{field_fails_by, field_missing, field_takes, others_missing, others_pass, others_take}
+use Rattle.fr_frame.proofs.AskLaws.{more_there, or_none}
+use Rattle.fr_frame.proofs.BodyLaws.{full_value}
+use Rattle.fr_frame.proofs.FillLaws.{all_alike, none_placed, value_then}
 
 -- What fails.
 
@@ -40,270 +42,55 @@ refused_is : (means : Meanings) (def : Def) (s : ℕ) (selected : Option ℕ) (i
     ≡ first_failing means def s selected i validators v
 refused_is means def s selected i [] v = refl
 refused_is means def s selected i (validator ∷ validators) v =
-    ap
-    (λ (b : Bool).
-    if b then first_refused means (meant_field s selected i) (map (precomputed (kind_in_plan def)) validators) v
+    ap (λ (b : Bool). if b then first_refused means (meant_field s selected i) (map (precomputed (kind_in_plan def)) validators) v
     else Some (ReflectErrorKind.ValidationFailed (meant_field s selected i)
-    (message (validator_of (with_kind (kind_in_plan def) validator)) v)))
-    (held_passes means.check (kind_in_plan def) validator v
-    ∙ ap (λ (kind : ScalarKind). passes means.check kind validator v) (kinds_agree def))
-    ∙ ap
-    (λ (o : Option ReflectErrorKind).
-    if passes_at means.check def validator v then o
-    else Some (ReflectErrorKind.ValidationFailed (meant_field s selected i)
-    (message (validator_of (with_kind (kind_in_plan def) validator)) v)))
-    (refused_is means def s selected i validators v)
-    ∙ ap
-    (λ (d : ValidatorDef).
-    if passes_at means.check def validator v then first_failing means def s selected i validators v
-    else Some (ReflectErrorKind.ValidationFailed (meant_field s selected i) (message d v)))
-    (held_is (kind_in_plan def) validator)
-
--- One child.
-
-pub cause_first : (a b : Option ReflectErrorKind) (kind : ReflectErrorKind) → IsCauseOf a kind → IsCauseOf (option_or a b) kind
-cause_first (Some k) b kind h = h
-cause_first None b kind (inl e) = absurd (cc)
-cause_first None b kind (inr h) = absurd h.1
-
-pub first_none : (a b : Option ReflectErrorKind) → a ≡ None → option_or a b ≡ b
-first_none a b e = ap (λ (o : Option ReflectErrorKind). option_or o b) e
-
-pub or_none : (a b : Option ReflectErrorKind) → option_or a b ≡ None → (a ≡ None) × (b ≡ None)
-or_none (Some k) b h = absurd (cc)
-or_none None b h = (refl, h)
-
-value_there : (kind : ReflectErrorKind) (value : Option Val) (failing : Option Val → Option ReflectErrorKind)
-    → option_or (unless_there value kind) (failing value) ≡ None
-    → (unless_failing (failing value) value ≡ value) × IsSome value
-value_there kind (Some v) failing h = (ap (λ (f : Option ReflectErrorKind). unless_failing f (Some v)) h, refl)
-value_there kind None failing h = absurd (cc)
-
-value_lacks : (kind : ReflectErrorKind) (value : Option Val) (failing : Option Val → Option ReflectErrorKind)
-    (cause : ReflectErrorKind) → option_or (unless_there value kind) (failing value) ≡ Some cause
-    → unless_failing (failing value) value ≡ None
-value_lacks kind (Some v) failing cause h = ap (λ (f : Option ReflectErrorKind). unless_failing f (Some v)) h
-value_lacks kind None failing cause h = no_value (failing None)
-  where
-    no_value : (f : Option ReflectErrorKind) → unless_failing f None ≡ None
-    no_value (Some k) = refl
-    no_value None = refl
-
-more_there : (value : Option Val) (values : Option Vals) → IsSome value → IsSome values → IsSome (one_more value values)
-more_there (Some v) (Some vs) a b = refl
-more_there (Some v) None a b = absurd (cc)
-more_there None values a b = absurd (cc)
-
-none_more : (value : Option Val) → one_more value None ≡ None
-none_more (Some v) = refl
-none_more None = refl
+    (message (validator_of (with_kind (kind_in_plan def) validator)) v))) (held_passes means.check (kind_in_plan def) validator v
+    ∙ ap (λ (kind : ScalarKind). passes means.check kind validator v) (kinds_agree def)) ∙ ap (λ (o : Option ReflectErrorKind).
+    if passes_at means.check def validator v then o else Some (ReflectErrorKind.ValidationFailed (meant_field s selected i)
+    (message (validator_of (with_kind (kind_in_plan def) validator)) v))) (refused_is means def s selected i validators v) ∙ ap
+    (λ (d : ValidatorDef). if passes_at means.check def validator v then first_failing means def s selected i validators v
+    else Some (ReflectErrorKind.ValidationFailed (meant_field s selected i) (message d v))) (held_is (kind_in_plan def) validator)
 
 -- Fields, as a plan tells them.
 
-module _ (means : Meanings) (table : Table) (plan : Plan) (s : ℕ) (selected : Option ℕ) (i : ℕ) (told : FieldPlan)
-    (is : IsTold table plan s selected i told) where
-  pub field_value : (own : Option Val)
-      → option_or own (fill_told table told.fill_rule) ≡ child_value table s (as_fields selected) i own
-  field_value own = ap (option_or own) (is.fill ∙ sym (field_takes strict_column table s selected i))
+module _ {table : Table} {plan : Plan} {s : ℕ} {selected : Option ℕ} {i : ℕ} {told : FieldPlan} (is : IsTold table plan s selected i told) where
+  pub names_field : IsNamed table told
+  names_field = record {
+    named = subst (λ (meant : FieldRef). IsSome (field_at table meant)) (sym is.meant) (subst IsSome (sym is.here) refl);
+    fill = is.fill ∙ sym (ap (field_fill strict_column table) is.meant);
+  }
 
-  pub field_fails : (v : Val)
+  -- the same, of what it names itself
+  pub told_itself : IsTold table plan told.field.shape.0 told.field.variant told.field.index told
+  told_itself = subst (λ (meant : FieldRef). IsTold table plan meant.shape.0 meant.variant meant.index told) (sym is.meant) is
+
+  pub its_fill : (column : Column) → field_fill column table told.field ≡ hole_takes column table s (as_fields selected) i
+  its_fill column = ap (field_fill column table) is.meant
+
+  pub its_lack : (question : Question) (means : Meanings) (own : Option Val)
+      → ask_field question means table told.field own ≡ ask question means table s (as_fields selected) i own
+  its_lack question means own = ap (λ (meant : FieldRef). ask_field question means table meant own) is.meant
+
+  pub field_fails : (means : Meanings) (v : Val)
       → first_refused means told.field (part_of plan.lists.validators told.validators) v
       ≡ failing_child means table s (as_fields selected) i (Some v)
-  field_fails v =
+  field_fails means v =
       ap (λ (meant : FieldRef). first_refused means meant (part_of plan.lists.validators told.validators) v) is.meant
       ∙ ap (λ (validators : List PrecomputedValidator). first_refused means (meant_field s selected i) validators v) is.validators.names
       ∙ refused_is means (def_of table is.field.shape.0) s selected i is.field.validators v
       ∙ ap (λ (field : Option Field). failing_field means table s selected i field (Some v)) (sym is.here)
-      ∙ sym (field_fails_by means table s selected i (Some v))
 
   -- where the field has this value it lacks what fails
-  pub field_lacks : (own : Option Val) (v : Val) → option_or own (fill_told table told.fill_rule) ≡ Some v
+  pub field_lacks : (means : Meanings) (own : Option Val) (v : Val)
+      → child_value strict_column table s (as_fields selected) i own ≡ Some v
       → first_refused means told.field (part_of plan.lists.validators told.validators) v
-      ≡ lack_of_child means table s (as_fields selected) i own
-  field_lacks own v e =
-      field_fails v
-      ∙ ap
-      (λ (value : Option Val).
+      ≡ lack_of_child strict_column means table s (as_fields selected) i own
+  field_lacks means own v e =
+      field_fails means v ∙ ap (λ (value : Option Val).
       option_or (unless_there value (missing_child s (as_fields selected) i)) (failing_child means table s (as_fields selected) i value))
-      (sym e ∙ field_value own)
+      (sym e)
 
-  -- and where it has none it lacks that
-  pub field_none : (own : Option Val) → option_or own (fill_told table told.fill_rule) ≡ None
-      → Some (ReflectErrorKind.UninitializedField told.field) ≡ lack_of_child means table s (as_fields selected) i own
-  field_none own e =
-      ap (λ (meant : FieldRef). Some (ReflectErrorKind.UninitializedField meant)) is.meant
-      ∙ ap Some (sym (field_missing s selected i))
-      ∙ ap
-      (λ (value : Option Val).
-      option_or (unless_there value (missing_child s (as_fields selected) i)) (failing_child means table s (as_fields selected) i value))
-      (sym e ∙ field_value own)
-
-pub told_here : (table : Table) (plan : Plan) (s : ℕ) (selected : Option ℕ) (i : ℕ) (told : List FieldPlan) (one : FieldPlan)
-    → AreTold table plan s selected told → slice_get told i ≡ Some one → IsTold table plan s selected i one
-told_here table plan s selected i told one are e = subst (IsToldAt table plan s selected i) e (are.each i)
-
-module _ (table : Table) (plan : Plan) (s : ℕ) (selected : Option ℕ) (i : ℕ) (one : FieldPlan) (is : IsTold table plan s selected i one) where
-  -- the same, of what it names itself
-  pub told_itself : IsTold table plan one.field.shape.0 one.field.variant one.field.index one
-  told_itself = subst (λ (meant : FieldRef). IsTold table plan meant.shape.0 meant.variant meant.index one) (sym is.meant) is
-
-  pub lack_itself : (means : Meanings) (own : Option Val)
-      → lack_of_child means table one.field.shape.0 (as_fields one.field.variant) one.field.index own
-      ≡ lack_of_child means table s (as_fields selected) i own
-  lack_itself means own =
-      ap (λ (meant : FieldRef). lack_of_child means table meant.shape.0 (as_fields meant.variant) meant.index own) is.meant
-
--- Children.
-
-module _ (means : Meanings) (table : Table) (s : ℕ) (tracker : Tracker) where
-  lack_step : (i : ℕ) (c : Cell) (cs : List Cell)
-      → lack_among means table s tracker i (trees_of (c ∷ cs))
-      ≡ option_or (lack_of_child means table s tracker i (value_of_cell c)) (lack_among means table s tracker (suc i) (trees_of cs))
-  lack_step i absent cs = refl
-  lack_step i _ cs = refl
-
-  made_step : (i : ℕ) (c : Cell) (cs : List Cell)
-      → complete_all strict_column means table s tracker i (trees_of (c ∷ cs))
-      ≡ one_more (valid_child means table s tracker i (child_value table s tracker i (value_of_cell c)))
-      (complete_all strict_column means table s tracker (suc i) (trees_of cs))
-  made_step i absent cs = refl
-  made_step i _ cs = refl
-
-  pub lack_next : (cs : List Cell) (k i : ℕ) → k < length cs
-      → lack_among means table s tracker i (trees_of (drop k cs))
-      ≡ option_or (lack_of_child means table s tracker i (value_at cs k)) (lack_among means table s tracker (suc i) (trees_of (drop (suc k) cs)))
-  lack_next [] k i h = absurd (omega arith)
-  lack_next (c ∷ cs) zero i h = lack_step i c cs
-  lack_next (c ∷ cs) (suc k) i h = lack_next cs k i (omega arith)
-
-  -- children that lack nothing make what they are filled to
-  pub made_whole : (i : ℕ) (cs : List Cell) → lack_among means table s tracker i (trees_of cs) ≡ None
-      → (complete_all strict_column means table s tracker i (trees_of cs) ≡ filled table s tracker i cs) × IsSome (filled table s tracker i cs)
-  made_whole i [] h = (refl, refl)
-  made_whole i (c ∷ cs) h =
-      let both : (lack_of_child means table s tracker i (value_of_cell c) ≡ None)
-      × (lack_among means table s tracker (suc i) (trees_of cs) ≡ None)
-      = or_none (lack_of_child means table s tracker i (value_of_cell c)) (lack_among means table s tracker (suc i) (trees_of cs))
-      (sym (lack_step i c cs) ∙ h) in
-      let here : (valid_child means table s tracker i (child_value table s tracker i (value_of_cell c)) ≡ child_value table s tracker i (value_of_cell c))
-      × IsSome (child_value table s tracker i (value_of_cell c))
-      = value_there (missing_child s tracker i) (child_value table s tracker i (value_of_cell c)) (failing_child means table s tracker i) both.0 in
-      let rest : (complete_all strict_column means table s tracker (suc i) (trees_of cs) ≡ filled table s tracker (suc i) cs) × IsSome (filled table s tracker (suc i) cs)
-      = made_whole (suc i) cs both.1 in (
-        made_step i c cs
-            ∙ ap (λ (value : Option Val). one_more value (complete_all strict_column means table s tracker (suc i) (trees_of cs))) here.0
-            ∙ ap (one_more (child_value table s tracker i (value_of_cell c))) rest.0,
-        more_there (child_value table s tracker i (value_of_cell c)) (filled table s tracker (suc i) cs) here.1 rest.1,
-      )
-
-  -- and none is made where something is lacking
-  pub not_made : (i : ℕ) (cs : List Cell) (kind : ReflectErrorKind) → lack_among means table s tracker i (trees_of cs) ≡ Some kind
-      → complete_all strict_column means table s tracker i (trees_of cs) ≡ None
-  not_made i [] kind h = absurd (cc)
-  not_made i (c ∷ cs) kind h =
-      made_step i c cs
-      ∙ go (lack_of_child means table s tracker i (value_of_cell c)) refl (sym (lack_step i c cs) ∙ h) (not_made (suc i) cs kind)
-    where
-      go : (here : Option ReflectErrorKind) → lack_of_child means table s tracker i (value_of_cell c) ≡ here
-          → option_or (lack_of_child means table s tracker i (value_of_cell c)) (lack_among means table s tracker (suc i) (trees_of cs)) ≡ Some kind
-          → (lack_among means table s tracker (suc i) (trees_of cs) ≡ Some kind → complete_all strict_column means table s tracker (suc i) (trees_of cs) ≡ None)
-          → one_more (valid_child means table s tracker i (child_value table s tracker i (value_of_cell c)))
-          (complete_all strict_column means table s tracker (suc i) (trees_of cs)) ≡ None
-      go (Some cause) e all rest =
-          ap (λ (value : Option Val). one_more value (complete_all strict_column means table s tracker (suc i) (trees_of cs)))
-          (value_lacks (missing_child s tracker i) (child_value table s tracker i (value_of_cell c)) (failing_child means table s tracker i) cause e)
-      go None e all rest =
-          ap (one_more (valid_child means table s tracker i (child_value table s tracker i (value_of_cell c))))
-          (rest (sym (first_none (lack_of_child means table s tracker i (value_of_cell c)) (lack_among means table s tracker (suc i) (trees_of cs)) e) ∙ all))
-          ∙ none_more (valid_child means table s tracker i (child_value table s tracker i (value_of_cell c)))
-
-  pub no_children_lack : (count i : ℕ)
-      → lack_of_holes means table s tracker count i ≡ lack_among means table s tracker i (trees_of (replicate count absent))
-  no_children_lack zero i = refl
-  no_children_lack (suc count) i =
-      ap (option_or (lack_of_hole means table s tracker i)) (no_children_lack count (suc i))
-
-pub holes_next : (means : Meanings) (table : Table) (s : ℕ) (tracker : Tracker) (count left i : ℕ) → left ≡ suc count
-    → lack_of_holes means table s tracker left i
-    ≡ option_or (lack_of_child means table s tracker i None) (lack_of_holes means table s tracker count (suc i))
-holes_next means table s tracker count left i e = ap (λ (n : ℕ). lack_of_holes means table s tracker n i) e
-
--- Places.
-
-module _ (means : Meanings) (table : Table) (s : ℕ) where
-  pub no_children_made : (column : Column) (count i : ℕ)
-      → each_child (λ k. valid_child means table s (as_fields None) k (fill_at column table s k)) count i
-      ≡ complete_all column means table s (as_fields None) i (trees_of (replicate count absent))
-  no_children_made column zero i = refl
-  no_children_made column (suc count) i =
-      ap (one_more (valid_child means table s (as_fields None) i (fill_at column table s i))) (no_children_made column count (suc i))
-
-  abbrev holes : List Cell
-  holes = replicate (child_count table s) absent
-
-  by_def_whole : (def : Def) (preset : Option Val) (lacking : Option ReflectErrorKind) (made_up fills : Option Val)
-      → lack_by def preset lacking (missing_value s) ≡ None → (lacking ≡ None → (made_up ≡ fills) × IsSome fills)
-      → (made_by def preset made_up ≡ made_by def preset fills) × IsSome (made_by def preset fills)
-  by_def_whole (Def.Struct struct) (Some v) lacking made_up fills h so = (refl, refl)
-  by_def_whole (Def.Struct struct) None lacking made_up fills h so = so h
-  by_def_whole (Def.Option t) (Some v) lacking made_up fills h so = (refl, refl)
-  by_def_whole (Def.Option t) None lacking made_up fills h so = absurd (cc)
-  by_def_whole _ preset lacking made_up fills h so = absurd (cc)
-
-  by_def_lacks : (def : Def) (preset : Option Val) (lacking : Option ReflectErrorKind) (made_up : Option Val)
-      (kind : ReflectErrorKind) → lack_by def preset lacking (missing_value s) ≡ Some kind
-      → (lacking ≡ Some kind → made_up ≡ None) → made_by def preset made_up ≡ None
-  by_def_lacks (Def.Struct struct) (Some v) lacking made_up kind h so = absurd (cc)
-  by_def_lacks (Def.Struct struct) None lacking made_up kind h so = so h
-  by_def_lacks (Def.Option t) (Some v) lacking made_up kind h so = absurd (cc)
-  by_def_lacks (Def.Option t) None lacking made_up kind h so = refl
-  by_def_lacks _ preset lacking made_up kind h so = refl
-
-  made_up_is : made_of_fills strict_column means table s ≡ made (as_fields None) (complete_all strict_column means table s (as_fields None) 0 (trees_of holes))
-  made_up_is = ap (made (as_fields None)) (no_children_made strict_column (child_count table s) 0)
-
-  pub made_there : (tracker : Tracker) (values : Option Vals) → IsSome values → IsSome (made tracker values)
-  made_there tracker (Some vs) h = refl
-  made_there tracker None h = absurd (cc)
-
-  pub made_none : (tracker : Tracker) → made tracker None ≡ None
-  made_none tracker = refl
-
-  -- a place that lacks nothing makes what it is filled to
-  pub body_whole : (body : Body) → lack means table s (own_tree body) ≡ None
-      → (complete strict_column means table s (own_tree body) ≡ filled_body table s body) × IsSome (filled_body table s body)
-  body_whole entered_body h =
-      by_def_whole (def_of table s) (preset_of table s) (lack_of_holes means table s (as_fields None) (child_count table s) 0)
-      (made_of_fills strict_column means table s) (made (as_fields None) (filled table s (as_fields None) 0 holes)) h
-      (λ e.
-      let so : (complete_all strict_column means table s (as_fields None) 0 (trees_of holes) ≡ filled table s (as_fields None) 0 holes) × IsSome (filled table s (as_fields None) 0 holes)
-      = made_whole means table s (as_fields None) 0 holes (sym (no_children_lack means table s (as_fields None) (child_count table s) 0) ∙ e) in
-      (made_up_is ∙ ap (made (as_fields None)) so.0, made_there (as_fields None) (filled table s (as_fields None) 0 holes) so.1))
-  body_whole (whole_body v) h = (refl, refl)
-  body_whole (begun_body tracker cells) h =
-      let so : (complete_all strict_column means table s tracker 0 (trees_of cells) ≡ filled table s tracker 0 cells) × IsSome (filled table s tracker 0 cells)
-      = made_whole means table s tracker 0 cells h in
-      (ap (made tracker) so.0, made_there tracker (filled table s tracker 0 cells) so.1)
-
-  -- and one that lacks something makes nothing
-  pub body_lacks : (body : Body) (kind : ReflectErrorKind) → lack means table s (own_tree body) ≡ Some kind
-      → complete strict_column means table s (own_tree body) ≡ None
-  body_lacks entered_body kind h =
-      by_def_lacks (def_of table s) (preset_of table s) (lack_of_holes means table s (as_fields None) (child_count table s) 0)
-      (made_of_fills strict_column means table s) kind h
-      (λ e.
-      made_up_is
-      ∙ ap (made (as_fields None))
-      (not_made means table s (as_fields None) 0 holes kind (sym (no_children_lack means table s (as_fields None) (child_count table s) 0) ∙ e)))
-  body_lacks (whole_body v) kind h = absurd (cc)
-  body_lacks (begun_body tracker cells) kind h =
-      ap (made tracker) (not_made means table s tracker 0 cells kind h) ∙ made_none tracker
-
--- Children that are all there, of fields without validators.
-
-all_later : (v : Val) (vs : Option Vals) → IsSome (one_more (Some v) vs) → IsSome vs
-all_later v (Some vs) h = refl
-all_later v None h = absurd (cc)
+-- Lists of what a plan tells.
 
 pub item_at : {X : Type 0} (xs : List X) (k : ℕ) → k < length xs → (x : X) × (slice_get xs k ≡ Some x)
 item_at [] k h = absurd (omega arith)
@@ -314,6 +101,17 @@ index_is : {X : Type 0} (xs : List X) (k : ℕ) (d x : X) → slice_get xs k ≡
 index_is [] k d x e = absurd (cc)
 index_is (y ∷ xs) zero d x e = cc
 index_is (y ∷ xs) (suc k) d x e = index_is xs k d x e
+
+item_is : {X : Type 0} (xs : List X) (i : ℕ) (x : X) → i < length xs → x ≡ get_or xs i x → slice_get xs i ≡ Some x
+item_is xs i x h e =
+    let at : (y : _) × (slice_get xs i ≡ Some y) = item_at xs i h in
+    at.1 ∙ ap Some (sym (index_is xs i x at.0 at.1) ∙ sym e)
+
+module _ {table : Table} {plan : Plan} {s : ℕ} {selected : Option ℕ} {told : List FieldPlan} (are : AreTold table plan s selected told) where
+  pub told_here : (i : ℕ) (one : FieldPlan) → i < length told → one ≡ get_or told i one → IsTold table plan s selected i one
+  told_here i one h e = subst (IsToldAt table plan s selected i) (item_is told i one h e) (are.each i)
+
+-- Fields without validators.
 
 listed : (def : Def) (selected : Option ℕ) (i : ℕ) (field : Field) → field_in def selected i ≡ Some field
     → slice_get (fields_in def selected) i ≡ Some field
@@ -346,122 +144,173 @@ none_in (f ∷ fields) (suc i) field h e = none_in fields i field (neither (has_
 
 module _ (means : Meanings) (table : Table) (s : ℕ) (selected : Option ℕ) (none : has_validators (def_of table s) selected ≡ false) where
   pub passes_all : (i : ℕ) (v : Val) → failing_child means table s (as_fields selected) i (Some v) ≡ None
-  passes_all i v = field_fails_by means table s selected i (Some v) ∙ go (field_in (def_of table s) selected i) refl
+  passes_all i v = go (field_in (def_of table s) selected i) refl
     where
       go : (found : Option Field) → field_in (def_of table s) selected i ≡ found
           → failing_field means table s selected i found (Some v) ≡ None
       go None e = refl
       go (Some field) e =
-          let nil : field.validators ≡ []
-          = nil_not field.validators
+          let nil : field.validators ≡ [] = nil_not field.validators
           (none_in (fields_in (def_of table s) selected) i field none (listed (def_of table s) selected i field e)) in
           ap (λ (validators : List ValidatorDef). first_failing means (def_of table field.shape.0) s selected i validators v) nil
 
-  pub no_validator_lacks : (j : ℕ) (cs : List Cell) → IsSome (values_of cs)
-      → lack_among means table s (as_fields selected) j (trees_of cs) ≡ None
-  no_validator_lacks j [] there = refl
-  no_validator_lacks j (given v ∷ cs) there =
-      ap (λ (o : Option ReflectErrorKind). option_or o (lack_among means table s (as_fields selected) (suc j) (trees_of cs)))
-      (passes_all j v)
-      ∙ no_validator_lacks (suc j) cs (all_later v (values_of cs) there)
-  no_validator_lacks j _ there = absurd (cc)
+-- Children.
 
--- a place without fields lacks its value where a child isn't there, and else nothing
+value_there : (kind : ReflectErrorKind) (value : Option Val) (failing : Option Val → Option ReflectErrorKind)
+    → option_or (unless_there value kind) (failing value) ≡ None → (unless_failing (failing value) value ≡ value) × IsSome value
+value_there kind (Some v) failing h = (ap (λ (f : Option ReflectErrorKind). unless_failing f (Some v)) h, refl)
+value_there kind None failing h = absurd (cc)
 
-module _ (means : Meanings) (table : Table) (s : ℕ) (tracker : Tracker) (others : fields_of_tracker tracker ≡ None) where
-  pub others_there : (i : ℕ) (cs : List Cell) → IsSome (values_of cs) → lack_among means table s tracker i (trees_of cs) ≡ None
-  others_there i [] h = refl
-  others_there i (given v ∷ cs) h =
-      ap (λ (o : Option ReflectErrorKind). option_or o (lack_among means table s tracker (suc i) (trees_of cs)))
-      (others_pass table s means tracker others i (Some v))
-      ∙ others_there (suc i) cs (all_later v (values_of cs) h)
-  others_there i _ h = absurd (cc)
+value_lacks : (kind : ReflectErrorKind) (value : Option Val) (failing : Option Val → Option ReflectErrorKind)
+    (cause : ReflectErrorKind) → option_or (unless_there value kind) (failing value) ≡ Some cause
+    → unless_failing (failing value) value ≡ None
+value_lacks kind (Some v) failing cause h = ap (λ (f : Option ReflectErrorKind). unless_failing f (Some v)) h
+value_lacks kind None failing cause h = no_value (failing None)
+  where
+    no_value : (f : Option ReflectErrorKind) → unless_failing f None ≡ None
+    no_value (Some k) = refl
+    no_value None = refl
 
-  hole_lacks : (i : ℕ) (cs : List Cell)
-      → option_or (lack_of_hole means table s tracker i) (lack_among means table s tracker (suc i) (trees_of cs)) ≡ Some (missing_value s)
-  hole_lacks i cs =
-      ap
-      (λ (fill : Option Val).
-      option_or (option_or (unless_there fill (missing_child s tracker i)) (failing_child means table s tracker i fill))
-      (lack_among means table s tracker (suc i) (trees_of cs)))
-      (others_take table s strict_column tracker others i)
-      ∙ ap Some (others_missing s tracker others i)
+none_more : (value : Option Val) → one_more value None ≡ None
+none_more (Some v) = refl
+none_more None = refl
 
-  pub others_lack : (i : ℕ) (cs : List Cell) → values_of cs ≡ None
-      → lack_among means table s tracker i (trees_of cs) ≡ Some (missing_value s)
-  others_lack i [] h = absurd (cc)
-  others_lack i (absent ∷ cs) h = hole_lacks i cs
-  others_lack i (placed n ∷ cs) h = hole_lacks i cs
-  others_lack i (given v ∷ cs) h =
-      ap (λ (o : Option ReflectErrorKind). option_or o (lack_among means table s tracker (suc i) (trees_of cs)))
-      (others_pass table s means tracker others i (Some v))
-      ∙ others_lack (suc i) cs (go (values_of cs) h)
+-- The value that children make, with their fills, where nothing is lacking.
+
+module _ (column : Column) (means : Meanings) (table : Table) (s : ℕ) (tracker : Tracker) where
+  abbrev pub lacks : ℕ → Option Val → Option ReflectErrorKind
+  lacks i own = lack_of_child column means table s tracker i own
+
+  abbrev value : ℕ → Cell → Option Val
+  value i c = child_value column table s tracker i (value_of_cell c)
+
+  abbrev values : ℕ → List Cell → Option Vals
+  values i cs = complete_all column means table s tracker i (trees_of cs)
+
+  abbrev after : ℕ → List Cell → List Cell
+  after i cs = defaulted_cells column table s tracker i cs
+
+  made_step : (i : ℕ) (c : Cell) (cs : List Cell)
+      → values i (c ∷ cs) ≡ one_more (valid_child means table s tracker i (value i c)) (values (suc i) cs)
+  made_step i absent cs = refl
+  made_step i _ cs = refl
+
+  -- children that lack nothing make what they hold with their fills
+  pub made_whole : (i : ℕ) (cs : List Cell) → AreUnplaced cs → first_asked lacks i cs ≡ None
+      → (values i cs ≡ values_of (after i cs)) × IsSome (values_of (after i cs))
+  made_whole i [] closed h = (refl, refl)
+  made_whole i (c ∷ cs) closed h =
+      let both : (lacks i (value_of_cell c) ≡ None) × (first_asked lacks (suc i) cs ≡ None)
+      = or_none (lacks i (value_of_cell c)) (first_asked lacks (suc i) cs) h in
+      let here : (valid_child means table s tracker i (value i c) ≡ value i c) × IsSome (value i c)
+      = value_there (missing_child s tracker i) (value i c) (failing_child means table s tracker i) both.0 in
+      let rest : (values (suc i) cs ≡ values_of (after (suc i) cs)) × IsSome (values_of (after (suc i) cs))
+      = made_whole (suc i) cs closed.1 both.1 in
+      let held : value i c ≡ value_of_cell (defaulted_cell (hole_takes column table s tracker i) c)
+      = sym (value_then column table s tracker i c closed.0) in (
+        made_step i c cs ∙ ap (λ (v : Option Val). one_more v (values (suc i) cs)) (here.0 ∙ held)
+            ∙ ap (one_more (value_of_cell (defaulted_cell (hole_takes column table s tracker i) c))) rest.0,
+        more_there (value_of_cell (defaulted_cell (hole_takes column table s tracker i) c)) (values_of (after (suc i) cs)) (subst IsSome held here.1) rest.1,
+      )
+
+  -- and make nothing where something is lacking
+  pub not_made : (i : ℕ) (cs : List Cell) (kind : ReflectErrorKind) → first_asked lacks i cs ≡ Some kind → values i cs ≡ None
+  not_made i [] kind h = absurd (cc)
+  not_made i (c ∷ cs) kind h =
+      made_step i c cs ∙ go (lacks i (value_of_cell c)) refl h (not_made (suc i) cs kind)
     where
-      go : (vs : Option Vals) → one_more (Some v) vs ≡ None → vs ≡ None
-      go (Some vs) h = absurd (cc)
-      go None h = refl
+      go : (here : Option ReflectErrorKind) → lacks i (value_of_cell c) ≡ here
+          → option_or here (first_asked lacks (suc i) cs) ≡ Some kind
+          → (first_asked lacks (suc i) cs ≡ Some kind → values (suc i) cs ≡ None)
+          → one_more (valid_child means table s tracker i (value i c)) (values (suc i) cs) ≡ None
+      go (Some cause) e all rest =
+          ap (λ (v : Option Val). one_more v (values (suc i) cs))
+          (value_lacks (missing_child s tracker i) (value i c) (failing_child means table s tracker i) cause e)
+      go None e all rest =
+          ap (one_more (valid_child means table s tracker i (value i c))) (rest all)
+          ∙ none_more (valid_child means table s tracker i (value i c))
 
--- Field by field.
+-- Places.
 
-pub item_is : {X : Type 0} (xs : List X) (i : ℕ) (x : X) → i < length xs → x ≡ get_or xs i x → slice_get xs i ≡ Some x
-item_is xs i x h e =
-    let at : (y : _) × (slice_get xs i ≡ Some y) = item_at xs i h in
-    at.1 ∙ ap Some (sym (index_is xs i x at.0 at.1) ∙ sym e)
+module _ (column : Column) (means : Meanings) (table : Table) (s : ℕ) where
+  abbrev no_fields : List Cell
+  no_fields = replicate (child_count table s) absent
 
-pub err_so : {X E : Type 0} (r : Result X E) (P Q : E → Type 0) → ((kind : E) → P kind → Q kind) → IfErr r P → IfErr r Q
-err_so (Ok x) P Q so h = tt
-err_so (Err kind) P Q so h = so kind h
+  -- what its children lack, or its own value
+  abbrev pub lacking : Body → Option ReflectErrorKind
+  lacking entered_body =
+      lack_by (def_of table s) (preset_of table s) (first_asked (lacks column means table s (as_fields None)) 0 no_fields) (missing_value s)
+  lacking (whole_body v) = None
+  lacking (begun_body tracker cells) = first_asked (lacks column means table s tracker) 0 cells
 
-module _ (means : Meanings) (table : Table) (plan : Plan) (s : ℕ) (selected : Option ℕ) (i : ℕ) (one : FieldPlan)
-    (is : IsTold table plan s selected i one) where
-  abbrev tracker : Tracker
-  tracker = as_fields selected
+  no_children_made : (count i : ℕ)
+      → each_child (λ k. valid_child means table s (as_fields None) k (fill_at column table s k)) count i
+      ≡ complete_all column means table s (as_fields None) i (trees_of (replicate count absent))
+  no_children_made zero i = refl
+  no_children_made (suc count) i =
+      ap (one_more (valid_child means table s (as_fields None) i (fill_at column table s i))) (no_children_made count (suc i))
 
-  abbrev its_lack : Option Val → Option ReflectErrorKind
-  its_lack own = lack_of_child means table one.field.shape.0 (as_fields one.field.variant) one.field.index own
+  made_there : (tracker : Tracker) (values : Option Vals) → IsSome values → IsSome (made tracker values)
+  made_there tracker (Some vs) h = refl
+  made_there tracker None h = absurd (cc)
 
-  holes_left : (n : ℕ) → i < n
-      → lack_of_holes means table s tracker (n - i) i
-      ≡ option_or (its_lack None) (lack_of_holes means table s tracker (n - (i + 1)) (suc i))
-  holes_left n h =
-      let left : n - i ≡ suc (n - (i + 1)) = omega arith in
-      holes_next means table s tracker (n - (i + 1)) (n - i) i left
-      ∙ ap (λ (o : Option ReflectErrorKind). option_or o (lack_of_holes means table s tracker (n - (i + 1)) (suc i)))
-      (sym (lack_itself table plan s selected i one is means None))
+  abbrev MakesThis : Option Val → Body → Type 0
+  MakesThis made_up body = (made_up ≡ value_of body) × IsSome (value_of body)
 
-  pub holes_preserved : (n : ℕ) → i < n → its_lack None ≡ None
-      → lack_of_holes means table s tracker (n - i) i ≡ lack_of_holes means table s tracker (n - (i + 1)) (i + 1)
-  holes_preserved n h passes =
-      let next : suc i ≡ i + 1 = omega arith in
-      holes_left n h ∙ first_none (its_lack None) (lack_of_holes means table s tracker (n - (i + 1)) (suc i)) passes
-      ∙ ap (λ (k : ℕ). lack_of_holes means table s tracker (n - (i + 1)) k) next
+  by_def_whole : (def : Def) (preset : Option Val)
+      → lack_by def preset (first_asked (lacks column means table s (as_fields None)) 0 no_fields) (missing_value s) ≡ None
+      → MakesThis (made_by def preset (made_of_fills column means table s)) (defaulted_by def preset (defaulted_struct column table s))
+  by_def_whole (Def.Struct struct) (Some v) h = (refl, refl)
+  by_def_whole (Def.Struct struct) None h =
+      let so : (complete_all column means table s (as_fields None) 0 (trees_of no_fields)
+      ≡ values_of (defaulted_cells column table s (as_fields None) 0 no_fields))
+      × IsSome (values_of (defaulted_cells column table s (as_fields None) 0 no_fields))
+      = made_whole column means table s (as_fields None) 0 no_fields (none_placed (child_count table s)) h in (
+        ap (made (as_fields None)) (no_children_made (child_count table s) 0 ∙ so.0),
+        made_there (as_fields None) (values_of (defaulted_cells column table s (as_fields None) 0 no_fields)) so.1,
+      )
+  by_def_whole (Def.Option t) (Some v) h = (refl, refl)
+  by_def_whole (Def.Option t) None h = absurd (cc)
+  by_def_whole _ preset h = absurd (cc)
 
-  pub holes_cause : (n : ℕ) → i < n → (kind : ReflectErrorKind) → IsCauseOf (its_lack None) kind
-      → IsCauseOf (lack_of_holes means table s tracker (n - i) i) kind
-  holes_cause n h kind cause =
-      subst (λ (o : Option ReflectErrorKind). IsCauseOf o kind) (sym (holes_left n h))
-      (cause_first (its_lack None) (lack_of_holes means table s tracker (n - (i + 1)) (suc i)) kind cause)
+  by_def_nothing : (def : Def) (preset : Option Val) (kind : ReflectErrorKind)
+      → lack_by def preset (first_asked (lacks column means table s (as_fields None)) 0 no_fields) (missing_value s) ≡ Some kind
+      → made_by def preset (made_of_fills column means table s) ≡ None
+  by_def_nothing (Def.Struct struct) (Some v) kind h = absurd (cc)
+  by_def_nothing (Def.Struct struct) None kind h =
+      ap (made (as_fields None))
+      (no_children_made (child_count table s) 0 ∙ not_made column means table s (as_fields None) 0 no_fields kind h)
+  by_def_nothing (Def.Option t) (Some v) kind h = absurd (cc)
+  by_def_nothing (Def.Option t) None kind h = refl
+  by_def_nothing _ preset kind h = refl
 
-  fields_left : (cs : List Cell) (own : Option Val) → i < length cs → own ≡ value_at cs i
-      → lack_among means table s tracker i (trees_of (drop i cs))
-      ≡ option_or (its_lack own) (lack_among means table s tracker (suc i) (trees_of (drop (suc i) cs)))
-  fields_left cs own h e =
-      lack_next means table s tracker cs i i h
-      ∙ ap
-      (λ (o : Option ReflectErrorKind). option_or o (lack_among means table s tracker (suc i) (trees_of (drop (suc i) cs))))
-      (ap (lack_of_child means table s tracker i) (sym e) ∙ sym (lack_itself table plan s selected i one is means own))
+  -- a place that lacks nothing makes what it holds with its fills
+  body_whole : IsChecked table → (body : Body) → IsFull table s body → IsClosed body → lacking body ≡ None
+      → MakesThis (complete column means table s (own_tree body)) (defaulted column table s body)
+  body_whole checked entered_body full closed h = by_def_whole (def_of table s) (preset_of table s) h
+  body_whole checked (whole_body v) full closed h = (refl, refl)
+  body_whole checked (begun_body tracker cells) full closed h =
+      let after : List Cell = defaulted_cells column table s tracker 0 cells in
+      let so : (complete_all column means table s tracker 0 (trees_of cells) ≡ values_of after) × IsSome (values_of after)
+      = made_whole column means table s tracker 0 cells closed h in
+      let held : value_of (begun_body tracker after) ≡ made tracker (values_of after) = full_value (def_of table s) tracker after
+      (subst (IsFullAs (def_of table s) tracker) (sym (all_alike column table s tracker checked 0 cells).count) full) in (
+        ap (made tracker) so.0 ∙ sym held,
+        subst IsSome (sym held) (made_there tracker (values_of after) so.1),
+      )
 
-  pub fields_preserved : (cs : List Cell) (own : Option Val) → i < length cs → own ≡ value_at cs i → its_lack own ≡ None
-      → lack_among means table s tracker i (trees_of (drop i cs))
-      ≡ lack_among means table s tracker (i + 1) (trees_of (drop (i + 1) cs))
-  fields_preserved cs own h e passes =
-      let next : suc i ≡ i + 1 = omega arith in
-      fields_left cs own h e
-      ∙ first_none (its_lack own) (lack_among means table s tracker (suc i) (trees_of (drop (suc i) cs))) passes
-      ∙ ap (λ (k : ℕ). lack_among means table s tracker k (trees_of (drop k cs))) next
+  -- and one that lacks something makes nothing
+  pub body_nothing : (body : Body) (kind : ReflectErrorKind) → lacking body ≡ Some kind → complete column means table s (own_tree body) ≡ None
+  body_nothing entered_body kind h = by_def_nothing (def_of table s) (preset_of table s) kind h
+  body_nothing (whole_body v) kind h = absurd (cc)
+  body_nothing (begun_body tracker cells) kind h = ap (made tracker) (not_made column means table s tracker 0 cells kind h)
 
-  pub fields_cause : (cs : List Cell) (own : Option Val) → i < length cs → own ≡ value_at cs i → (kind : ReflectErrorKind)
-      → IsCauseOf (its_lack own) kind → IsCauseOf (lack_among means table s tracker i (trees_of (drop i cs))) kind
-  fields_cause cs own h e kind cause =
-      subst (λ (o : Option ReflectErrorKind). IsCauseOf o kind) (sym (fields_left cs own h e))
-      (cause_first (its_lack own) (lack_among means table s tracker (suc i) (trees_of (drop (suc i) cs))) kind cause)
+  pub is_filled : IsChecked table → (body : Body) → IsFull table s body → IsClosed body → lacking body ≡ None
+      → IsFilled column means table s body (defaulted column table s body)
+  is_filled checked body full closed h =
+      go (value_of (defaulted column table s body)) refl (body_whole checked body full closed h).1
+    where
+      go : (held : Option Val) → value_of (defaulted column table s body) ≡ held → IsSome held
+          → IsFilled column means table s body (defaulted column table s body)
+      go None e some = absurd (cc)
+      go (Some v) e some = record { value = v; meant = (body_whole checked body full closed h).0 ∙ e; held = e }

@@ -1,12 +1,13 @@
 -- An item that is entered into a list: it gets its room and its slot at once.
-use Rattle.std.proofs.Common.{◌≡◌, ◌≢◌, ◌⊎◌, ℕ, ◌+◌, Bool, true, false, List, [], ◌∷◌, ◌++◌, length, Option, Some, None, IsSomeAnd, slice_get, set, option_map, inl, inr, refl, sym, ◌∙◌, ap, if◌then◌else◌}
-use Rattle.fr_frame.specs.Common.{Body, Cell, Def, FrameOwner, Heap, IfInUse, Node, NodeId, Plan, Shows, Slot, Table, TypePlanNode, absent, added, begun_body, body_occurs, cell_at, count_cells, def_of, depth_below, entered_body, heap_of, held_by, is_list_body, item_owner, linked, links, no_vals, placed, product, shape_of, unwrap_or, whole_body, with_body, with_entered, with_placed, with_slot}
+use Rattle.std.proofs.Common.{◌≡◌, ℕ, Bool, true, false, List, [], ◌∷◌, ◌++◌, length, nat_eq, Option, Some, None, IsSomeAnd, slice_get, set, option_map, refl, sym, ◌∙◌, ap, subst, if◌then◌else◌}
+use Rattle.fr_frame.specs.Common.{Body, Cell, Def, FrameOwner, Heap, Node, NodeId, Plan, SlotId, Table, TypePlanNode, absent, added, begun_body, body_occurs, cell_at, count_cells, def_of, entered_body, held_by, is_list_body, linked, links, no_vals, option_and_then, placed, product, shape_of, unwrap_or, whole_body, with_body, with_placed, with_slot}
 use Rattle.fr_shape.specs.Fills.{is_empty_struct}
 use Rattle.fr_plan.specs.Lookups.{node_at}
-use Rattle.fr_frame.specs.Bodies.{fresh_body, linked_by, taken_over}
-use Rattle.fr_frame.specs.Heap.{depth_above, entered_node}
-use Rattle.fr_frame.proofs.HandLaws.{with_body_alike}
-use Rattle.fr_frame.proofs.HeapLaws.{Alike, number_cases, with_here, with_other, with_slot_alike}
+use Rattle.fr_frame.specs.declared.places.Growth.{Growth}
+use Rattle.fr_frame.specs.Cells.{held_value}
+use Rattle.fr_frame.specs.Growing.{grown_above, MayGrow, MayGrowAbove}
+use Rattle.fr_frame.specs.Bodies.{fresh_body, linked_by}
+use Rattle.fr_frame.proofs.HeapLaws.{alike, with_body_twice, with_here}
 
 last_there : {X : Type 0} → (xs : List X) (x : X) → slice_get (xs ++ x ∷ []) (length xs) ≡ Some x
 last_there [] x = refl
@@ -27,122 +28,62 @@ linked_last id (begun_body tracker cells) list =
     ∙ ap (begun_body tracker) (last_set cells absent (placed id))
 linked_last id _ list = cc
 
-module _ (heap : Heap) (parent : ℕ) (above : Node) (here : heap parent ≡ Some above) (list : is_list_body above.body ≡ true) where
-  abbrev grown : Heap
-  grown = with_body heap parent added
+-- what is the same change at a place is the same
+same_change : (heap : Heap) (n : ℕ) (one other : Body → Body) → IsSomeAnd (heap n) (λ (x : Node). one x.body ≡ other x.body)
+    → with_body heap n one ≡ with_body heap n other
+same_change heap n one other same = ap (with_slot heap n) (go (heap n) same)
+  where
+    go : (found : Option Node) → IsSomeAnd found (λ (x : Node). one x.body ≡ other x.body)
+        → option_map (λ (x : Node). record x { body = one x.body }) found ≡ option_map (λ (x : Node). record x { body = other x.body }) found
+    go (Some x) e = ap (λ (b : Body). Some (record x { body = b })) e
+    go None e = absurd e
 
-  in_grown : grown parent ≡ Some (record above { body = added above.body })
-  in_grown =
-      with_here heap parent (option_map (λ (x : Node). record x { body = added x.body }) (heap parent))
-      ∙ ap (option_map (λ (x : Node). record x { body = added x.body })) here
-
-  -- the list of which the child that was added is linked
-  linked_grown : (id : ℕ) → Alike (links (item_owner parent above.body) id grown) (with_body heap parent (with_placed id))
-  linked_grown id m = go (number_cases m parent)
+-- The list in a slot, and the number of its next item.
+module _ (heap : Heap) (parent : SlotId) (i : ℕ) (next : IsSomeAnd (heap parent.0) (λ (above : Node). (i ≡ count_cells above.body) × MayGrow Growth.Item above.body))
+    (list : IsSomeAnd (heap parent.0) (λ (above : Node). is_list_body above.body ≡ true)) where
+  pub item_linked : (id : ℕ) → links (FrameOwner.Child parent i) id (with_body heap parent.0 added) ≡ with_body heap parent.0 (with_placed id)
+  item_linked id =
+      alike _ _ (with_body_twice heap parent.0 added (linked id i) (λ body. linked id i (added body)) (λ body. refl))
+      ∙ same_change heap parent.0 (λ body. linked id i (added body)) (with_placed id) (go (heap parent.0) next list)
     where
-      owner : Heap
-      owner = links (item_owner parent above.body) id grown
-
-      there : Option Node
-      there = option_map (λ (x : Node). record x { body = linked id (count_cells above.body) x.body }) (grown parent)
-
-      now : Option Node
-      now = option_map (λ (x : Node). record x { body = with_placed id x.body }) (heap parent)
-
-      same : there ≡ now
-      same =
-          ap (option_map (λ (x : Node). record x { body = linked id (count_cells above.body) x.body })) in_grown
-          ∙ ap (λ (b : Body). Some (record above { body = b })) (linked_last id above.body list)
-          ∙ sym (ap (option_map (λ (x : Node). record x { body = with_placed id x.body })) here)
-
-      go : (m ≡ parent) ⊎ (m ≢ parent) → owner m ≡ with_body heap parent (with_placed id) m
-      go (inl e) =
-          ap owner e ∙ with_here grown parent there ∙ same ∙ sym (with_here heap parent now)
-          ∙ sym (ap (with_body heap parent (with_placed id)) e)
-      go (inr ne) =
-          with_other grown parent there m ne
-          ∙ with_other heap parent (option_map (λ (x : Node). record x { body = added x.body }) (heap parent)) m ne
-          ∙ sym (with_other heap parent now m ne)
-
-  fresh_item : (def : Def) (node : NodeId) → entered_node def grown node (item_owner parent above.body) ≡ record {
-    node = node;
-    owner = item_owner parent above.body;
-    stored = false;
-    depth = depth_below heap (item_owner parent above.body);
-    body = fresh_body def;
-  }
-  fresh_item def node =
-      ap (λ (found : Option Cell). record {
-        node = node;
-        owner = item_owner parent above.body;
-        stored = false;
-        depth = depth_above (grown parent);
-        body = taken_over def found;
-      }) (held ∙ held_last above.body list)
-      ∙ ap (λ (depth : ℕ). record {
-        node = node;
-        owner = item_owner parent above.body;
-        stored = false;
-        depth = depth;
-        body = fresh_body def;
-      }) (ap depth_above in_grown ∙ sym (ap depth_above here))
-    where
-      cell : Option Node → Option Cell
-      cell (Some x) = cell_at x.body (count_cells above.body)
-      cell None = None
-
-      held : held_by grown (item_owner parent above.body) ≡ cell_at (added above.body) (count_cells above.body)
-      held = ap cell in_grown
-
-  listed : (def : Def) (node : NodeId) (id : ℕ) → Alike (with_slot (with_body heap parent (with_placed id)) id (Some (record {
-    node = node;
-    owner = item_owner parent above.body;
-    stored = false;
-    depth = depth_below heap (item_owner parent above.body);
-    body = fresh_body def;
-  }))) (with_entered def grown node (item_owner parent above.body) id)
-  listed def node id m =
-      sym (with_slot_alike (links (item_owner parent above.body) id grown) (with_body heap parent (with_placed id)) id
-      (Some (entered_node def grown node (item_owner parent above.body))) (linked_grown id) m
-      ∙ ap (λ (x : Node). with_slot (with_body heap parent (with_placed id)) id (Some x) m) (fresh_item def node))
-
--- The slots before, those with one kept for the item, those where the list has it, and those with the item entered.
-module _ (before mid grown : List Slot) (parent id : ℕ) (here : Shows mid (heap_of before))
-    (more : Shows grown (with_body (heap_of mid) parent (with_placed id))) where
-  pub item_listed : (def : Def) (node : NodeId) (owner : FrameOwner) (depth : ℕ) (body : Body) (after : List Slot)
-      → Shows after (with_slot (heap_of grown) id (Some (record { node = node; owner = owner; stored = false; depth = depth; body = body })))
-      → depth ≡ depth_below (heap_of before) owner → body ≡ fresh_body def
-      → IfInUse before parent (λ (above : Node). is_list_body above.body ≡ true)
-      → IfInUse before parent (λ (above : Node). owner ≡ item_owner parent above.body)
-      → IfInUse before parent (λ (above : Node).
-      Shows after (with_entered def (with_body (heap_of before) parent added) node (item_owner parent above.body) id))
-  item_listed def node owner depth body after shown deep fresh list owned = go (heap_of before parent) refl list owned
-    where
-      put : Node → Heap → Heap
-      put x heap = with_slot heap id (Some x)
-
-      go : (found : Option Node) → heap_of before parent ≡ found
+      go : (found : Option Node) → IsSomeAnd found (λ (above : Node). (i ≡ count_cells above.body) × MayGrow Growth.Item above.body)
           → IsSomeAnd found (λ (above : Node). is_list_body above.body ≡ true)
-          → IsSomeAnd found (λ (above : Node). owner ≡ item_owner parent above.body)
-          → IsSomeAnd found (λ (above : Node).
-          Shows after (with_entered def (with_body (heap_of before) parent added) node (item_owner parent above.body) id))
-      go None e list is = absurd is
-      go (Some above) e list is = λ m.
-          shown m
-          ∙ with_slot_alike (heap_of grown) (with_body (heap_of before) parent (with_placed id)) id
-          (Some (record { node = node; owner = owner; stored = false; depth = depth; body = body }))
-          (λ k. more k ∙ with_body_alike (heap_of mid) (heap_of before) parent (with_placed id) here k) m
-          ∙ ap (λ (x : Node). put x (with_body (heap_of before) parent (with_placed id)) m)
-          (ap (λ (d : ℕ). record { node = node; owner = owner; stored = false; depth = d; body = body }) deep
-          ∙ ap (λ (b : Body). record { node = node; owner = owner; stored = false; depth = depth_below (heap_of before) owner; body = b }) fresh
-          ∙ ap (λ (o : FrameOwner). record {
-            node = node;
-            owner = o;
-            stored = false;
-            depth = depth_below (heap_of before) o;
-            body = fresh_body def;
-          }) is)
-          ∙ listed (heap_of before) parent above e list def node id m
+          → IsSomeAnd found (λ (above : Node). linked id i (added above.body) ≡ with_placed id above.body)
+      go (Some above) e is = ap (λ (n : ℕ). linked id n (added above.body)) e.0 ∙ linked_last id above.body is
+      go None e is = absurd e
+
+  pub item_unheld : None ≡ held_value (held_by (with_body heap parent.0 added) (FrameOwner.Child parent i))
+  item_unheld = go (heap parent.0) next list ∙ sym (ap (λ (x : Option Node). held_value (cell_in x)) (with_here heap parent.0 _))
+    where
+      cell_in : Option Node → Option Cell
+      cell_in x = option_and_then (λ (at : Node). cell_at at.body i) x
+
+      go : (found : Option Node) → IsSomeAnd found (λ (above : Node). (i ≡ count_cells above.body) × MayGrow Growth.Item above.body)
+          → IsSomeAnd found (λ (above : Node). is_list_body above.body ≡ true)
+          → None ≡ held_value (cell_in (option_map (λ (above : Node). record above { body = added above.body }) found))
+      go (Some above) e is = sym (ap held_value (ap (cell_at (added above.body)) e.0 ∙ held_last above.body is))
+      go None e is = absurd e
+
+-- The same, as it is known where the item is taken in.
+module _ (growth : Option Growth) (owner : FrameOwner) (heap : Heap) (parent : SlotId) (i : ℕ) (item : growth ≡ Some Growth.Item)
+    (child : owner ≡ FrameOwner.Child parent i) (may : MayGrowAbove growth owner heap)
+    (list : IsSomeAnd (heap parent.0) (λ (above : Node). is_list_body above.body ≡ true)) where
+  next : IsSomeAnd (heap parent.0) (λ (above : Node). (i ≡ count_cells above.body) × MayGrow Growth.Item above.body)
+  next = subst (λ (g : Option Growth). MayGrowAbove g (FrameOwner.Child parent i) heap) item
+      (subst (λ (o : FrameOwner). MayGrowAbove growth o heap) child may)
+
+  grown_is : grown_above growth owner heap ≡ with_body heap parent.0 added
+  grown_is = ap (λ (g : Option Growth). grown_above g owner heap) item ∙ ap (λ (o : FrameOwner). grown_above (Some Growth.Item) o heap) child
+
+  pub linked_in : (id : ℕ) → with_body heap parent.0 (with_placed id) ≡ links owner id (grown_above growth owner heap)
+  linked_in id =
+      sym (ap (links owner id) grown_is ∙ ap (λ (o : FrameOwner). links o id (with_body heap parent.0 added)) child
+      ∙ item_linked heap parent i next list id)
+
+  pub unheld_in : None ≡ held_value (held_by (grown_above growth owner heap) owner)
+  unheld_in =
+      item_unheld heap parent i next list ∙ sym (ap (λ (now : Heap). held_value (held_by now owner)) grown_is
+      ∙ ap (λ (o : FrameOwner). held_value (held_by (with_body heap parent.0 added) o)) child)
 
 pub fresh_occurs : (def : Def) (t : ℕ) → body_occurs (fresh_body def) t ≡ 0
 fresh_occurs def t = go (is_empty_struct def)
@@ -155,6 +96,5 @@ fresh_occurs def t = go (is_empty_struct def)
 pub fresh_by : (table : Table) (plan : Plan) (id : NodeId) (node : TypePlanNode) (body : Body) → node_at plan id ≡ Some node
     → body ≡ fresh_body (def_of table node.shape.0) → body ≡ fresh_body (def_of table (shape_of plan id))
 fresh_by table plan id node body found is =
-    is
-    ∙ sym (ap (λ (n : Option TypePlanNode).
+    is ∙ sym (ap (λ (n : Option TypePlanNode).
     fresh_body (def_of table (unwrap_or (option_map (λ (x : TypePlanNode). x.shape) n) (record { 0 = 0 })).0)) found)

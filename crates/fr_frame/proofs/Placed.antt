@@ -48,8 +48,7 @@ module _ {K : Type 0} {eq : K → K → Bool} (laws : IsEquivalence eq) where
   place_push [] k q absent = refl
   place_push (l ∷ there) k q absent =
       let parts = split_none (place eq there k) (eq l k) absent in
-      ap (λ n. cond (eq l q) (Some 0) (option_map suc n)) (place_push there k q parts.1)
-      ∙ by (eq l q) (eq k q) refl refl parts.0
+      ap (λ n. cond (eq l q) (Some 0) (option_map suc n)) (place_push there k q parts.1) ∙ by (eq l q) (eq k q) refl refl parts.0
     where
       by : (a b : Bool) → eq l q ≡ a → eq k q ≡ b → eq l k ≡ false → cond a (Some 0) (option_map suc (cond b (Some (length there)) (place eq there q))) ≡ cond b (Some (suc (length there))) (cond a (Some 0) (option_map suc (place eq there q)))
       by true true lq kq lk = absurd (true≢false (sym (laws.symm l k ∙ laws.congr k q l kq ∙ laws.symm q l ∙ lq) ∙ lk))
@@ -69,5 +68,4 @@ module _ {K : Type 0} (eq : K → K → Bool) (keys : List K) (i : ℕ) (k : K) 
       ap (λ l. l ++ places_of eq after (drop (i + 1) keys)) pushed ∙
       append_assoc done (p ∷ []) (places_of eq after (drop (i + 1) keys))
       ∙ (λ j. done ++ at j ∷ places_of eq (came j) (drop (i + 1) keys))
-      ∙ ap (λ ks. done ++ places_of eq there ks) (sym (drop_more keys i k within ∙ ap (λ l. l ∷ drop (i + 1) keys) (sym is)))
-      ∙ so
+      ∙ ap (λ ks. done ++ places_of eq there ks) (sym (drop_more keys i k within ∙ ap (λ l. l ∷ drop (i + 1) keys) (sym is))) ∙ so

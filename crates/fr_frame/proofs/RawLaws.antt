@@ -1,16 +1,17 @@
 -- One slot that is changed where a list's items lie in slots of their own, and what contracts see of that.
-use Rattle.std.proofs.Common.{◌≡◌, ℕ, zero, suc, ◌+◌, ◌-◌, ◌<◌, ◌≤◌, Bool, true, false, List, [], ◌∷◌, length, Option, Some, None, IsSome, is_some, get_or, slice_get, set, option_map, refl, sym, ◌∙◌, ap, ap₂, subst, arith, if◌then◌else◌}
-use Rattle.fr_frame.specs.Common.{Body, Box, Cell, Global, Held, IsInUse, Node, Piece, Place, Rope, SameTokens, Shows, Slot, SlotId, Val, as_tracker, begun_body, body_occurs, body_of, body_with, cell_at, children_with, count_cells, entered_body, heap_of, is_list_body, is_used, item_cell, item_or, items_of, keeps_items, node_in, option_and_then, piece_with, place_with, reformed, slot_of_cell, slot_seen, slots_occur, slots_seen, value_held, whole_body, with_body, with_items, with_mark}
+use Rattle.std.proofs.Common.{◌≡◌, ℕ, zero, suc, ◌+◌, ◌-◌, ◌<◌, ◌≤◌, Bool, true, false, List, [], ◌∷◌, length, Option, Some, None, IsSomeAnd, is_some, get_or, slice_get, set, refl, sym, ◌∙◌, ap, ap₂, subst, arith, if◌then◌else◌}
+use Rattle.std.proofs.lemmas.Option.{slice_get_past}
+use Rattle.fr_frame.specs.Common.{Body, Box, Cell, Global, Held, IsInUse, Node, Piece, Place, Rope, SameTokens, Shows, Slot, SlotId, Val, as_tracker, begun_body, body_occurs, body_of, body_with, cell_at, children_with, count_cells, entered_body, heap_of, is_list_body, is_used, item_cell, item_in, item_or, items_of, keeps_items, node_in, option_and_then, piece_with, place_with, reformed, slot_of_cell, slot_seen, slots_occur, slots_seen, value_held, with_body, with_items, with_mark}
 use Rattle.fr_model.specs.Trackers.{Tracker as TreeTracker}
 use Rattle.fr_frame.specs.declared.places.ItemsKind.{ItemsKind}
 use Rattle.fr_frame.specs.declared.places.Tracker.{Tracker}
 use Rattle.fr_frame.specs.Heap.{child_slot}
 use Rattle.fr_frame.specs.Outlines.{has_items}
 use Rattle.fr_frame.specs.RawSlots.{with_stored, IsReformed}
-use Rattle.fr_frame.proofs.HeapLaws.{inside, occur_set, past_end}
+use Rattle.fr_frame.proofs.HeapLaws.{inside, occur_set, read}
 use Rattle.fr_frame.proofs.PlaceLaws.{marks, occur_change, set_as_was, shows}
-use Rattle.fr_frame.proofs.SeenLaws.{seen_get, seen_length, seen_set}
-use Rattle.fr_frame.proofs.SlotLaws.{read}
+use Rattle.fr_frame.proofs.SeenLaws.{seen_length, seen_set}
+use Rattle.fr_frame.proofs.SlotLaws.{get_seen, no_place, node_seen, set_seen, used_in, IsNoPlace}
 
 -- What was put at a place.
 
@@ -47,22 +48,17 @@ below held n i zero (c ∷ cells) items k h = absurd (omega arith)
 below held n i (suc before) (c ∷ cells) items zero h = refl
 below held n i (suc before) (c ∷ cells) items (suc k) h = below held n (suc i) before cells items k (omega arith)
 
-past : (cells : List Cell) (k : ℕ) → length cells ≤ k → slice_get cells k ≡ None
-past [] k h = refl
-past (c ∷ cells) zero h = absurd (omega arith)
-past (c ∷ cells) (suc k) h = past cells k (omega arith)
-
 behind : (held : Held) (n i before : ℕ) (cells : List Cell) (items : List SlotId) (k : ℕ) → length cells ≤ k
     → slice_get (with_items held n i before cells items) k ≡ None
 behind held n i before [] items k h = refl
 behind held n i zero (c ∷ cells) items zero h = absurd (omega arith)
-behind held n i zero (c ∷ cells) [] (suc k) h = past cells k (omega arith)
+behind held n i zero (c ∷ cells) [] (suc k) h = slice_get_past cells k (omega arith)
 behind held n i zero (c ∷ cells) (slot ∷ items) (suc k) h = behind held n (suc i) zero cells items k (omega arith)
 behind held n i (suc before) (c ∷ cells) items zero h = absurd (omega arith)
 behind held n i (suc before) (c ∷ cells) items (suc k) h = behind held n (suc i) before cells items k (omega arith)
 
 -- item j is the child of this number
-among : (held : Held) (n i before : ℕ) (cells : List Cell) (items : List SlotId) (j k m : ℕ) (slot : SlotId) → k ≡ before + j
+pub among : (held : Held) (n i before : ℕ) (cells : List Cell) (items : List SlotId) (j k m : ℕ) (slot : SlotId) → k ≡ before + j
     → k < length cells → m ≡ i + k → slice_get items j ≡ Some slot
     → slice_get (with_items held n i before cells items) k ≡ Some (item_cell held n m slot)
 among held n i before [] items j k m slot at h number e = absurd (omega arith)
@@ -80,96 +76,58 @@ among held n i zero (c ∷ cells) (s ∷ items) (suc j) (suc k) m slot at h numb
     among held n (suc i) zero cells items j k m slot (omega arith) (omega arith) (omega arith) e
 
 -- The child of a place that is no item of it, and one that is.
-module _ (held : Held) (n : ℕ) (items : List SlotId) (body : Body) (k : ℕ) where
-  pub cell_no_list : is_list_body body ≡ false → cell_at (body_with held n items body) k ≡ cell_at body k
-  cell_no_list = go body
-    where
-      go : (b : Body) → is_list_body b ≡ false → cell_at (body_with held n items b) k ≡ cell_at b k
-      go entered_body plain = refl
-      go (whole_body v) plain = refl
-      go (begun_body tracker cells) plain =
-          ap (λ (has : Bool). slice_get (if has then children_with held n cells items else cells) k) plain
 
-  either : (tracker : TreeTracker) (cells : List Cell) → slice_get (children_with held n cells items) k ≡ slice_get cells k
-      → slice_get (if has_items tracker then children_with held n cells items else cells) k ≡ slice_get cells k
-  either tracker cells same = go (has_items tracker)
-    where
-      go : (has : Bool) → slice_get (if has then children_with held n cells items else cells) k ≡ slice_get cells k
-      go true = same
-      go false = refl
+pub cell_no_list : (held : Held) (n : ℕ) (items : List SlotId) (body : Body) (k : ℕ) → is_list_body body ≡ false
+    → cell_at (body_with held n items body) k ≡ cell_at body k
+cell_no_list held n items (begun_body tracker cells) k plain =
+    ap (λ (has : Bool). slice_get (if has then children_with held n cells items else cells) k) plain
+cell_no_list held n items _ k plain = refl
 
-  pub cell_before : k < count_cells body - length items → cell_at (body_with held n items body) k ≡ cell_at body k
-  cell_before = go body
-    where
-      go : (b : Body) → k < count_cells b - length items → cell_at (body_with held n items b) k ≡ cell_at b k
-      go entered_body h = refl
-      go (whole_body v) h = refl
-      go (begun_body tracker cells) h = either tracker cells (below held n 0 (length cells - length items) cells items k h)
+pub cell_before : (held : Held) (n : ℕ) (items : List SlotId) (body : Body) (k : ℕ) → k < count_cells body - length items
+    → cell_at (body_with held n items body) k ≡ cell_at body k
+cell_before held n items (begun_body tracker cells) k h = go (has_items tracker)
+  where
+    go : (has : Bool) → slice_get (if has then children_with held n cells items else cells) k ≡ slice_get cells k
+    go true = below held n 0 (length cells - length items) cells items k h
+    go false = refl
+cell_before held n items _ k h = refl
 
-  pub cell_past : count_cells body ≤ k → cell_at (body_with held n items body) k ≡ None
-  cell_past = go body
-    where
-      both : (tracker : TreeTracker) (cells : List Cell) → length cells ≤ k
-          → slice_get (if has_items tracker then children_with held n cells items else cells) k ≡ None
-      both tracker cells h = by (has_items tracker)
-        where
-          by : (has : Bool) → slice_get (if has then children_with held n cells items else cells) k ≡ None
-          by true = behind held n 0 (length cells - length items) cells items k h
-          by false = past cells k h
+pub cell_past : (held : Held) (n : ℕ) (items : List SlotId) (body : Body) (k : ℕ) → count_cells body ≤ k
+    → cell_at (body_with held n items body) k ≡ None
+cell_past held n items (begun_body tracker cells) k h = go (has_items tracker)
+  where
+    go : (has : Bool) → slice_get (if has then children_with held n cells items else cells) k ≡ None
+    go true = behind held n 0 (length cells - length items) cells items k h
+    go false = slice_get_past cells k h
+cell_past held n items _ k h = refl
 
-      go : (b : Body) → count_cells b ≤ k → cell_at (body_with held n items b) k ≡ None
-      go (begun_body tracker cells) h = both tracker cells h
-      go _ h = refl
-
-  pub cell_item : (slot : SlotId) → is_list_body body ≡ true → count_cells body - length items ≤ k → k < count_cells body
-      → slice_get items (k - (count_cells body - length items)) ≡ Some slot
-      → cell_at (body_with held n items body) k ≡ Some (item_cell held n k slot)
-  cell_item slot = go body
-    where
-      go : (b : Body) → is_list_body b ≡ true → count_cells b - length items ≤ k → k < count_cells b
-          → slice_get items (k - (count_cells b - length items)) ≡ Some slot
-          → cell_at (body_with held n items b) k ≡ Some (item_cell held n k slot)
-      go entered_body list from to e = cc
-      go (whole_body v) list from to e = cc
-      go (begun_body tracker cells) list from to e =
-          ap (λ (has : Bool). slice_get (if has then children_with held n cells items else cells) k) list
-          ∙ among held n 0 (length cells - length items) cells items (k - (length cells - length items)) k k slot (omega arith) to
-          (omega arith) e
+cell_item : (held : Held) (n : ℕ) (items : List SlotId) (body : Body) (k : ℕ) (slot : SlotId) → is_list_body body ≡ true
+    → count_cells body - length items ≤ k → k < count_cells body → slice_get items (k - (count_cells body - length items)) ≡ Some slot
+    → cell_at (body_with held n items body) k ≡ Some (item_cell held n k slot)
+cell_item held n items (begun_body tracker cells) k slot list from to e =
+    ap (λ (has : Bool). slice_get (if has then children_with held n cells items else cells) k) list
+    ∙ among held n 0 (length cells - length items) cells items (k - (length cells - length items)) k k slot (omega arith) to
+    (omega arith) e
+cell_item held n items _ k slot list from to e = cc
 
 -- One slot of many.
 
-module _ (raw : List Slot) (n : ℕ) (slot : Slot) (there : slice_get raw n ≡ Some slot) where
-  pub seen_there : slice_get (slots_seen raw) n ≡ Some (slot_seen (items_of raw) n slot)
-  seen_there = seen_get raw n ∙ ap (option_map (slot_seen (items_of raw) n)) there
+-- a place in use, seen before and after it is marked
+record Marked (held : Held) (n : ℕ) (stored : Bool) (slot : Slot) : Type 0 where
+  place : Place
+  was : slot_seen held n slot ≡ Slot.Used place
+  now : slot_seen held n (with_stored stored slot) ≡ Slot.Used (record place { stored = stored })
+  none : item_in slot ≡ item_in (with_stored stored slot)
 
-  pub heap_there : heap_of (slots_seen raw) n ≡ node_in (slot_seen (items_of raw) n slot)
-  heap_there = ap (option_and_then node_in) seen_there
-
-module _ (raw : List Slot) (n : ℕ) (stored : Bool) where
-  by_mark : (slot : Slot) (place : Place) → slice_get (slots_seen raw) n ≡ Some (Slot.Used place)
-      → slots_seen (set raw n (with_stored stored slot)) ≡ set (slots_seen raw) n (Slot.Used (record place { stored = stored }))
-      → Shows (slots_seen (set raw n (with_stored stored slot))) (with_mark (heap_of (slots_seen raw)) n stored)
-      × SameTokens (slots_seen raw) (slots_seen (set raw n (with_stored stored slot)))
-  by_mark slot place was is = (
-    (λ m. ap (λ (slots : List Slot). heap_of slots m) is ∙ marks (slots_seen raw) n place was stored m),
-    (λ t.
-        let changed : slots_occur (set (slots_seen raw) n (Slot.Used (record place { stored = stored }))) t
-        ≡ slots_occur (slots_seen raw) t
-        = omega (arith, occur_set (slots_seen raw) n (Slot.Used place) (Slot.Used (record place { stored = stored })) t was) in
-        ap (λ (slots : List Slot). slots_occur slots t) is ∙ changed),
-  )
-
-  mark_seen : (slot : Slot) → slice_get raw n ≡ Some slot → is_used slot ≡ true
-      → Shows (slots_seen (set raw n (with_stored stored slot))) (with_mark (heap_of (slots_seen raw)) n stored)
-      × SameTokens (slots_seen raw) (slots_seen (set raw n (with_stored stored slot)))
-  mark_seen (Slot.Used place) there used =
-      by_mark (Slot.Used place) place (seen_there raw n (Slot.Used place) there)
-      (seen_set raw n (Slot.Used place) (Slot.Used (record place { stored = stored })) there refl refl)
-  mark_seen (Slot.List place items) there used =
-      by_mark (Slot.List place items) (place_with (items_of raw) n place items.value.items)
-      (seen_there raw n (Slot.List place items) there)
-      (seen_set raw n (Slot.List place items) (Slot.List (record place { stored = stored }) items) there refl refl)
-  mark_seen _ there used = cc
+marked_as : (held : Held) (n : ℕ) (stored : Bool) (slot : Slot) → is_used slot ≡ true → Marked held n stored slot
+marked_as held n stored (Slot.Used place) used = record { place = place; was = refl; now = refl; none = refl }
+marked_as held n stored (Slot.List place items) used = record {
+  place = place_with held n place items.value.items;
+  was = refl;
+  now = refl;
+  none = refl;
+}
+marked_as held n stored _ used = cc
 
 -- a list whose form keeps items gets another form that keeps them
 module _ (raw : List Slot) (n : ℕ) (tracker : Tracker) (was now : Slot) (there : slice_get raw n ≡ Some was)
@@ -181,13 +139,14 @@ module _ (raw : List Slot) (n : ℕ) (tracker : Tracker) (was now : Slot) (there
   piece = piece_with (items_of raw) n made.items.value.items made.piece
 
   was_there : slice_get (slots_seen raw) n ≡ Some (Slot.Used before)
-  was_there = seen_there raw n was there ∙ ap (λ (slot : Slot). Some (slot_seen (items_of raw) n slot)) made.was
+  was_there =
+      get_seen raw (slots_seen raw) refl n was there ∙ ap (λ (slot : Slot). Some (slot_seen (items_of raw) n slot)) made.was
 
   seen_now : slots_seen (set raw n now) ≡ set (slots_seen raw) n (Slot.Used (record before { piece = piece }))
   seen_now =
       ap (λ (slot : Slot). slots_seen (set raw n slot)) made.now
       ∙ seen_set raw n (Slot.List made.place made.items) (Slot.List (record made.place { piece = made.piece }) made.items)
-      (there ∙ ap (λ (slot : Slot). Some slot) made.was) refl refl
+      (there ∙ ap (λ (slot : Slot). Some slot) made.was) refl
 
   body_is : body_of piece ≡ reformed (as_tracker tracker) (body_of before.piece)
   body_is =
@@ -209,28 +168,8 @@ module _ (raw : List Slot) (n : ℕ) (tracker : Tracker) (was now : Slot) (there
       = omega (arith, occur_change (slots_seen raw) n before was_there piece t, same) in
       ap (λ (slots : List Slot). slots_occur slots t) seen_now ∙ changed
 
--- A slot that is in use as contracts see it.
-
 pub used_inside : (raw seen : List Slot) (n : ℕ) → slots_seen raw ≡ seen → IsInUse seen n → n < length raw
-used_inside raw seen n same used =
-    let within : n < length seen = inside seen n used in
-    let as_many : length seen ≡ length raw = sym (ap (λ (slots : List Slot). length slots) same) ∙ seen_length raw in
-    omega arith
-
-pub used_there : (raw seen : List Slot) (n : ℕ) (slot : Slot) → slots_seen raw ≡ seen → slice_get raw n ≡ Some slot → IsInUse seen n
-    → is_used slot ≡ true
-used_there raw seen n slot same there used =
-    go slot (heap_there raw n slot there) (subst (λ (slots : List Slot). IsInUse slots n) (sym same) used)
-  where
-    absent : (found : Option Node) → found ≡ None → IsSome found → ⊥
-    absent (Some at) e some = cc
-    absent None e some = cc
-
-    go : (s : Slot) → heap_of (slots_seen raw) n ≡ node_in (slot_seen (items_of raw) n s) → IsInUse (slots_seen raw) n
-        → is_used s ≡ true
-    go (Slot.Used place) e some = refl
-    go (Slot.List place items) e some = refl
-    go _ e some = absurd (absent (heap_of (slots_seen raw) n) e some)
+used_inside raw seen n is used = subst (λ (k : ℕ). n < k) (sym (ap (λ (slots : List Slot). length slots) is) ∙ seen_length raw) (inside seen n used)
 
 -- The slot of a child.
 
@@ -258,29 +197,25 @@ module _ (held : Held) (n : ℕ) (items : List SlotId) (body : Body) (k : ℕ) (
       ∙ item_slot slot.0 (value_held n k (held slot.0)) completed
 
 -- the slot of child i of what is in one slot
-module _ (raw seen : List Slot) (n i : ℕ) (is : slots_seen raw ≡ seen) where
+module _ (raw seen : List Slot) (is : slots_seen raw ≡ seen) (n at i : ℕ) (slot : Slot) (number : at ≡ n) (inside : n < length raw)
+    (found : slot ≡ get_or raw at slot) where
   abbrev slot_in : Option Node → Option ℕ
-  slot_in found = option_and_then slot_of_cell (option_and_then (λ (at : Node). cell_at at.body i) found)
+  slot_in node = option_and_then slot_of_cell (option_and_then (λ (x : Node). cell_at x.body i) node)
 
-  pub child_seen : (slot : Slot) → slice_get raw n ≡ Some slot
-      → child_slot (heap_of seen) n i ≡ slot_in (node_in (slot_seen (items_of raw) n slot))
-  child_seen slot there = ap (λ (slots : List Slot). child_slot (heap_of slots) n i) (sym is) ∙ ap slot_in (heap_there raw n slot there)
+  pub child_seen : (s : Slot) → slot ≡ s → child_slot (heap_of seen) n i ≡ slot_in (node_in (slot_seen (items_of raw) n s))
+  child_seen s same =
+      ap slot_in (node_seen raw seen is n slot (read raw n at slot number inside found))
+      ∙ ap (λ (x : Slot). slot_in (node_in (slot_seen (items_of raw) n x))) same
 
-  pub child_of_none : (slot : Slot) → slice_get raw n ≡ Some slot → node_in (slot_seen (items_of raw) n slot) ≡ None
-      → child_slot (heap_of seen) n i ≡ None
-  child_of_none slot there none = child_seen slot there ∙ ap slot_in none
-
-  pub child_of_list : (place : Place) (items : Box (Rope SlotId) Global) → slice_get raw n ≡ Some (Slot.List place items)
+  pub child_of_list : (place : Place) (items : Box (Rope SlotId) Global) → slot ≡ Slot.List place items
       → child_slot (heap_of seen) n i
       ≡ option_and_then slot_of_cell (cell_at (body_with (items_of raw) n items.value.items (body_of place.piece)) i)
-  child_of_list place items there =
-      child_seen (Slot.List place items) there
+  child_of_list place items same =
+      child_seen (Slot.List place items) same
       ∙ ap (λ (body : Body). option_and_then slot_of_cell (cell_at body i)) (body_of_with (items_of raw) n items.value.items place.piece)
 
-  pub child_past : length raw ≤ n → child_slot (heap_of seen) n i ≡ None
-  child_past past =
-      let as_many : length seen ≡ length raw = sym (ap (λ (slots : List Slot). length slots) is) ∙ seen_length raw in
-      ap slot_in (past_end seen n (omega arith))
+  pub child_of_none : IsNoPlace slot → child_slot (heap_of seen) n i ≡ None
+  child_of_none none = child_seen slot refl ∙ ap slot_in (no_place slot none (items_of raw) n)
 
 -- Where it is read at an index, and changed.
 module _ (raw seen : List Slot) (is : slots_seen raw ≡ seen) (n at : ℕ) (slot now : Slot) (number : at ≡ n) (used : IsInUse seen n)
@@ -289,7 +224,7 @@ module _ (raw seen : List Slot) (is : slots_seen raw ≡ seen) (n at : ℕ) (slo
   slot_there = read raw n at slot number (used_inside raw seen n is used) is_there
 
   pub slot_used : is_used slot ≡ true
-  slot_used = used_there raw seen n slot is slot_there used
+  slot_used = subst (λ (o : Option Slot). IsSomeAnd o (λ (s : Slot). is_used s ≡ true)) slot_there (used_in raw seen is n used)
 
   pub stays_seen : now ≡ slot → slots_seen (set raw at now) ≡ seen
   stays_seen same =
@@ -297,27 +232,35 @@ module _ (raw seen : List Slot) (is : slots_seen raw ≡ seen) (n at : ℕ) (slo
       ∙ ap (λ (slots : List Slot). slots_seen slots) (set_as_was raw n slot slot_there) ∙ is
 
   module _ (stored : Bool) (marked : now ≡ with_stored stored slot) where
+    seen_as : Marked (items_of raw) n stored slot
+    seen_as = marked_as (items_of raw) n stored slot slot_used
+
+    was_seen : slice_get seen n ≡ Some (Slot.Used seen_as.place)
+    was_seen = get_seen raw seen is n slot slot_there ∙ ap (λ (s : Slot). Some s) seen_as.was
+
+    now_seen : slots_seen (set raw at now) ≡ set seen n (Slot.Used (record seen_as.place { stored = stored }))
+    now_seen =
+        ap₂ (λ (k : ℕ) (s : Slot). slots_seen (set raw k s)) number marked
+        ∙ set_seen raw seen is n slot (with_stored stored slot) slot_there seen_as.none ∙ ap (set seen n) seen_as.now
+
     pub mark_shows : Shows (slots_seen (set raw at now)) (with_mark (heap_of seen) n stored)
-    mark_shows m =
-        ap₂ (λ (k : ℕ) (s : Slot). heap_of (slots_seen (set raw k s)) m) number marked
-        ∙ (mark_seen raw n stored slot slot_there slot_used).0 m
-        ∙ ap (λ (slots : List Slot). with_mark (heap_of slots) n stored m) is
+    mark_shows m = ap (λ (slots : List Slot). heap_of slots m) now_seen ∙ marks seen n seen_as.place was_seen stored m
 
     pub mark_tokens : SameTokens seen (slots_seen (set raw at now))
     mark_tokens t =
-        ap₂ (λ (k : ℕ) (s : Slot). slots_occur (slots_seen (set raw k s)) t) number marked
-        ∙ (mark_seen raw n stored slot slot_there slot_used).1 t
-        ∙ ap (λ (slots : List Slot). slots_occur slots t) is
+        omega (
+          arith,
+          ap (λ (slots : List Slot). slots_occur slots t) now_seen,
+          occur_set seen n (Slot.Used seen_as.place) (Slot.Used (record seen_as.place { stored = stored })) t was_seen,
+        )
 
   module _ (tracker : Tracker) (made : IsReformed tracker slot now) where
     pub reform_shows : Shows (slots_seen (set raw at now)) (with_body (heap_of seen) n (reformed (as_tracker tracker)))
     reform_shows m =
-        ap (λ (k : ℕ). heap_of (slots_seen (set raw k now)) m) number
-        ∙ reform_seen raw n tracker slot now slot_there made m
+        ap (λ (k : ℕ). heap_of (slots_seen (set raw k now)) m) number ∙ reform_seen raw n tracker slot now slot_there made m
         ∙ ap (λ (slots : List Slot). with_body (heap_of slots) n (reformed (as_tracker tracker)) m) is
 
     pub reform_same : SameTokens seen (slots_seen (set raw at now))
     reform_same t =
-        ap (λ (k : ℕ). slots_occur (slots_seen (set raw k now)) t) number
-        ∙ reform_tokens raw n tracker slot now slot_there made t
+        ap (λ (k : ℕ). slots_occur (slots_seen (set raw k now)) t) number ∙ reform_tokens raw n tracker slot now slot_there made t
         ∙ ap (λ (slots : List Slot). slots_occur slots t) is

@@ -9,6 +9,19 @@ use Rattle.fr_frame.proofs.HeapLaws.{free_holds, number_cases, past_end, with_he
 abbrev pub AreFree : List Slot → (count n : ℕ) → Type 0
 AreFree slots count n = (k : ℕ) → (k < n) ⊎ (count ≤ k) → heap_of slots k ≡ None
 
+-- so is the next one
+more_free : (now next : List Slot) (count n : ℕ) → AreFree now count n → heap_of next n ≡ None
+    → ((k : ℕ) → k ≢ n → heap_of next k ≡ heap_of now k) → AreFree next count (n + 1)
+more_free now next count n free here same k h = go (number_cases k n)
+  where
+    before : (k < n + 1) ⊎ (count ≤ k) → k ≢ n → (k < n) ⊎ (count ≤ k)
+    before (inl l) ne = inl (omega (arith, ne))
+    before (inr l) ne = inr l
+
+    go : (k ≡ n) ⊎ (k ≢ n) → heap_of next k ≡ None
+    go (inl e) = ap (heap_of next) e ∙ here
+    go (inr ne) = same k ne ∙ free k (before h ne)
+
 none_left : (slots : List Slot) (t : ℕ) → ((k : ℕ) → heap_of slots k ≡ None) → slots_occur slots t ≡ 0
 none_left [] t free = refl
 none_left (slot ∷ slots) t free =
@@ -42,13 +55,8 @@ module _ (all now : List Slot) (before ledger : List ℕ) (n : ℕ) (so_far : Re
     same_length = so_far.same_length;
     released = so_far.released;
     room = so_far.room;
-    free = λ k h. go k h (number_cases k n);
+    free = more_free now now (length all) n so_far.free none (λ k ne. refl);
   }
-    where
-      go : (k : ℕ) → (k < n + 1) ⊎ (length all ≤ k) → (k ≡ n) ⊎ (k ≢ n) → heap_of now k ≡ None
-      go k h (inl same) = ap (heap_of now) same ∙ none
-      go k (inl h) (inr ne) = so_far.free k (inl (omega (arith, ne)))
-      go k (inr h) (inr ne) = so_far.free k (inr h)
 
   module _ (next : List Slot) (gone : ℕ → ℕ) (left : (t : ℕ) → slots_occur now t ≡ slots_occur next t + gone t) where
     pub releasing_room : Room gone ledger
@@ -62,13 +70,10 @@ module _ (all now : List Slot) (before ledger : List ℕ) (n : ℕ) (so_far : Re
       room =
           Room_risen gone (slots_occur next) ledger after
           (Room_same (slots_occur now) (both gone (slots_occur next)) ledger (λ t. omega (arith, left t)) so_far.room) rose;
-      free = λ k h. go k h (number_cases k n);
+      free =
+          more_free now next (length all) n so_far.free (rest n ∙ with_here (heap_of now) n None)
+          (λ k ne. rest k ∙ with_other (heap_of now) n None k ne);
     }
-      where
-        go : (k : ℕ) → (k < n + 1) ⊎ (length all ≤ k) → (k ≡ n) ⊎ (k ≢ n) → heap_of next k ≡ None
-        go k h (inl same) = ap (heap_of next) same ∙ rest n ∙ with_here (heap_of now) n None
-        go k (inl h) (inr ne) = rest k ∙ with_other (heap_of now) n None k ne ∙ so_far.free k (inl (omega (arith, ne)))
-        go k (inr h) (inr ne) = rest k ∙ with_other (heap_of now) n None k ne ∙ so_far.free k (inr h)
 
 pub releasing_ends : (all now : List Slot) (before ledger : List ℕ) (n : ℕ) → Releasing all now before ledger n → length all ≤ n
     → RoseBy (slots_occur all) before ledger

@@ -1,25 +1,35 @@
 -- Slots as contracts see them: what one change of a slot does to that.
-use Rattle.std.proofs.Common.{◌≡◌, ℕ, zero, suc, ◌+◌, ◌-◌, List, [], ◌∷◌, ◌++◌, length, Option, Some, None, slice_get, set, option_map, if◌then◌else◌, refl, sym, ◌∙◌, ap, ap₂, add-zero, zero-add, arith}
-use Rattle.fr_frame.specs.Common.{Cell, Held, Piece, Slot, SlotId, heap_of, item_in, item_or, items_of, keeps_items, node_in, option_and_then, piece_with, slot_seen, slots_seen, value_held, with_items}
+use Rattle.std.proofs.Common.{◌≡◌, ℕ, zero, suc, ◌+◌, ◌-◌, List, [], ◌∷◌, ◌++◌, length, Option, Some, None, slice_get, set, option_map, if◌then◌else◌, refl, sym, ◌∙◌, ap, ap₂, subst, add-zero, zero-add, arith}
+use Rattle.fr_frame.specs.Common.{Cell, Held, Piece, Slot, SlotId, Val, children_with, heap_of, item_in, item_or, items_of, keeps_items, node_in, option_and_then, piece_with, slot_seen, slots_seen, value_held, with_items}
 use Rattle.fr_frame.specs.Items.{seen_from}
+use Rattle.fr_frame.proofs.HeapLaws.{same_lists}
 
 -- what two hold of the items of the list in slot n is the same
 abbrev pub HoldSame : (a b : Held) → (n : ℕ) → Type 0
 HoldSame a b n = (m i : ℕ) → value_held n i (a m) ≡ value_held n i (b m)
 
-cells_same : (a b : Held) (n : ℕ) → HoldSame a b n → (i before : ℕ) (cells : List Cell) (items : List SlotId)
-    → with_items a n i before cells items ≡ with_items b n i before cells items
-cells_same a b n same i before [] items = refl
-cells_same a b n same i (suc before) (c ∷ cells) items = ap (λ (l : List Cell). c ∷ l) (cells_same a b n same (suc i) before cells items)
-cells_same a b n same i zero (c ∷ cells) [] = refl
-cells_same a b n same i zero (c ∷ cells) (slot ∷ items) =
-    ap₂ (λ (x : Cell) (l : List Cell). x ∷ l) (ap (item_or slot.0) (same slot.0 i)) (cells_same a b n same (suc i) zero cells items)
+-- child k is the same where what is held of the item of its number is
+pub items_at : (a b : Held) (n i before : ℕ) (cells : List Cell) (items : List SlotId) (k j : ℕ) → j ≡ i + k
+    → ((m : ℕ) → value_held n j (a m) ≡ value_held n j (b m))
+    → slice_get (with_items a n i before cells items) k ≡ slice_get (with_items b n i before cells items) k
+items_at a b n i before [] items k j at same = refl
+items_at a b n i (suc before) (c ∷ cells) items zero j at same = refl
+items_at a b n i (suc before) (c ∷ cells) items (suc k) j at same =
+    items_at a b n (suc i) before cells items k j (omega (arith, at)) same
+items_at a b n i zero (c ∷ cells) [] k j at same = refl
+items_at a b n i zero (c ∷ cells) (slot ∷ items) zero j at same =
+    let here : j ≡ i = omega (arith, at) in
+    ap (λ (o : Option Val). Some (item_or slot.0 o))
+    (subst (λ (number : ℕ). value_held n number (a slot.0) ≡ value_held n number (b slot.0)) here (same slot.0))
+items_at a b n i zero (c ∷ cells) (slot ∷ items) (suc k) j at same =
+    items_at a b n (suc i) zero cells items k j (omega (arith, at)) same
 
 piece_same : (a b : Held) (n : ℕ) (items : List SlotId) (piece : Piece) → HoldSame a b n
     → piece_with a n items piece ≡ piece_with b n items piece
 piece_same a b n items (Piece.Begun tracker children) same =
     ap (λ (l : List Cell). Piece.Begun tracker (if keeps_items tracker then l else children))
-    (cells_same a b n same 0 (length children - length items) children items)
+    (same_lists (children_with a n children items) (children_with b n children items)
+    (λ k. items_at a b n 0 (length children - length items) children items k k (omega arith) (λ m. same m k)))
 piece_same a b n items _ same = refl
 
 pub slot_seen_same : (a b : Held) (n : ℕ) (slot : Slot) → HoldSame a b n → slot_seen a n slot ≡ slot_seen b n slot
@@ -49,30 +59,29 @@ from_get held k (slot ∷ raw) zero = ap (λ (m : ℕ). Some (slot_seen held m s
 from_get held k (slot ∷ raw) (suc n) =
     from_get held (suc k) raw n ∙ ap (λ (m : ℕ). option_map (slot_seen held m) (slice_get raw n)) (further k n)
 
-from_set : (held : Held) (k : ℕ) (raw : List Slot) (n : ℕ) (now : Slot)
+pub from_set : (held : Held) (k : ℕ) (raw : List Slot) (n : ℕ) (now : Slot)
     → seen_from held k (set raw n now) ≡ set (seen_from held k raw) n (slot_seen held (k + n) now)
 from_set held k [] n now = refl
-from_set held k (slot ∷ raw) zero now =
-    ap (λ (m : ℕ). slot_seen held m now ∷ seen_from held (suc k) raw) (sym (add-zero k))
+from_set held k (slot ∷ raw) zero now = ap (λ (m : ℕ). slot_seen held m now ∷ seen_from held (suc k) raw) (sym (add-zero k))
 from_set held k (slot ∷ raw) (suc n) now =
-    ap (λ (l : List Slot). slot_seen held k slot ∷ l)
-    (from_set held (suc k) raw n now
+    ap (λ (l : List Slot). slot_seen held k slot ∷ l) (from_set held (suc k) raw n now
     ∙ ap (λ (m : ℕ). set (seen_from held (suc k) raw) n (slot_seen held m now)) (further k n))
 
 from_append : (held : Held) (k : ℕ) (raw : List Slot) (slot : Slot)
     → seen_from held k (raw ++ slot ∷ []) ≡ seen_from held k raw ++ slot_seen held (k + length raw) slot ∷ []
 from_append held k [] slot = ap (λ (m : ℕ). slot_seen held m slot ∷ []) (sym (add-zero k))
 from_append held k (first ∷ raw) slot =
-    ap (λ (l : List Slot). slot_seen held k first ∷ l)
-    (from_append held (suc k) raw slot
+    ap (λ (l : List Slot). slot_seen held k first ∷ l) (from_append held (suc k) raw slot
     ∙ ap (λ (m : ℕ). seen_from held (suc k) raw ++ slot_seen held m slot ∷ []) (further k (length raw)))
 
 pub seen_length : (raw : List Slot) → length (slots_seen raw) ≡ length raw
 seen_length raw = from_length (items_of raw) 0 raw
 
+pub seen_by : (held : Held) (raw : List Slot) (n : ℕ) → slice_get (seen_from held 0 raw) n ≡ option_map (slot_seen held n) (slice_get raw n)
+seen_by held raw n = from_get held 0 raw n ∙ ap (λ (m : ℕ). option_map (slot_seen held m) (slice_get raw n)) (zero-add n)
+
 pub seen_get : (raw : List Slot) (n : ℕ) → slice_get (slots_seen raw) n ≡ option_map (slot_seen (items_of raw) n) (slice_get raw n)
-seen_get raw n =
-    from_get (items_of raw) 0 raw n ∙ ap (λ (m : ℕ). option_map (slot_seen (items_of raw) m) (slice_get raw n)) (zero-add n)
+seen_get raw n = seen_by (items_of raw) raw n
 
 pub heap_seen : (raw : List Slot) (n : ℕ)
     → heap_of (slots_seen raw) n ≡ option_and_then (λ (slot : Slot). node_in (slot_seen (items_of raw) n slot)) (slice_get raw n)
@@ -83,23 +92,13 @@ heap_seen raw n = ap (option_and_then node_in) (seen_get raw n) ∙ go (slice_ge
     go (Some slot) = refl
     go None = refl
 
--- lists that have the same under each number
-pub same_slots : (a b : List Slot) → ((n : ℕ) → slice_get a n ≡ slice_get b n) → a ≡ b
-same_slots [] [] same = refl
-same_slots [] (y ∷ b) same = let e : None ≡ Some y = same zero in cc
-same_slots (x ∷ a) [] same = let e : Some x ≡ None = same zero in cc
-same_slots (x ∷ a) (y ∷ b) same =
-    let e : Some x ≡ Some y = same zero in
-    let first : x ≡ y = cc in
-    ap₂ (λ (s : Slot) (l : List Slot). s ∷ l) first (same_slots a b (λ n. same (suc n)))
-
 -- slots that are seen as the same, one by one
 pub seen_as_same : (a b : List Slot)
     → ((n : ℕ) → option_map (slot_seen (items_of a) n) (slice_get a n) ≡ option_map (slot_seen (items_of b) n) (slice_get b n))
     → slots_seen a ≡ slots_seen b
-seen_as_same a b same = same_slots (slots_seen a) (slots_seen b) (λ n. seen_get a n ∙ same n ∙ sym (seen_get b n))
+seen_as_same a b same = same_lists (slots_seen a) (slots_seen b) (λ n. seen_get a n ∙ same n ∙ sym (seen_get b n))
 
--- a slot that holds no item gets something that is no item either
+-- a slot gets something that is no item where there was none, or the same item
 pub items_set : (raw : List Slot) (n : ℕ) (was now : Slot) → slice_get raw n ≡ Some was → item_in was ≡ item_in now
     → (m : ℕ) → items_of (set raw n now) m ≡ items_of raw m
 items_set [] n was now e same m = cc
@@ -108,12 +107,11 @@ items_set (slot ∷ raw) zero was now e same (suc m) = refl
 items_set (slot ∷ raw) (suc n) was now e same zero = refl
 items_set (slot ∷ raw) (suc n) was now e same (suc m) = items_set raw n was now e same m
 
-pub seen_set : (raw : List Slot) (n : ℕ) (was now : Slot) → slice_get raw n ≡ Some was → item_in was ≡ None → item_in now ≡ None
+pub seen_set : (raw : List Slot) (n : ℕ) (was now : Slot) → slice_get raw n ≡ Some was → item_in was ≡ item_in now
     → slots_seen (set raw n now) ≡ set (slots_seen raw) n (slot_seen (items_of raw) n now)
-seen_set raw n was now e was_none now_none =
-    from_same (items_of (set raw n now)) (items_of raw) (items_set raw n was now e (was_none ∙ sym now_none)) 0 (set raw n now)
-    ∙ from_set (items_of raw) 0 raw n now
-    ∙ ap (λ (m : ℕ). set (slots_seen raw) n (slot_seen (items_of raw) m now)) (zero-add n)
+seen_set raw n was now e same =
+    from_same (items_of (set raw n now)) (items_of raw) (items_set raw n was now e same) 0 (set raw n now)
+    ∙ from_set (items_of raw) 0 raw n now ∙ ap (λ (m : ℕ). set (slots_seen raw) n (slot_seen (items_of raw) m now)) (zero-add n)
 
 items_append : (raw : List Slot) (slot : Slot) → item_in slot ≡ None → (m : ℕ) → items_of (raw ++ slot ∷ []) m ≡ items_of raw m
 items_append [] slot none zero = none

@@ -153,13 +153,11 @@ module _ (resolve : BackReferencesResolve) (table : Table) (plan : Plan) (checke
     (planned : IsPlanFor table plan) (id : NodeId) (inside : id.0 < length plan.nodes) where
   kind_at : (node : TypePlanNode) → node_at plan id ≡ Some node → HasKind table plan node.shape.0 (resolved plan node).kind
   kind_at node at =
-      let stands : StandsFor plan id node
-      = resolve table planned.root plan id node checked planned.inside planned.planned at in
+      let stands : StandsFor plan id node = resolve table planned.root plan id node checked planned.inside planned.planned at in
       let pair : Paired (IsNode table plan.lists) plan.walk.nodes (resolved_id plan id).0 (resolved plan node)
       = zip_there (IsNode table plan.lists) plan.walk.nodes plan.nodes planned.planned.told (resolved_id plan id).0
       (resolved plan node) stands.there in
-      subst (λ (shape : ShapeId). HasKind table plan shape.0 (resolved plan node).kind)
-      (sym pair.so.shape ∙ stands.shape)
+      subst (λ (shape : ShapeId). HasKind table plan shape.0 (resolved plan node).kind) (sym pair.so.shape ∙ stands.shape)
       (kind_by_role table plan pair.other (resolved plan node).kind stands.kind pair.other.role pair.so.kind)
 
   -- what is looked up by the kind of the node under this number
@@ -168,9 +166,7 @@ module _ (resolve : BackReferencesResolve) (table : Table) (plan : Plan) (checke
       → For (shape_of plan id) (by_id plan (λ (node : TypePlanNode). by_kind (resolved plan node).kind) id)
   looked_up by_kind For so =
       let here : (node : TypePlanNode) × (node_at plan id ≡ Some node) = item_there plan.nodes id.0 inside in
-      subst
-      (λ (node : Option TypePlanNode).
-      For (unwrap_or (option_map shape_of_node node) (record { 0 = 0 })).0
+      subst (λ (node : Option TypePlanNode). For (unwrap_or (option_map shape_of_node node) (record { 0 = 0 })).0
       (option_and_then (λ (x : TypePlanNode). by_kind (resolved plan x).kind) node))
       (sym here.1) (so here.0.shape.0 (resolved plan here.0).kind (kind_at here.0 here.1))
 
@@ -214,15 +210,13 @@ module _ (table : Table) (plan : Plan) (s : ℕ) (selected : Option ℕ) (fields
       → AreTold table plan s selected (part_of plan.lists.fields range)
   fields_told range names = subst (AreTold table plan s selected) (sym names.1.names) (record {
     each = λ i. each i (slice_get names.0 i) refl;
-    count = λ n so.
-        full n so ∙ sym (placed_count (record { 0 = s }) selected 0 fields)
+    count = λ n so. full n so ∙ sym (placed_count (record { 0 = s }) selected 0 fields)
         ∙ sym (AllZip-long (IsFieldPlan table plan.lists nodes) placed names.0 names.2);
   })
     where
       each : (i : ℕ) (told : Option FieldPlan) → slice_get names.0 i ≡ told → IsToldAt table plan s selected i told
       each i None e =
-          are i
-          ∙ placed_past (record { 0 = s }) selected 0 fields i
+          are i ∙ placed_past (record { 0 = s }) selected 0 fields i
           (zip_past (IsFieldPlan table plan.lists nodes) placed names.0 names.2 i e)
       each i (Some told) e =
           let pair : Paired (IsFieldPlan table plan.lists nodes) placed i told
@@ -316,10 +310,8 @@ module _ (table : Table) (plan : Plan) (s : ℕ) (found : StructPlan) (is : IsFo
 
   pub found_told : AreTold table plan s None (part_of plan.lists.fields found.fields)
   found_told =
-      fields_told table plan s None is.struct.fields
-      (λ i. ap (λ (def : Def). field_in def None i) is.def)
-      (λ n full. subst (λ (def : Def). IsFullAs def (as_fields None) n) is.def full)
-      is.nodes found.fields is.told.fields
+      fields_told table plan s None is.struct.fields (λ i. ap (λ (def : Def). field_in def None i) is.def)
+      (λ n full. subst (λ (def : Def). IsFullAs def (as_fields None) n) is.def full) is.nodes found.fields is.told.fields
 
 pub none_told : (table : Table) (plan : Plan) (s : ℕ) → is_struct (def_of table s) ≡ false → AreTold table plan s None []
 none_told table plan s apart = record {
@@ -458,20 +450,14 @@ module _ (table : Table) (plan : Plan) (s k : ℕ) where
         let here : IsNumbered is.enumeration.variants k k pair.other
         = numbered_at 0 is.nodes is.enumeration.variants k k pair.other (omega arith) pair.there in
         let fields : NamesFields table plan.lists pair.other.nodes
-        (fields_from (record { 0 = s }) (Some k) 0 pair.other.variant.fields) one.fields
-        = subst
-        (λ (n : ℕ).
+        (fields_from (record { 0 = s }) (Some k) 0 pair.other.variant.fields) one.fields = subst (λ (n : ℕ).
         NamesFields table plan.lists pair.other.nodes (fields_from (record { 0 = s }) (Some n) 0 pair.other.variant.fields) one.fields)
         here.number pair.so.fields in
         record {
           inside = fields.1.inside;
           told =
-              fields_told table plan s (Some k) pair.other.variant.fields
-              (λ i.
-              ap (λ (def : Def). field_in def (Some k) i) is.def
-              ∙ ap (λ (v : Option VariantDef). field_of_variant v i) here.there)
-              (λ n full.
+              fields_told table plan s (Some k) pair.other.variant.fields (λ i. ap (λ (def : Def). field_in def (Some k) i) is.def
+              ∙ ap (λ (v : Option VariantDef). field_of_variant v i) here.there) (λ n full.
               subst (λ (v : Option VariantDef). HasFieldsOf v n) here.there
-              (subst (λ (def : Def). IsFullAs def (as_fields (Some k)) n) is.def full))
-              pair.other.nodes one.fields fields;
+              (subst (λ (def : Def). IsFullAs def (as_fields (Some k)) n) is.def full)) pair.other.nodes one.fields fields;
         }

@@ -1,12 +1,11 @@
 -- What rules say of the children of a begun place, by what these are.
 use Rattle.std.proofs.Common.{◌≡◌, ℕ, Bool, true, false, Option, Some, None, IsSome, refl, sym, ◌∙◌, ap}
-use Rattle.fr_frame.specs.Common.{Column, ContentKind, EntriesKind, Field, FieldRef, IfSome, ItemsKind, Meanings, Table, Tracker, Val, as_content, as_elements, as_entries, as_fields, as_items, deferred_column, failing_child, field_at, fields_of_tracker, fill_of_field, hole_takes, is_some, missing_child, missing_value, unmet_mark}
+use Rattle.fr_frame.specs.Common.{Column, Field, FieldRef, IfSome, Meanings, Table, Tracker, Val, as_fields, deferred_column, failing_child, field_at, fields_of_tracker, fill_of_field, hole_takes, is_some, missing_child, missing_value, unmet_mark}
 use Rattle.fr_shape.specs.declared.shape.DefaultSource.{DefaultSource}
 use Rattle.fr_shape.specs.Fills.{by_deferred_rule, deferred_by_mark, deferred_rule_of, has_default, takes_deferred_default}
 use Rattle.fr_rules.specs.declared.fills.DeferredFill.{DeferredFill}
 use Rattle.fr_rules.specs.declared.fills.FieldDefault.{FieldDefault}
 use Rattle.fr_rules.specs.FillRules.{own_of_mark, own_template, told_deferred, template_meant}
-use Rattle.fr_model.specs.Complete.{failing_field_in, missing_field}
 use Rattle.fr_model.specs.Places.{fill_in}
 
 -- fields, of a struct or of the variant that is selected
@@ -15,11 +14,6 @@ pub fields_are : (tracker : Tracker) (selected : Option ℕ) → fields_of_track
 fields_are (as_fields None) selected e = let same : None ≡ selected = cc in ap as_fields same
 fields_are (as_fields (Some k)) selected e = let same : Some k ≡ selected = cc in ap as_fields same
 fields_are _ selected e = absurd (cc)
-
-pub field_takes : (column : Column) (table : Table) (s : ℕ) (selected : Option ℕ) (i : ℕ)
-    → hole_takes column table s (as_fields selected) i ≡ fill_in column table s selected i
-field_takes column table s None i = refl
-field_takes column table s (Some k) i = refl
 
 -- the template that is told of a field is what it takes at the end of deferred mode
 module _ (table : Table) (meant : FieldRef) (default : FieldDefault) where
@@ -42,7 +36,7 @@ module _ (table : Table) (meant : FieldRef) (default : FieldDefault) where
       → IfSome (field_at table meant) (λ field. DeferredFill.Template default ≡ told_deferred meant field (deferred_rule_of table meant field))
       → template_meant table default ≡ hole_takes deferred_column table meant.shape.0 (as_fields meant.variant) meant.index
   told_takes there told =
-      go (field_at table meant) refl there told ∙ sym (field_takes deferred_column table meant.shape.0 meant.variant meant.index)
+      go (field_at table meant) refl there told
     where
       go : (found : Option Field) → field_at table meant ≡ found → IsSome found
           → IfSome found (λ field. DeferredFill.Template default ≡ told_deferred meant field (deferred_rule_of table meant field))
@@ -51,15 +45,6 @@ module _ (table : Table) (meant : FieldRef) (default : FieldDefault) where
       go (Some field) at there told =
           told_by_mark field field.default (has_default table field.shape.0) (takes_deferred_default table meant.shape.0 field) at refl told
           ∙ sym (ap (fill_of_field deferred_column table meant.shape.0 (is_some meant.variant)) at)
-
-pub field_fails_by : (means : Meanings) (table : Table) (s : ℕ) (selected : Option ℕ) (i : ℕ) (value : Option Val)
-    → failing_child means table s (as_fields selected) i value ≡ failing_field_in means table s selected i value
-field_fails_by means table s None i value = refl
-field_fails_by means table s (Some k) i value = refl
-
-pub field_missing : (s : ℕ) (selected : Option ℕ) (i : ℕ) → missing_child s (as_fields selected) i ≡ missing_field s selected i
-field_missing s None i = refl
-field_missing s (Some k) i = refl
 
 -- elements, and a content, a side or a pointee
 

@@ -4,11 +4,9 @@ use Rattle.fr_shape.specs.declared.shape.Def.{Def}
 use Rattle.fr_shape.specs.Fills.{is_empty_struct}
 use Rattle.fr_shape.specs.Same.{same}
 use Rattle.fr_shape.specs.Tokens.{occurs}
-use Rattle.fr_shape.specs.Val.{Val, Vals, Dynamics, Members, unit, product, some, ok, err, list_of, ptr, no_vals, first}
+use Rattle.fr_shape.specs.Val.{Val, Vals, unit, product, some, ok, err, list_of, ptr, no_vals, first}
 use Rattle.fr_model.specs.Complete.{made}
-use Rattle.fr_model.specs.Contents.{content_of}
 use Rattle.fr_model.specs.DynamicPlaces.{is_object_tracker, entry_found, number_or_last}
-use Rattle.fr_model.specs.Dynamics.{dynamic_in, elements_in, element_vals, members_of_object, member_keys, member_vals}
 use Rattle.fr_model.specs.Places.{vals_nth}
 use Rattle.fr_model.specs.Step.{parts_as}
 use Rattle.fr_model.specs.Trackers.{Tracker, as_fields, as_elements, as_content, ContentKind, as_items, ItemsKind, as_entries, EntriesKind, keys_of_tracker}
@@ -83,8 +81,9 @@ abbrev pub opened_by : Tracker → Val → (parts : Option Vals) → Body
 opened_by tracker v (Some vs) = begun_body (over_base tracker v) (cells_of_vals vs)
 opened_by tracker v None = whole_body v
 
--- a place that is begun so, with so many children: an entered one has none of them yet, of a whole one each has its part
--- of the value (those of a list are its items, those of a map keys and values in turn, which are its base), a begun one stays as it is
+-- a place that is begun so, with so many children: an entered one has none of them yet, of a whole one each has its part of the value
+-- (what an option holds; the items of a list, a set or a dynamic array; keys and values in turn of a map, which are its base; the values
+-- of an object, under its keys), a begun one stays as it is
 abbrev pub opened : Tracker → (count : ℕ) → Body → Body
 opened tracker count entered_body = begun_body tracker (replicate count absent)
 opened tracker count (whole_body v) = opened_by tracker v (parts_as tracker v)
@@ -95,22 +94,6 @@ abbrev pub MayOpen : Tracker → Body → Type 0
 MayOpen tracker entered_body = Unit {0}
 MayOpen tracker (whole_body v) = IsSome (parts_as tracker v)
 MayOpen tracker (begun_body as_before cells) = Unit {0}
-
--- a whole `Some`
-abbrev pub HoldsSome : Body → Type 0
-HoldsSome entered_body = ⊥
-HoldsSome (whole_body v) = IsSome (content_of v)
-HoldsSome (begun_body tracker cells) = ⊥
-
-abbrev pub opened_around : Val → (content : Option Val) → Body
-opened_around v (Some held) = begun_body (as_content ContentKind.Some) (given held ∷ [])
-opened_around v None = whole_body v
-
--- a whole `Some` is begun as an option around its content; any other place stays as it is
-abbrev pub opened_some : Body → Body
-opened_some entered_body = entered_body
-opened_some (whole_body v) = opened_around v (content_of v)
-opened_some (begun_body tracker cells) = begun_body tracker cells
 
 -- a place that is begun so, with so many children, none of which is there, whatever was there before
 abbrev pub restarted : Tracker → (count : ℕ) → Body → Body
@@ -188,37 +171,6 @@ IsSetBody (whole_body v) = ⊥
 IsSetBody (begun_body tracker cells) = tracker ≡ as_items ItemsKind.Set
 
 -- Dynamic values.
-
--- a whole dynamic array, or object
-abbrev pub HoldsArray : Body → Type 0
-HoldsArray entered_body = ⊥
-HoldsArray (whole_body v) = IsSome (elements_in (dynamic_in v))
-HoldsArray (begun_body tracker cells) = ⊥
-
-abbrev pub HoldsObject : Body → Type 0
-HoldsObject entered_body = ⊥
-HoldsObject (whole_body v) = IsSome (members_of_object (dynamic_in v))
-HoldsObject (begun_body tracker cells) = ⊥
-
-abbrev pub opened_elements : Val → (elements : Option Dynamics) → Body
-opened_elements v (Some ds) = begun_body (as_items ItemsKind.Array) (cells_of_vals (element_vals ds))
-opened_elements v None = whole_body v
-
--- a whole dynamic array is begun with its elements as they are; any other place stays as it is
-abbrev pub opened_array : Body → Body
-opened_array entered_body = entered_body
-opened_array (whole_body v) = opened_elements v (elements_in (dynamic_in v))
-opened_array (begun_body tracker cells) = begun_body tracker cells
-
-abbrev pub opened_members : Val → (members : Option Members) → Body
-opened_members v (Some ms) = begun_body (as_entries (EntriesKind.Object (member_keys ms))) (cells_of_vals (member_vals ms))
-opened_members v None = whole_body v
-
--- a whole dynamic object is begun with its entries as they are; any other place stays as it is
-abbrev pub opened_object : Body → Body
-opened_object entered_body = entered_body
-opened_object (whole_body v) = opened_members v (members_of_object (dynamic_in v))
-opened_object (begun_body tracker cells) = begun_body tracker cells
 
 -- the place is begun as a dynamic object
 abbrev pub IsObjectBody : Body → Type 0

@@ -45,8 +45,7 @@ cell false v = in_slot v
 -- the children from number i on, of which those in the set have their values
 abbrev pub cells_of : BitSet → ℕ → List Value → List Cell
 cells_of set_of_given i [] = []
-cells_of set_of_given i (v ∷ vs) =
-    cell (set.contains set_of_given.members i) (view v) ∷ cells_of set_of_given (suc i) vs
+cells_of set_of_given i (v ∷ vs) = cell (set.contains set_of_given.members i) (view v) ∷ cells_of set_of_given (suc i) vs
 
 -- the numbers of so many children are in the set, which has room for them
 pub record HasNumbers (count : ℕ) (bits : BitSet) : Type 0 where

@@ -1,15 +1,15 @@
 -- The names that clauses and proofs cite most, passed on from one place. Declares nothing.
 pub use Rattle.fr_arena.specs.BitSets.{BitSet}
 pub use Rattle.fr_arena.specs.Ropes.{Rope}
-pub use Rattle.fr_frame.specs.Bodies.{AreUnplaced, Body, HasAllChildren, IsClosed, IsGrowing, IsSetBody, added, added_entry, and_item_cell, begun_body, body_occurs, cell_at, cells_of_vals, count_cells, entered_body, has_same_cell, is_same_cell, keys_in, linked, opened, opened_array, opened_object, opened_some, own_tree, reformed, restarted, takes_memory, trees_of, unlinked, value_of, whole_body, with_cell, with_ended, with_entry_for, without_cell}
+pub use Rattle.fr_frame.specs.Bodies.{AreUnplaced, Body, HasAllChildren, IsClosed, IsGrowing, IsSetBody, added, added_entry, and_item_cell, begun_body, body_occurs, cell_at, cells_of_vals, count_cells, entered_body, has_same_cell, is_same_cell, keys_in, linked, opened, own_tree, reformed, restarted, takes_memory, trees_of, unlinked, value_of, whole_body, with_cell, with_ended, with_entry_for, without_cell}
+pub use Rattle.fr_frame.specs.Asking.{HasValidators, IsAnswer, IsPlanned, IsUnfilled, ask, ask_field, ask_holes, asked, cells_or_holes, defaulted_nth, question_of, refused_of, unmet_child}
 pub use Rattle.fr_frame.specs.Cells.{Cell, absent, cell, cell_occurs, cells_occur, cells_of, given, in_slot, placed, slot_at, slot_of_cell, value_at, value_occurs, value_of_cell, values_of}
 pub use Rattle.fr_frame.specs.Changes.{Becomes, IfInUse, IsInUse, SameTokens, Shows}
 pub use Rattle.fr_frame.specs.ChildIndex.{IsIndexed}
 pub use Rattle.fr_frame.specs.Closed.{IsClosedAt}
 pub use Rattle.fr_frame.specs.Completing.{FillsAt, IsFilled, IsFull, IsPlanFor, MayComplete, WhyNot, shape_of, takes_template}
-pub use Rattle.fr_frame.specs.Defaults.{KeepGiven, KeepsTracker, WhyNotDefault, defaulted, defaulted_by, defaulted_cell, defaulted_cells, defaulted_struct, first_absent, invalid, left_out, unmet}
-pub use Rattle.fr_frame.specs.FieldDefaults.{HasTheseFields, HasValidators, IsPlanned, defaulted_nth, refused_of, unmet_child}
-pub use Rattle.fr_frame.specs.Filling.{AreTold, IsCauseOf, IsLightFill, IsTold, filled, filled_body, first_refused, lack_of_child}
+pub use Rattle.fr_frame.specs.Defaults.{KeepGiven, KeepsTracker, WhyNotDefault, defaulted, defaulted_by, defaulted_cell, defaulted_cells, defaulted_struct, first_asked, invalid, left_out, unmet}
+pub use Rattle.fr_frame.specs.Filling.{AreTold, IsCauseOf, IsNamed, IsTold, column_of, field_fill, first_refused, lack_of_child}
 pub use Rattle.fr_frame.specs.Heap.{Heap, Node, as_tracker, body_of, depth_below, depth_limit, fields_of_tracker, gives, heap_of, held_by, item_owner, links, node_in, node_of, slot_occurs, slots_occur, unlinks, with_body, with_entered, with_mark, with_slot, without}
 pub use Rattle.fr_frame.specs.Indexing.{Indexes, IsRun, has_number, is_held, joined, runs_of, val_at}
 pub use Rattle.fr_frame.specs.Items.{FreesItem, FreesItems, Held, IsListedIn, IsPlain, IsPlainAt, IsReserved, IsUsedAt, KeepsReserved, children_with, is_list, is_used, item_cell, item_in, item_or, items_of, keeps_items, piece_with, place_with, slot_seen, slots_seen, value_held, with_items, with_placed}
@@ -20,6 +20,8 @@ pub use Rattle.fr_frame.specs.Outlines.{is_begun_body, is_list_body, outlined}
 pub use Rattle.fr_frame.specs.RawItems.{HasRoomIn, IsSeenAs}
 pub use Rattle.fr_frame.specs.RawSlots.{body_with}
 pub use Rattle.fr_frame.specs.declared.contents.ByContents.{ByContents}
+pub use Rattle.fr_frame.specs.declared.field_plans.FillColumn.{FillColumn}
+pub use Rattle.fr_frame.specs.declared.lacking.Question.{Question}
 pub use Rattle.fr_frame.specs.declared.places.FrameOwner.{FrameOwner}
 pub use Rattle.fr_frame.specs.declared.places.Item.{Item}
 pub use Rattle.fr_frame.specs.declared.places.Piece.{Piece}

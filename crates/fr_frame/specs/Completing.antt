@@ -71,8 +71,7 @@ IsOfValidator kind = (field : FieldRef) × (text : List ℕ) × (kind ≡ Reflec
 -- there was no memory: for a template that the place takes, or to say why a value fails
 pub record IsOutOfMemory (means : Meanings) (table : Table) (s : ℕ) (body : Body) (kind : ReflectErrorKind) : Type 0 where
   pub memory : kind ≡ ReflectErrorKind.OutOfMemory
-  pub needed :
-      (IsSome (complete strict_column means table s (own_tree body)) × (takes_template body ≡ true))
+  pub needed : (IsSome (complete strict_column means table s (own_tree body)) × (takes_template body ≡ true))
       ⊎ ((complete strict_column means table s (own_tree body) ≡ None) × IsOfValidator (cause means table s (own_tree body)))
 
 abbrev pub WhyNot : Meanings → Table → ℕ → Body → ReflectErrorKind → Type 0

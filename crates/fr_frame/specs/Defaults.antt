@@ -1,39 +1,46 @@
--- What becomes of one place by the rules of the end of deferred mode, its children being whole or not there.
+-- What becomes of one place as its holes take their fills, its children being whole or not there, and what it lacks at the end of
+-- deferred mode.
 use Rattle.std.specs.Prelude.{◌≡◌, ◌⊎◌, ℕ, suc, true, false, List, [], ◌∷◌, length, replicate, Option, Some, None, IsSomeAnd}
+use Rattle.std.specs.Option.{option_or}
 use Rattle.fr_shape.specs.declared.shape.Def.{Def}
 use Rattle.fr_shape.specs.declared.error.ReflectErrorKind.{ReflectErrorKind}
 use Rattle.fr_shape.specs.Fills.{preset_of}
 use Rattle.fr_shape.specs.Hooks.{Meanings}
 use Rattle.fr_shape.specs.Look.{Table, def_of}
 use Rattle.fr_shape.specs.Val.{Val, none}
-use Rattle.fr_model.specs.Complete.{complete, hole_takes, missing_child, missing_value}
+use Rattle.fr_model.specs.Complete.{complete, hole_takes, missing_child, missing_value, unless_there}
 use Rattle.fr_model.specs.Failing.{first_unmet, first_invalid, own_lack}
-use Rattle.fr_model.specs.Places.{deferred_column, child_count}
+use Rattle.fr_model.specs.Places.{Column, deferred_column, child_count}
 use Rattle.fr_model.specs.Trackers.{Tracker, as_fields}
 use Rattle.fr_model.specs.Tree.{holes}
 use Rattle.fr_frame.specs.Bodies.{Body, entered_body, whole_body, begun_body, own_tree, takes_memory, trees_of}
-use Rattle.fr_frame.specs.Cells.{Cell, absent, given, placed}
+use Rattle.fr_frame.specs.Cells.{Cell, absent, given, placed, value_of_cell}
 use Rattle.fr_frame.specs.Completing.{IsOfValidator, takes_template}
 
 -- Filling holes.
 
+-- a child with the fill that it took, if it took any
+abbrev pub taken : (fill : Option Val) → Cell
+taken (Some v) = given v
+taken None = absent
+
 -- a child that isn't there takes this, if it takes anything
 abbrev pub defaulted_cell : (fill : Option Val) → Cell → Cell
-defaulted_cell (Some v) absent = given v
-defaulted_cell None absent = absent
+defaulted_cell fill absent = taken fill
 defaulted_cell fill (given v) = given v
 defaulted_cell fill (placed n) = placed n
 
--- the children from number i on of a place of shape s that is begun so, each that isn't there with its fill, if it has one
-abbrev pub defaulted_cells : Table → ℕ → Tracker → ℕ → List Cell → List Cell
-defaulted_cells table s tracker i [] = []
-defaulted_cells table s tracker i (c ∷ cs) =
-    defaulted_cell (hole_takes deferred_column table s tracker i) c ∷ defaulted_cells table s tracker (suc i) cs
+-- the children from number i on of a place of shape s that is begun so, each that isn't there with its fill by the rules of the
+-- column, if it has one
+abbrev pub defaulted_cells : Column → Table → ℕ → Tracker → ℕ → List Cell → List Cell
+defaulted_cells column table s tracker i [] = []
+defaulted_cells column table s tracker i (c ∷ cs) =
+    defaulted_cell (hole_takes column table s tracker i) c ∷ defaulted_cells column table s tracker (suc i) cs
 
--- a struct of this shape none of whose fields is there
-abbrev pub defaulted_struct : Table → ℕ → Body
-defaulted_struct table s =
-    begun_body (as_fields None) (defaulted_cells table s (as_fields None) 0 (replicate (child_count table s) absent))
+-- a struct of this shape none of whose fields was there, each with its fill, if it has one
+abbrev pub defaulted_struct : Column → Table → ℕ → Body
+defaulted_struct column table s =
+    begun_body (as_fields None) (defaulted_cells column table s (as_fields None) 0 (replicate (child_count table s) absent))
 
 -- an entered place of this definition: a struct with a default holds that, and without one is begun with its fills; an option with
 -- a default holds `None`; any other stays as it is
@@ -58,10 +65,10 @@ defaulted_by Def.Undefined preset of_fills = entered_body
 defaulted_by Def.Other preset of_fills = entered_body
 
 -- a place of shape s with all fills taken
-abbrev pub defaulted : Table → ℕ → Body → Body
-defaulted table s entered_body = defaulted_by (def_of table s) (preset_of table s) (defaulted_struct table s)
-defaulted table s (whole_body v) = whole_body v
-defaulted table s (begun_body tracker cells) = begun_body tracker (defaulted_cells table s tracker 0 cells)
+abbrev pub defaulted : Column → Table → ℕ → Body → Body
+defaulted column table s entered_body = defaulted_by (def_of table s) (preset_of table s) (defaulted_struct column table s)
+defaulted column table s (whole_body v) = whole_body v
+defaulted column table s (begun_body tracker cells) = begun_body tracker (defaulted_cells column table s tracker 0 cells)
 
 -- of an entered place only a struct without a default has fields that are asked
 abbrev pub unmet_entered : Def → (preset : Option Val) → (of_holes : Option ReflectErrorKind) → Option ReflectErrorKind
@@ -92,18 +99,17 @@ unmet table s (begun_body tracker cells) = first_unmet table s tracker 0 (trees_
 
 -- What is left.
 
--- the first child, from number i on, that isn't there
-abbrev pub first_absent : ℕ → Tracker → ℕ → List Cell → Option ReflectErrorKind
-first_absent s tracker i [] = None
-first_absent s tracker i (absent ∷ cs) = Some (missing_child s tracker i)
-first_absent s tracker i (given v ∷ cs) = first_absent s tracker (suc i) cs
-first_absent s tracker i (placed n ∷ cs) = first_absent s tracker (suc i) cs
+-- what is lacking first among the children from number i on, each of which is asked by its number and its own value
+abbrev pub first_asked : (ask : ℕ → (own : Option Val) → Option ReflectErrorKind) → ℕ → List Cell → Option ReflectErrorKind
+first_asked ask i [] = None
+first_asked ask i (c ∷ cs) = option_or (ask i (value_of_cell c)) (first_asked ask (suc i) cs)
 
--- the value of an entered place, the first hole of a begun one
+-- the value of an entered place, the first hole of a begun one (a child in a slot of its own, which no place has that completes, counts as
+-- one)
 abbrev pub left_out : ℕ → Body → Option ReflectErrorKind
 left_out s entered_body = Some (missing_value s)
 left_out s (whole_body v) = None
-left_out s (begun_body tracker cells) = first_absent s tracker 0 cells
+left_out s (begun_body tracker cells) = first_asked (λ i own. unless_there own (missing_child s tracker i)) 0 cells
 
 -- Validators.
 

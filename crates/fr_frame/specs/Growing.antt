@@ -1,13 +1,14 @@
 -- What a begun place gets where a child of it is entered.
-use Rattle.std.specs.Prelude.{◌≡◌, ℕ, ◌+◌, ◌<◌, ◌^◌, true, None}
+use Rattle.std.specs.Prelude.{◌≡◌, ℕ, ◌+◌, ◌<◌, ◌^◌, true, Option, None, Some, IsSomeAnd}
 use Rattle.fr_model.specs.DynamicPlaces.{entry_found}
 use Rattle.fr_model.specs.Dynamics.{keys_apart}
 use Rattle.fr_frame.specs.declared.places.Growth.{Growth}
 use Rattle.fr_frame.specs.declared.places.ChildWay.{ChildWay}
-use Rattle.fr_frame.specs.Heap.{Heap, with_body}
+use Rattle.fr_frame.specs.declared.places.FrameOwner.{FrameOwner}
+use Rattle.fr_frame.specs.Heap.{Heap, Node, with_body}
 use Rattle.fr_frame.specs.Bodies.{Body, added, added_entry, count_cells, entry_in, keys_in, with_entry_for, IsGrowing, IsMapBody, IsObjectBody}
 
--- the place with this behind its children, none of which is there yet
+-- the place with this behind the children that it has, and nothing there yet
 abbrev pub grown : Growth → Body → Body
 grown Growth.Item = added
 grown Growth.Entry = added_entry
@@ -19,8 +20,21 @@ MayGrow Growth.Item body = IsGrowing body
 MayGrow Growth.Entry body = IsMapBody body
 MayGrow (Growth.EntryFor key) body = IsObjectBody body × (entry_found key (keys_in body) ≡ None)
 
--- it may be entered in this way: at a child that it has; at a new item, if it takes items; at a key, if it is a map; at the value under a
--- key, if it is a dynamic object, no key of which comes twice
+-- where a place belongs, the place above has got this, if anything
+abbrev pub grown_above : Option Growth → FrameOwner → Heap → Heap
+grown_above None owner heap = heap
+grown_above (Some growth) FrameOwner.Root heap = heap
+grown_above (Some growth) (FrameOwner.Child parent i) heap = with_body heap parent.0 (grown growth)
+
+-- the place above may get it, if anything; then the number of the child is that of the first that comes behind those that it has
+abbrev pub MayGrowAbove : Option Growth → FrameOwner → Heap → Type 0
+MayGrowAbove None owner heap = Unit {0}
+MayGrowAbove (Some growth) FrameOwner.Root heap = ⊥
+MayGrowAbove (Some growth) (FrameOwner.Child parent i) heap =
+    IsSomeAnd (heap parent.0) (λ (above : Node). (i ≡ count_cells above.body) × MayGrow growth above.body)
+
+-- it may be entered in this way: at a child of any number, which need not be there; at a new item, if it takes items; at a key, if it is a
+-- map; at the value under a key, if it is a dynamic object, no key of which comes twice
 abbrev pub MayEnter : ChildWay → Body → Type 0
 MayEnter (ChildWay.Child i) body = Unit {0}
 MayEnter ChildWay.Item body = IsGrowing body
@@ -41,7 +55,8 @@ number_by ChildWay.Item body = count_cells body
 number_by ChildWay.Key body = count_cells body
 number_by (ChildWay.Entry key) body = entry_in key.now body
 
--- of a child that may be new the number is none that a child can't have
+-- an item, a key and an entry under a key don't have the number 4,294,967,295; of a child that is told by its number nothing is asked, nor of
+-- the value that comes behind a key
 abbrev pub IsNarrowBy : ChildWay → Body → Type 0
 IsNarrowBy (ChildWay.Child i) body = Unit {0}
 IsNarrowBy ChildWay.Item body = count_cells body + 1 < 2 ^ 32

@@ -44,6 +44,7 @@ as_items_kind DeclaredItemsKind.Array = ItemsKind.Array
 
 abbrev pub as_entries_kind : DeclaredEntriesKind → EntriesKind
 as_entries_kind (DeclaredEntriesKind.Map base) = EntriesKind.Map base
+as_entries_kind (DeclaredEntriesKind.Object keys) = EntriesKind.Object keys
 
 abbrev pub as_tracker : Tracker → TreeTracker
 as_tracker (Tracker.Fields selected) = as_fields selected
@@ -64,7 +65,6 @@ abbrev pub body_of : Piece → Body
 body_of Piece.Entered = entered_body
 body_of (Piece.Whole v) = whole_body (view v)
 body_of (Piece.Begun tracker children) = begun_body (as_tracker tracker) children
-body_of (Piece.Object keys children) = begun_body (as_entries (EntriesKind.Object keys)) children
 
 abbrev pub node_of : Place → Node
 node_of place = record {

@@ -2,9 +2,6 @@
 -- contracts see it as a child of the list that is there.
 use Rattle.std.specs.Prelude.{◌≡◌, ◌⊎◌, ℕ, zero, suc, ◌-◌, ◌<◌, ◌≤◌, Bool, true, false, ◌&&◌, List, [], ◌∷◌, ◌++◌, length, slice_get, slice_set, Option, Some, None, IsSomeAnd, nat_eq, if◌then◌else◌}
 use Rattle.std.specs.Option.{option_and_then}
-use Rattle.std.specs.declared.alloc.Global.{Global}
-use Rattle.std.specs.declared.boxed.Box.{Box}
-use Rattle.fr_arena.specs.Ropes.{Rope}
 use Rattle.fr_shape.specs.Val.{Val}
 use Rattle.fr_shape.specs.View.{view}
 use Rattle.fr_frame.specs.declared.places.ItemsKind.{ItemsKind}
@@ -69,7 +66,6 @@ piece_with held n items Piece.Entered = Piece.Entered
 piece_with held n items (Piece.Whole v) = Piece.Whole v
 piece_with held n items (Piece.Begun tracker children) =
     Piece.Begun tracker (if keeps_items tracker then children_with held n children items else children)
-piece_with held n items (Piece.Object keys children) = Piece.Object keys children
 
 abbrev pub place_with : Held → (n : ℕ) → Place → (items : List SlotId) → Place
 place_with held n place items = record place { piece = piece_with held n items place.piece }
@@ -109,13 +105,6 @@ is_list Slot.Reserved = false
 is_list (Slot.Used place) = false
 is_list (Slot.List place items) = true
 is_list (Slot.Item item) = false
-
-abbrev pub is_list_in : Option Slot → Bool
-is_list_in None = false
-is_list_in (Some slot) = is_list slot
-
-abbrev pub is_list_at : List Slot → ℕ → Bool
-is_list_at slots n = is_list_in (slice_get slots n)
 
 abbrev pub IsUsedAt : List Slot → ℕ → Type 0
 IsUsedAt slots n = IsSomeAnd (slice_get slots n) (λ (slot : Slot). is_used slot ≡ true)
@@ -172,13 +161,6 @@ pub record IsListedIn (piece : Piece) (items : List SlotId) (m i : ℕ) : Type 0
   pub item : SlotId
   pub listed : slice_get items (i - (length cells - length items)) ≡ Some item
   pub slot : item.0 ≡ m
-
--- so the list in slot n has it
-pub record IsListed (slots : List Slot) (m n i : ℕ) : Type 0 where
-  pub list : Place
-  pub items : Box (Rope SlotId) Global
-  pub here : slice_get slots n ≡ Some (Slot.List list items)
-  pub listed : IsListedIn list.piece items.value.items m i
 
 -- the slot is kept for a place that is about to come
 abbrev pub IsReserved : List Slot → ℕ → Type 0

@@ -1,3 +1,4 @@
+pub mod Asking
 pub mod Bodies
 pub mod Cells
 pub mod Changes
@@ -6,9 +7,9 @@ pub mod Closed
 pub mod Common
 pub mod Completing
 pub mod Defaults
-pub mod FieldDefaults
 pub mod Filling
 pub mod Growing
+pub mod Handing
 pub mod Heap
 pub mod Indexing
 pub mod Items

@@ -1,6 +1,6 @@
 -- What a place tells by itself: of a list how many children it has, and not what they are.
-use Rattle.std.specs.Prelude.{Bool, true, false, length, replicate, if◌then◌else◌, Some, None}
-use Rattle.fr_model.specs.Trackers.{Tracker, as_fields, as_elements, as_content, ContentKind, as_items, ItemsKind, as_entries, EntriesKind}
+use Rattle.std.specs.Prelude.{Bool, true, false, length, replicate, if◌then◌else◌}
+use Rattle.fr_model.specs.Trackers.{Tracker, as_items, ItemsKind}
 use Rattle.fr_frame.specs.Bodies.{Body, entered_body, whole_body, begun_body}
 use Rattle.fr_frame.specs.Cells.{absent}
 use Rattle.fr_frame.specs.Heap.{Node}

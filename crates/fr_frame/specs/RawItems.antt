@@ -1,23 +1,32 @@
 -- What calls on slots as they are owe, where a list doesn't have its items in it.
-use Rattle.std.specs.Prelude.{◌≡◌, ℕ, ◌≤◌, List, [], ◌∷◌, ◌++◌, length, Bool, true, false, slice_get, Option, Some, None, IsSomeAnd}
-use Rattle.std.specs.Option.{option_and_then}
+use Rattle.std.specs.Prelude.{◌≡◌, ℕ, ◌≤◌, List, [], ◌∷◌, ◌++◌, length, true, slice_get, Some, None, IsSomeAnd}
+use Rattle.std.specs.declared.alloc.Global.{Global}
+use Rattle.std.specs.declared.boxed.Box.{Box}
+use Rattle.fr_arena.specs.Ropes.{Rope}
+use Rattle.fr_shape.specs.View.{view}
+use Rattle.fr_shape.specs.declared.value.Value.{Value}
 use Rattle.fr_frame.specs.declared.places.FrameOwner.{FrameOwner}
 use Rattle.fr_frame.specs.declared.places.Piece.{Piece}
 use Rattle.fr_frame.specs.declared.places.Place.{Place}
 use Rattle.fr_frame.specs.declared.places.Slot.{Slot}
 use Rattle.fr_frame.specs.declared.places.SlotId.{SlotId}
 use Rattle.fr_frame.specs.Outlines.{is_list_body}
+use Rattle.fr_frame.specs.Bodies.{Body, whole_body}
 use Rattle.fr_frame.specs.Cells.{absent, placed}
 use Rattle.fr_frame.specs.Heap.{Node, node_in}
-use Rattle.fr_frame.specs.Items.{Held, is_list_at, item_in, slot_seen}
+use Rattle.fr_frame.specs.Items.{Held, item_in, slot_seen, IsListedIn}
 
--- the place in slot m belongs there
-pub record IsBelow (slots : List Slot) (m : ℕ) (owner : FrameOwner) : Type 0 where
+-- the place in slot m is item i of this list, whose items are in slots of their own
+pub record IsListed (slots : List Slot) (m : ℕ) (list : SlotId) (i : ℕ) : Type 0 where
   pub slot : Slot
   pub here : slice_get slots m ≡ Some slot
   pub at : Node
   pub node : node_in slot ≡ Some at
-  pub is : at.owner ≡ owner
+  pub owner : at.owner ≡ FrameOwner.Child list i
+  pub above : Place
+  pub items : Box (Rope SlotId) Global
+  pub there : slice_get slots list.0 ≡ Some (Slot.List above items)
+  pub listed : IsListedIn above.piece items.value.items m i
 
 -- contracts see the same in the slot
 pub record IsSeenAs (before after : Slot) : Type 0 where
@@ -25,25 +34,22 @@ pub record IsSeenAs (before after : Slot) : Type 0 where
   pub item : item_in after ≡ item_in before
   pub seen : (held : Held) (n : ℕ) → slot_seen held n after ≡ slot_seen held n before
 
--- the piece was taken out of the place in a slot
-pub record IsTakenOf (before after : Slot) (piece : Piece) : Type 0 where
-  pub at : Place
-  pub was : before ≡ Slot.Used at
-  pub is : piece ≡ at.piece
-  pub now : after ≡ Slot.Used (record at { piece = Piece.Entered })
+-- what was put at a whole place completed, as this item of this list, which is in the slot
+pub record IsKeptItem (list : SlotId) (i : ℕ) (body : Body) (after : Slot) : Type 0 where
+  pub value : Value
+  pub whole : body ≡ whole_body (view value)
+  pub now : after ≡ Slot.Item (record { value = value; list = list; number = i })
 
 -- a begun piece with one more child, which isn't there
 abbrev pub with_room : Piece → Piece
 with_room Piece.Entered = Piece.Entered
 with_room (Piece.Whole v) = Piece.Whole v
 with_room (Piece.Begun tracker children) = Piece.Begun tracker (children ++ absent ∷ [])
-with_room (Piece.Object keys children) = Piece.Object keys (children ++ absent ∷ [])
 
 abbrev pub piece_with_placed : (slot : ℕ) → Piece → Piece
 piece_with_placed slot Piece.Entered = Piece.Entered
 piece_with_placed slot (Piece.Whole v) = Piece.Whole v
 piece_with_placed slot (Piece.Begun tracker children) = Piece.Begun tracker (children ++ placed slot ∷ [])
-piece_with_placed slot (Piece.Object keys children) = Piece.Object keys (children ++ placed slot ∷ [])
 
 -- contracts see in the slot a place with one more child, which is in slot m
 pub record IsSeenWith (m : ℕ) (held : Held) (n : ℕ) (before after : Slot) : Type 0 where
@@ -62,21 +68,7 @@ abbrev pub HasRoomIn : List SlotId → Piece → Type 0
 HasRoomIn items Piece.Entered = ⊥
 HasRoomIn items (Piece.Whole v) = ⊥
 HasRoomIn items (Piece.Begun tracker children) = length items ≤ length children
-HasRoomIn items (Piece.Object keys children) = ⊥
 
 -- a list or a pointer to a slice is in the slot
 abbrev pub IsListIn : Slot → Type 0
 IsListIn slot = IsSomeAnd (node_in slot) (λ (at : Node). is_list_body at.body ≡ true)
-
--- a place that belongs there belongs to a list with items in slots of their own
-abbrev pub of_list : List Slot → FrameOwner → Bool
-of_list slots FrameOwner.Root = false
-of_list slots (FrameOwner.Child list i) = is_list_at slots list.0
-
-abbrev pub of_list_in : List Slot → Option Node → Bool
-of_list_in slots None = false
-of_list_in slots (Some at) = of_list slots at.owner
-
--- so the place in slot m does
-abbrev pub in_list : List Slot → (m : ℕ) → Bool
-in_list slots m = of_list_in slots (option_and_then node_in (slice_get slots m))

@@ -56,11 +56,3 @@ IsFree (Slot.Item item) = ⊥
 
 abbrev pub IsFreeAt : List Slot → ℕ → Type 0
 IsFreeAt slots n = IsSomeAnd (slice_get slots n) IsFree
-
--- what was put at the place in the slot was taken out of it
-abbrev pub IsEmptied : Slot → Type 0
-IsEmptied (Slot.Free next) = ⊥
-IsEmptied Slot.Reserved = ⊥
-IsEmptied (Slot.Used place) = place.piece ≡ Piece.Entered
-IsEmptied (Slot.List place items) = ⊥
-IsEmptied (Slot.Item item) = ⊥

@@ -1,10 +1,10 @@
 //! Changing what was put at a place that stays in its slot.
 ghost use Rattle.std.specs.Prelude.{◌+◌, ◌≡◌};
-ghost use Rattle.fr_frame.specs.Common.{IfInUse, IsInUse, OnErr, OnOk, Room, RoseBy, SameTokens, Shows, Some, absent, as_tracker, body_occurs, cell_at, given, heap_of, occurs, opened, opened_some, restarted, slots_occur, view, whole_body, with_body, with_cell, ℕ};
-ghost use Rattle.fr_frame.specs.Bodies.{HoldsSome, MayOpen};
+ghost use Rattle.fr_frame.specs.Common.{IfInUse, IsInUse, IsOk, OnErr, OnOk, Room, RoseBy, SameTokens, Shows, Some, absent, as_tracker, body_occurs, cell_at, given, heap_of, occurs, opened, restarted, slots_occur, view, whole_body, with_body, with_cell, ℕ};
+ghost use Rattle.fr_frame.specs.Bodies.{MayOpen};
 
 use crate::children::Children;
-use crate::pieces::{open, open_some, put_child, release_piece};
+use crate::pieces::{open, put_child, release_piece};
 use crate::places::{Piece, SlotId, Tracker};
 use crate::slots::Slots;
 use fr_shape::{Ledger, OutOfMemory, Value};
@@ -29,7 +29,8 @@ impl SlotId {
     }
 
     /// Begins the place, so that its children can be entered: an entered one has none of so many
-    /// children yet, of a whole one each has its part of the value, a begun one stays as it is.
+    /// children yet, of a whole one each has its part of the value, a map over its entries and an
+    /// object under its keys, and a begun one stays as it is.
     pub fn begin(self, slots: &mut Slots, tracker: Tracker, count: usize) -> Result<(), OutOfMemory>
         requires in_use { IsInUse slots.old self.0 }
         requires may_open { IfInUse slots.old self.0 (λ at. MayOpen (as_tracker tracker) at.body) }
@@ -46,23 +47,9 @@ impl SlotId {
         open(alloc, &mut place.piece, tracker, count)
     }
 
-    /// Begins a whole `Some` as an option around its content, so that this can be entered in place.
-    pub fn open_some(self, slots: &mut Slots) -> Result<(), OutOfMemory>
-        requires in_use { IsInUse slots.old self.0 }
-        requires holds_some { IfInUse slots.old self.0 (λ at. HoldsSome at.body) }
-        ensures opened { OnOk result (Shows slots.new
-            (with_body (heap_of slots.old) self.0 opened_some)) }
-        ensures refused { OnErr result (Shows slots.new (heap_of slots.old)) }
-        ensures tokens { SameTokens slots.old slots.new }
-    {
-        let alloc = slots.alloc();
-        let place = slots.place_mut(self);
-        open_some(alloc, &mut place.piece)
-    }
-
     /// Begins the place anew, with so many children, none of which is there. The tokens of what was
     /// put at it are released, once there is memory for the children. Children in slots of their
-    /// own stay there.
+    /// own stay there. Without children it takes no memory.
     pub fn restart(
         self,
         slots: &mut Slots,
@@ -78,6 +65,7 @@ impl SlotId {
             RoseBy (body_occurs at.body) ledger.old ledger.new)) }
         ensures tokens { OnOk result (IfInUse slots.old self.0 (λ at. (t : ℕ) →
             slots_occur slots.old t ≡ slots_occur slots.new t + body_occurs at.body t)) }
+        ensures memory { count ≡ 0 → IsOk result }
         ensures slots_kept { OnErr result (slots.new ≡ slots.old) }
         ensures ledger_kept { OnErr result (ledger.new ≡ ledger.old) }
     {

@@ -1,6 +1,6 @@
 //! The children of a begun place.
 ghost use Rattle.fr_frame.specs.Common.{All, Cell, Conserved, IfErr, IfNone, IfOk, IfSome, IsIndexed, IsSome, List, OnErr, OnOk, Room, Some, [], and_item_cell, cells_occur, has_same_cell, in_slot, is_same_cell, is_some, length, occurs, option_copied, option_map, slice_get, slice_set, slot_of_cell, true, unit, vals_view, view, without_cell, ℕ};
-ghost use Rattle.std.specs.Prelude.{suc, map, replicate, drop, ◌++◌, ◌+◌, ◌<◌, ◌↔◌, ◌∷◌, ◌≡◌, ◌≤◌};
+ghost use Rattle.std.specs.Prelude.{IsOk, suc, map, replicate, drop, ◌++◌, ◌+◌, ◌<◌, ◌↔◌, ◌∷◌, ◌≡◌, ◌≤◌};
 ghost use Rattle.std.specs.FinSet as set;
 ghost use Rattle.fr_shape.specs.Val.{token};
 ghost use Rattle.fr_frame.specs.Cells.{swapped, HasNumbers};
@@ -159,8 +159,12 @@ impl Children {
 
     /// So many children, none of them there yet.
     pub(crate) fn none_yet(alloc: Global, count: usize) -> Result<Children, OutOfMemory>
-        ensures { IfOk result (λ it. it ≡ replicate count absent) }
+        ensures absent { IfOk result (λ it. it ≡ replicate count absent) }
+        ensures memory { count ≡ 0 → IsOk result }
     {
+        if count == 0 {
+            return Ok(Children::none(alloc));
+        }
         let Ok(given) = ISet::new(alloc, count) else {
             return Err(OutOfMemory);
         };

@@ -4,8 +4,8 @@ ghost use Rattle.std.specs.Prelude.{◌≡◌, ◌≢◌, ◌⊎◌};
 ghost use Rattle.fr_frame.specs.Common.{Becomes, FillsAt, HasAllChildren, IfErr, IfInUse, IsCauseOf, IsChecked, IsClosedAt, IsInUse, IsPlanFor, IsPlanned, KeepsTracker, MayComplete, None, OnOk, SameTokens, Shows, Some, Table, WhyNotDefault, defaulted, deferred_column, heap_of, invalid, left_out, shape_of, takes_template, true, unmet, ℕ};
 ghost use Rattle.fr_shape.specs.declared.error.ReflectErrorKind.{ReflectErrorKind as Kind};
 
-use crate::default_filling::default_piece;
-use crate::leftovers::test_full;
+use crate::field_plans::FillColumn;
+use crate::lacking::{Question, test_piece};
 use crate::pieces::is_list;
 use crate::places::SlotId;
 use crate::slots::Slots;
@@ -30,7 +30,7 @@ impl SlotId {
         requires place { IfInUse slots.old self.0 (MayComplete table.now plan.now) }
         ensures filled { OnOk result (IfInUse slots.old self.0 (λ at.
             Becomes slots.old slots.new self.0 at
-            (defaulted table.now (shape_of plan.now at.node) at.body))) }
+            (defaulted deferred_column table.now (shape_of plan.now at.node) at.body))) }
         ensures met { OnOk result (IfInUse slots.old self.0 (λ at.
             unmet table.now (shape_of plan.now at.node) at.body ≡ None)) }
         ensures why { IfErr result (λ kind. IfInUse slots.old self.0 (λ at.
@@ -42,10 +42,7 @@ impl SlotId {
         ensures closed { IfInUse slots.old self.0 (IsClosedAt slots.old slots.new self.0) }
         ensures tokens { SameTokens slots.old slots.new }
     {
-        let _hooks = hooks;
-        let alloc = slots.alloc();
-        let place = slots.place_mut(self);
-        default_piece(alloc, table, plan, place.node, &mut place.piece)
+        self.fill_by(slots, table, plan, hooks, FillColumn::Deferred)
     }
 
     /// Tests that nothing of the place is left out: that it isn't just entered, and that each child
@@ -67,9 +64,17 @@ impl SlotId {
             left_out (shape_of plan.now at.node) at.body ≡ Some kind)) }
         ensures unchanged { slots.new ≡ slots.old }
     {
-        let _hooks = hooks;
+        let alloc = slots.alloc();
         let place = slots.place_mut(self);
-        test_full(table, plan, place.node, &place.piece)
+        test_piece(
+            alloc,
+            table,
+            plan,
+            hooks,
+            place.node,
+            Question::There,
+            &place.piece,
+        )
     }
 
     /// Runs the validators of the fields of a begun struct or variant whose children are all there,

@@ -1,7 +1,7 @@
 //! Lists whose items lie in slots of their own: all items go into their list, behind its base.
 ghost use Rattle.std.specs.Prelude.{◌<◌, ◌≡◌, ◌≢◌, ◌⊎◌};
 ghost use Rattle.fr_frame.specs.Common.{FreesItem, FreesItems, IfNone, IfSome, IsPlainAt, IsUsedAt, children_with, false, is_some, item_cell, items_of, length, option_map, piece_with, slice_get, slice_set, slots_seen, true, value_held, view, ℕ};
-ghost use Rattle.fr_frame.specs.Items.{is_list_at, IsItemFreed, IsListAt};
+ghost use Rattle.fr_frame.specs.Items.{IsItemFreed, IsListAt};
 
 use crate::children::Children;
 use crate::places::{ItemsKind, Piece, Slot, SlotId, Tracker};
@@ -114,13 +114,12 @@ fn put_items_in(
             | Tracker::Items(ItemsKind::ClosedSlice),
             children,
         ) => { put_items(entries, free, list, items, children) }
-        Piece::Entered | Piece::Whole(_) | Piece::Object(..) | Piece::Begun(..) => {}
+        Piece::Entered | Piece::Whole(_) | Piece::Begun(..) => {}
     }
 }
 
 /// Whether a list with items in slots of their own is in this slot.
-pub(crate) fn has_items(entries: &Arena<Slot>, id: SlotId) -> bool
-    ensures told { result ≡ is_list_at entries.now id.0 }
+fn has_items(entries: &Arena<Slot>, id: SlotId) -> bool
     ensures there { result ≡ true → IsListAt entries.now id.0 }
     ensures none { result ≡ false → IsUsedAt entries.now id.0 → IsPlainAt entries.now id.0 }
 {

@@ -1,48 +1,13 @@
 //! What is put at one place as a dynamic value.
 ghost use Rattle.std.specs.Prelude.{◌++◌, ◌∷◌, ◌≡◌};
-ghost use Rattle.fr_frame.specs.Common.{None, OnErr, OnOk, [], absent, body_occurs, body_of, entry_found, keys_apart, keys_in, opened_array, opened_object, true, with_entry_for, ℕ};
-ghost use Rattle.fr_frame.specs.Bodies.{HoldsArray, HoldsObject, IsObjectBody};
+ghost use Rattle.fr_frame.specs.Common.{None, OnErr, OnOk, [], absent, body_occurs, body_of, entry_found, keys_apart, keys_in, true, with_entry_for, ℕ};
+ghost use Rattle.fr_frame.specs.Bodies.{IsObjectBody};
 
 use crate::children::Children;
-use crate::dynamics::{elements_of, members_of};
 use crate::keys::Keys;
-use crate::places::{ItemsKind, Piece, Tracker};
+use crate::places::{EntriesKind, Piece, Tracker};
 use fr_shape::{OutOfMemory, Text};
 use std::alloc::Global;
-
-/// Begins a whole dynamic array in its stead, with its elements. It stays as it was where there is
-/// no memory for that.
-pub(crate) fn open_array(alloc: Global, piece: &mut Piece) -> Result<(), OutOfMemory>
-    requires { HoldsArray (body_of piece.old) }
-    ensures opened { OnOk result (body_of piece.new ≡ opened_array (body_of piece.old)) }
-    ensures refused { OnErr result (body_of piece.new ≡ body_of piece.old) }
-    ensures tokens { (t : ℕ) →
-        body_occurs (body_of piece.new) t ≡ body_occurs (body_of piece.old) t }
-{
-    let Piece::Whole(value) = piece else {
-        unreachable!()
-    };
-    let children = elements_of(alloc, value)?;
-    *piece = Piece::Begun(Tracker::Items(ItemsKind::Array), children);
-    Ok(())
-}
-
-/// Begins a whole dynamic object in its stead, with its entries. It stays as it was where there is
-/// no memory for that.
-pub(crate) fn open_object(alloc: Global, piece: &mut Piece) -> Result<(), OutOfMemory>
-    requires { HoldsObject (body_of piece.old) }
-    ensures opened { OnOk result (body_of piece.new ≡ opened_object (body_of piece.old)) }
-    ensures refused { OnErr result (body_of piece.new ≡ body_of piece.old) }
-    ensures tokens { (t : ℕ) →
-        body_occurs (body_of piece.new) t ≡ body_occurs (body_of piece.old) t }
-{
-    let Piece::Whole(value) = piece else {
-        unreachable!()
-    };
-    let (keys, children) = members_of(alloc, value)?;
-    *piece = Piece::Object(keys, children);
-    Ok(())
-}
 
 /// The number of the entry that a begun object has under a key, where it has one, and the key back.
 /// Doesn't look at each entry.
@@ -53,7 +18,7 @@ pub(crate) fn entry_number(piece: &Piece, key: Text) -> (Option<usize>, Text)
     ensures key { result.1 ≡ key }
 {
     match piece {
-        Piece::Object(keys, _) => keys.number_of(key),
+        Piece::Begun(Tracker::Entries(EntriesKind::Object(keys)), _) => keys.number_of(key),
         Piece::Entered | Piece::Whole(_) | Piece::Begun(..) => unreachable!(),
     }
 }
@@ -88,8 +53,16 @@ pub(crate) fn add_entry_for(alloc: Global, piece: &mut Piece, key: Text) -> Resu
     ensures tokens { (t : ℕ) →
         body_occurs (body_of piece.new) t ≡ body_occurs (body_of piece.old) t }
 {
-    match piece {
-        Piece::Object(keys, children) => push_entry(alloc, keys, children, key),
-        Piece::Entered | Piece::Whole(_) | Piece::Begun(..) => unreachable!(),
+    match std::mem::replace(piece, Piece::Entered) {
+        Piece::Begun(tracker, mut children) => match tracker {
+            Tracker::Entries(EntriesKind::Object(mut keys)) => {
+                let added = push_entry(alloc, &mut keys, &mut children, key);
+                *piece = Piece::Begun(Tracker::Entries(EntriesKind::Object(keys)), children);
+                added
+            }
+            Tracker::Entries(EntriesKind::Map(_)) | Tracker::Items(_) => unreachable!(),
+            Tracker::Fields(_) | Tracker::Elements | Tracker::Content(_) => unreachable!(),
+        },
+        Piece::Entered | Piece::Whole(_) => unreachable!(),
     }
 }

@@ -3,7 +3,7 @@ ghost use Rattle.fr_frame.specs.Common.{Conserved, IfErr, IfOk, IsSome, OnErr, R
 ghost use Rattle.std.specs.Prelude.{replicate, vec_capacity, ◌≡◌, ◌≤◌};
 ghost use Rattle.fr_shape.specs.Val.{dyn_array, dyn_object};
 ghost use Rattle.fr_shape.specs.View.{dynamics_view, members_view};
-ghost use Rattle.fr_model.specs.Dynamics.{dynamics_in, members_in, elements_in, members_of_object};
+ghost use Rattle.fr_model.specs.Dynamics.{dynamics_in, members_in, elements_in, members_of_object, object_keys};
 
 use crate::children::Children;
 use crate::gathering::append;
@@ -103,27 +103,27 @@ fn object_with(members: Vec<(Text, Dyn)>) -> Value
 }
 
 /// The dynamic object of these keys and values, without the keys that have no value. Values that
-/// aren't dynamic count as none; they and those beyond the keys are released. Without memory keys
-/// and values are handed back.
+/// aren't dynamic count as none; they and those beyond the keys are released. Without memory the
+/// keys stay, and the values are handed back.
 pub(crate) fn object_of(
     alloc: Global,
-    keys: Keys,
+    keys: &mut Keys,
     values: Vec<Value>,
     ledger: &mut Ledger,
-) -> Result<Value, (Keys, Vec<Value>)>
+) -> Result<Value, Vec<Value>>
     requires room { Room (vals_occur (vals_view values.items)) ledger.old }
     ensures value { IfOk result (λ v.
-        view v ≡ dyn (dyn_object (members_in keys (vals_view values.items)))) }
+        view v ≡ dyn (dyn_object (members_in keys.old (vals_view values.items)))) }
     ensures conserved { IfOk result (λ v. Conserved (vals_occur (vals_view values.items)) ledger.old
         (occurs (view v)) ledger.new) }
-    ensures keys_back { IfErr result (λ back. back.0 ≡ keys) }
-    ensures handed_back { IfErr result (λ back. back.1.items ≡ values.items) }
+    ensures keys_kept { OnErr result (keys.new ≡ keys.old) }
+    ensures handed_back { IfErr result (λ back. back.items ≡ values.items) }
     ensures ledger_kept { OnErr result (ledger.new ≡ ledger.old) }
 {
     let Ok(members) = Vec::with_capacity(alloc, keys.len()) else {
-        return Err((keys, values));
+        return Err(values);
     };
-    let names = keys.into_names(alloc);
+    let names = std::mem::replace(keys, Keys::none()).into_names(alloc);
     Ok(object_with(put_members(members, names, values, ledger)))
 }
 
@@ -144,8 +144,8 @@ fn enter_elements(children: &mut Children, elements: Vec<Dyn>)
 pub(crate) fn elements_of(alloc: Global, value: &mut Value) -> Result<Children, OutOfMemory>
     requires { IsSome (elements_in (dynamic_in (view value.old))) }
     ensures parts { IfOk result (λ children.
-        option_map (λ elements. cells_of_vals (element_vals elements))
-        (elements_in (dynamic_in (view value.old))) ≡ Some children) }
+        option_map cells_of_vals
+        (option_map element_vals (elements_in (dynamic_in (view value.old)))) ≡ Some children) }
     ensures refused { OnErr result (view value.new ≡ view value.old) }
 {
     let Value::Dyn(Dyn::Array(items)) = std::mem::replace(value, Value::Unit) else {
@@ -199,11 +199,10 @@ fn keys_and_room(alloc: Global, members: &[(Text, Dyn)]) -> Result<(Keys, Childr
 /// there is no memory for them.
 pub(crate) fn members_of(alloc: Global, value: &mut Value) -> Result<(Keys, Children), OutOfMemory>
     requires { IsSome (members_of_object (dynamic_in (view value.old))) }
-    ensures keys { IfOk result (λ made.
-        option_map member_keys (members_of_object (dynamic_in (view value.old))) ≡ Some made.0) }
+    ensures keys { IfOk result (λ made. made.0 ≡ object_keys (view value.old)) }
     ensures parts { IfOk result (λ made.
-        option_map (λ members. cells_of_vals (member_vals members))
-        (members_of_object (dynamic_in (view value.old))) ≡ Some made.1) }
+        option_map cells_of_vals
+        (option_map member_vals (members_of_object (dynamic_in (view value.old)))) ≡ Some made.1) }
     ensures refused { OnErr result (view value.new ≡ view value.old) }
 {
     let Value::Dyn(Dyn::Object(items)) = std::mem::replace(value, Value::Unit) else {

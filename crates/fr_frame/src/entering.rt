@@ -1,12 +1,14 @@
 //! Entering a place.
-ghost use Rattle.fr_frame.specs.Common.{IfInUse, IfOk, IsInUse, IsReserved, None, OnErr, OnOk, SameTokens, Shows, def_of, depth_below, depth_limit, heap_of, keys_apart, keys_in, length, shape_of, true, with_body, with_entered, with_entry_for, ℕ};
-ghost use Rattle.std.specs.Prelude.{◌^◌, ◌+◌, ◌<◌, ◌≡◌};
-ghost use Rattle.fr_frame.specs.Bodies.{entry_in, IsObjectBody};
+ghost use Rattle.fr_frame.specs.Common.{IfInUse, IfOk, None, OnErr, OnOk, SameTokens, Shows, def_of, depth_below, depth_limit, entry_found, heap_of, keys_apart, keys_in, length, shape_of, true, with_entered, ℕ};
+ghost use Rattle.std.specs.Prelude.{◌<◌, ◌≡◌};
+ghost use Rattle.fr_frame.specs.Bodies.{IsObjectBody};
 ghost use Rattle.fr_frame.specs.Changes.{IsOwnerInUse};
-ghost use Rattle.fr_frame.specs.Growing.{number_by, widened, IsNarrowBy, MayEnter};
+ghost use Rattle.fr_frame.specs.Growing.{grown_above, number_by, widened, IsNarrowBy, MayEnter, MayGrowAbove};
 ghost use Rattle.fr_frame.specs.Kids.{child_owner};
 ghost use Rattle.fr_frame.specs.declared.places.ChildWay.{ChildWay as Way};
 
+use crate::dynamic_pieces::entry_number;
+use crate::growing::narrow;
 use crate::pieces::fresh;
 use crate::places::{ChildWay, FrameOwner, Growth, Piece, Place, SlotId};
 use crate::slots::Slots;
@@ -14,30 +16,56 @@ use fr_plan::{NodeId, TypePlanCore};
 use fr_shape::{OutOfMemory, ShapeTable, Text};
 
 impl Slots {
-    /// Puts a place of this node, which lies so deep, into a slot that is free. What its owner held
-    /// of it goes into the slot, and the owner then knows the slot; an owner that has no such
-    /// child, or has it in a slot already, stays as it is. Takes no memory.
-    pub(crate) fn settle(
+    /// The number of the entry that a begun dynamic object has under a key, where it has one, and
+    /// the key back.
+    fn entry_number(&self, parent: SlotId, key: Text) -> (Option<usize>, Text)
+        requires parent { IfInUse self.now parent.0 (λ above. IsObjectBody above.body) }
+        requires apart { IfInUse self.now parent.0 (λ above.
+            keys_apart (keys_in above.body) ≡ true) }
+        ensures number { IfInUse self.now parent.0 (λ above.
+            result.0 ≡ entry_found key (keys_in above.body)) }
+        ensures key { result.1 ≡ key }
+    {
+        match self.place(parent) {
+            Some(above) => entry_number(&above.piece, key),
+            None => unreachable!(),
+        }
+    }
+
+    /// A slot for a place of this node. The place above gets it first, if it is new. What its owner
+    /// held of it goes into the slot, and the owner then knows the slot; an owner that has no such
+    /// child, or has it in a slot already, stays as it is.
+    fn enter_at(
         &mut self,
         table: &ShapeTable,
         plan: &TypePlanCore,
         node: NodeId,
         owner: FrameOwner,
-        depth: u32,
-        id: SlotId,
-    )
+        growth: Option<Growth>,
+    ) -> Result<SlotId, OutOfMemory>
         requires owner { IsOwnerInUse self.old owner }
+        requires may { MayGrowAbove growth owner (heap_of self.old) }
         requires planned { node.0 < length plan.now.nodes }
-        requires depth { depth ≡ depth_below (heap_of self.old) owner }
-        requires reserved { IsReserved self.old id.0 }
-        ensures entered { Shows self.new (with_entered
-            (def_of table.now (shape_of plan.now node)) (heap_of self.old) node owner id.0) }
+        ensures vacant { IfOk result (λ id. heap_of self.old id.0 ≡ None) }
+        ensures entered { IfOk result (λ id. Shows self.new (with_entered
+            (def_of table.now (shape_of plan.now node))
+            (grown_above growth owner (heap_of self.old)) node owner id.0)) }
+        ensures limit { OnOk result (depth_below (heap_of self.old) owner < depth_limit) }
         ensures tokens { SameTokens self.old self.new }
+        ensures refused { OnErr result (Shows self.new (heap_of self.old)) }
+        ensures kept { OnErr result (growth ≡ None → self.new ≡ self.old) }
     {
-        let shape = plan.node(node).shape;
-        let piece = match self.link(id, &owner) {
+        let Some(depth) = self.depth_below(&owner) else {
+            return Err(OutOfMemory);
+        };
+        let id = self.vacant()?;
+        let Ok(held) = self.take_in(&owner, growth, id) else {
+            self.give_back(id);
+            return Err(OutOfMemory);
+        };
+        let piece = match held {
             Some(value) => Piece::Whole(value),
-            None => fresh(self.alloc(), table, shape),
+            None => fresh(self.alloc(), table, plan.node(node).shape),
         };
         let place = Place {
             node,
@@ -47,6 +75,7 @@ impl Slots {
             piece,
         };
         self.lower(id, place);
+        Ok(id)
     }
 
     /// A slot for a place of this node. What its owner held of it goes into the slot, and the owner
@@ -68,79 +97,41 @@ impl Slots {
         ensures tokens { SameTokens self.old self.new }
         ensures refused { OnErr result (self.new ≡ self.old) }
     {
-        let Some(depth) = self.depth_below(&owner) else {
-            return Err(OutOfMemory);
-        };
-        let id = self.vacant()?;
-        self.settle(table, plan, node, owner, depth, id);
-        Ok(id)
+        self.enter_at(table, plan, node, owner, None)
     }
 
-    /// A slot for child `i` of a place, of this node. What the place held of it goes into the slot.
-    fn enter_numbered(
-        &mut self,
-        table: &ShapeTable,
-        plan: &TypePlanCore,
-        node: NodeId,
-        parent: SlotId,
-        i: usize,
-    ) -> Result<SlotId, OutOfMemory>
-        requires parent { IsInUse self.old parent.0 }
-        requires planned { node.0 < length plan.now.nodes }
-        ensures vacant { IfOk result (λ id. heap_of self.old id.0 ≡ None) }
-        ensures entered { IfOk result (λ id. Shows self.new (with_entered
-            (def_of table.now (shape_of plan.now node)) (heap_of self.old) node
-            (child_owner parent.0 i) id.0)) }
-        ensures limit { OnOk result
-            (depth_below (heap_of self.old) (child_owner parent.0 i) < depth_limit) }
-        ensures narrow { OnOk result (i + 1 < 2 ^ 32) }
-        ensures tokens { SameTokens self.old self.new }
-        ensures refused { OnErr result (Shows self.new (heap_of self.old)) }
+    /// The number of the child to which a way leads from a place, and what the place has to get
+    /// first, if the child is new. Finds a key without looking at each.
+    fn child_by(&self, parent: SlotId, way: ChildWay) -> Result<(u32, Option<Growth>), OutOfMemory>
+        requires parent { IfInUse self.now parent.0 (λ above. MayEnter way above.body) }
+        ensures number { IfOk result (λ child. IfInUse self.now parent.0 (λ above.
+            child.0 ≡ number_by way.entry above.body)) }
+        ensures narrow { OnOk result (IfInUse self.now parent.0 (λ above.
+            IsNarrowBy way.entry above.body)) }
+        ensures may { IfOk result (λ child. MayGrowAbove child.1 (child_owner parent.0 child.0)
+            (heap_of self.now)) }
+        ensures grown { IfOk result (λ child. widened way.entry parent.0 (heap_of self.now)
+            ≡ grown_above child.1 (child_owner parent.0 child.0) (heap_of self.now)) }
+        ensures there { IfOk result (λ child. (i : ℕ) → way.entry ≡ Way.Child i
+            → child.1 ≡ None) }
     {
-        if i >= u32::MAX as usize {
-            return Err(OutOfMemory);
-        }
-        self.enter(table, plan, node, FrameOwner::Child(parent, i as u32))
-    }
-
-    /// A slot for the value, of this node, that a begun dynamic object has under a key. Finds the
-    /// key without looking at each.
-    fn enter_entry(
-        &mut self,
-        table: &ShapeTable,
-        plan: &TypePlanCore,
-        node: NodeId,
-        parent: SlotId,
-        key: &str,
-    ) -> Result<SlotId, OutOfMemory>
-        requires parent { IfInUse self.old parent.0 (λ above. IsObjectBody above.body) }
-        requires apart { IfInUse self.old parent.0 (λ above.
-            keys_apart (keys_in above.body) ≡ true) }
-        requires planned { node.0 < length plan.now.nodes }
-        ensures vacant { IfOk result (λ id. heap_of self.old id.0 ≡ None) }
-        ensures entered { IfOk result (λ id. IfInUse self.old parent.0 (λ above.
-            Shows self.new (with_entered (def_of table.now (shape_of plan.now node))
-            (with_body (heap_of self.old) parent.0 (with_entry_for key.now)) node
-            (child_owner parent.0 (entry_in key.now above.body)) id.0))) }
-        ensures limit { OnOk result (IfInUse self.old parent.0 (λ above. depth_below
-            (heap_of self.old) (child_owner parent.0 (entry_in key.now above.body))
-            < depth_limit)) }
-        ensures narrow { OnOk result (IfInUse self.old parent.0 (λ above.
-            entry_in key.now above.body + 1 < 2 ^ 32)) }
-        ensures tokens { SameTokens self.old self.new }
-        ensures refused { OnErr result (Shows self.new (heap_of self.old)) }
-    {
-        let name = Text::new(self.alloc(), key)?;
-        let (found, name) = self.entry_number(parent, name);
-        match found {
-            Some(i) => self.enter_numbered(table, plan, node, parent, i),
-            None => self.enter_behind(table, plan, node, parent, Growth::EntryFor(name)),
+        match way {
+            ChildWay::Child(i) => Ok((i, None)),
+            ChildWay::Item => Ok((self.next_child(parent)?, Some(Growth::Item))),
+            ChildWay::Key => Ok((self.next_child(parent)?, Some(Growth::Entry))),
+            ChildWay::Entry(key) => {
+                let name = Text::new(self.alloc(), key)?;
+                match self.entry_number(parent, name) {
+                    (Some(i), _) => Ok((narrow(i)?, None)),
+                    (None, name) => Ok((self.next_child(parent)?, Some(Growth::EntryFor(name)))),
+                }
+            }
         }
     }
 
     /// A slot for a child, of this node, of the begun place in a slot, by the way in which it is
-    /// entered. What the place held of it goes into the slot. No new child gets the number
-    /// 4,294,967,295.
+    /// entered. What the place held of it goes into the slot. No item, key and value under a key
+    /// gets the number 4,294,967,295.
     pub fn enter_child(
         &mut self,
         table: &ShapeTable,
@@ -166,11 +157,7 @@ impl Slots {
         ensures child_refused { OnErr result ((i : ℕ) → way.entry ≡ Way.Child i
             → self.new ≡ self.old) }
     {
-        match way {
-            ChildWay::Child(i) => self.enter(table, plan, node, FrameOwner::Child(parent, i)),
-            ChildWay::Item => self.enter_item(table, plan, node, parent),
-            ChildWay::Key => self.enter_behind(table, plan, node, parent, Growth::Entry),
-            ChildWay::Entry(key) => self.enter_entry(table, plan, node, parent, key),
-        }
+        let (number, growth) = self.child_by(parent, way)?;
+        self.enter_at(table, plan, node, FrameOwner::Child(parent, number), growth)
     }
 }

@@ -1,20 +1,27 @@
 //! What a plan says of the fields of a struct or of a variant: what each takes where it is a hole,
 //! and its validators.
 ghost use Rattle.std.specs.Prelude.{◌<◌, ◌≡◌};
-ghost use Rattle.fr_frame.specs.Common.{AreTold, HasValidators, IfOk, IsChecked, IsLightFill, IsPlanFor, IsPlanned, None, Some, Table, def_of, fill_told, has_validators, length, option_copied, shape_of, slice_get, view, ℕ};
+ghost use Rattle.fr_frame.specs.Common.{AreTold, HasValidators, IfOk, IsChecked, IsNamed, IsPlanFor, IsPlanned, IsSome, None, Some, Table, column_of, def_of, deferred_column, field_at, field_fill, has_validators, length, option_copied, option_map, shape_of, slice_get, view, ℕ};
 
 use fr_plan::{
     FieldPlan, NodeId, TypePlanCore, VariantPlanMeta, law_plan_complete, law_plan_lookups,
 };
-use fr_rules::FillRule;
-use fr_shape::{OutOfMemory, ShapeTable, Template, Value, clone_template};
+use fr_rules::{DeferredFill, FillRule, deferred_fill};
+use fr_shape::{FieldRef, OutOfMemory, ShapeTable, Template, Value, clone_template};
 use std::alloc::Global;
+
+/// By whose rules a hole takes its fill: those of strict mode, which the plan tells, or those of
+/// the end of deferred mode.
+#[derive(Clone, Copy)]
+pub(crate) enum FillColumn {
+    Strict,
+    Deferred,
+}
 
 /// The plans of the fields of a struct, in order. Of any other shape there are none.
 fn plans_of_struct(plan: &TypePlanCore, node: NodeId) -> &[FieldPlan]
     requires { IsPlanned plan.now node }
     ensures told { (table : Table) → IsChecked table → IsPlanFor table plan.now
-        → node.0 < length plan.now.nodes
         → AreTold table plan.now (shape_of plan.now node) None result.now }
     ensures validators { (i : ℕ) → HasValidators plan.now (slice_get result.now i) }
 {
@@ -37,7 +44,6 @@ fn told_at(variants: &[VariantPlanMeta], i: usize) -> Option<&VariantPlanMeta>
 fn plans_of_variant(plan: &TypePlanCore, node: NodeId, variant: u32) -> &[FieldPlan]
     requires { IsPlanned plan.now node }
     ensures told { (table : Table) → IsChecked table → IsPlanFor table plan.now
-        → node.0 < length plan.now.nodes
         → AreTold table plan.now (shape_of plan.now node) (Some variant) result.now }
     ensures validators { (i : ℕ) → HasValidators plan.now (slice_get result.now i) }
 {
@@ -56,7 +62,6 @@ fn plans_of_variant(plan: &TypePlanCore, node: NodeId, variant: u32) -> &[FieldP
 pub(crate) fn fields_told(plan: &TypePlanCore, node: NodeId, selected: Option<u32>) -> &[FieldPlan]
     requires { IsPlanned plan.now node }
     ensures told { (table : Table) → IsChecked table → IsPlanFor table plan.now
-        → node.0 < length plan.now.nodes
         → AreTold table plan.now (shape_of plan.now node) selected result.now }
     ensures validators { (i : ℕ) → HasValidators plan.now (slice_get result.now i) }
 {
@@ -92,27 +97,49 @@ pub(crate) fn has_validators(plan: &TypePlanCore, node: NodeId, selected: Option
     plan.has_validators(plan.node(node).shape, selected)
 }
 
-/// The template that a hole takes by its field's rule, if any.
-pub(crate) fn fill_of<'a>(table: &'a ShapeTable, rule: FillRule) -> Option<&'a Template>
-    ensures { option_copied result ≡ fill_told table.now rule }
+/// The template that a field's hole takes by the rules of the end of deferred mode, if any.
+fn default_of(table: &ShapeTable, meant: FieldRef) -> Option<&Template>
+    requires named { IsSome (field_at table.now meant) }
+    ensures { option_copied result ≡ field_fill deferred_column table.now meant }
 {
-    match rule {
-        FillRule::Defaultable(default) => default.template(table),
-        FillRule::Required => None,
+    match deferred_fill(table, meant) {
+        DeferredFill::Template(default) => default.template(table),
+        DeferredFill::MarkedWithoutDefault | DeferredFill::Missing => None,
     }
 }
 
-/// A copy of the template that a hole takes.
+/// The template that a field's hole takes by the rules of this column, if any.
+pub(crate) fn fill_of<'a>(
+    table: &'a ShapeTable,
+    told: &FieldPlan,
+    column: FillColumn,
+) -> Option<&'a Template>
+    requires named { IsNamed table.now told.now }
+    ensures { option_copied result ≡ field_fill (column_of column) table.now told.now.field }
+{
+    match column {
+        FillColumn::Strict => match told.fill_rule {
+            FillRule::Defaultable(default) => default.template(table),
+            FillRule::Required => None,
+        },
+        FillColumn::Deferred => default_of(table, told.field),
+    }
+}
+
+/// A copy of what a field's hole takes by these rules, if it takes anything.
 pub(crate) fn copy_fill(
     alloc: Global,
     table: &ShapeTable,
-    rule: FillRule,
-) -> Result<Value, OutOfMemory>
-    requires { IsLightFill (fill_told table.now rule) }
-    ensures { IfOk result (λ v. fill_told table.now rule ≡ Some (view v)) }
+    told: &FieldPlan,
+    column: FillColumn,
+) -> Result<Option<Value>, OutOfMemory>
+    requires checked { IsChecked table.now }
+    requires named { IsNamed table.now told.now }
+    ensures { IfOk result (λ copy. option_map view copy
+        ≡ field_fill (column_of column) table.now told.now.field) }
 {
-    match fill_of(table, rule) {
-        Some(template) => clone_template(alloc, template.value()),
-        None => unreachable!(),
+    match fill_of(table, told, column) {
+        Some(template) => Ok(Some(clone_template(alloc, template.value())?)),
+        None => Ok(None),
     }
 }

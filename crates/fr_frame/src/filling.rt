@@ -1,22 +1,48 @@
-//! Filling the holes of a place with copies of their templates.
+//! Filling the holes of a place with copies of their templates, by the rules of either column.
 ghost use Rattle.std.specs.Prelude.{◌<◌, ◌≡◌};
-ghost use Rattle.fr_frame.specs.Common.{AreUnplaced, IfOk, IsChecked, IsClosed, IsFull, IsFullAs, IsPlanFor, IsSome, KeepGiven, KeepsTracker, None, OnErr, OnOk, as_fields, body_occurs, body_of, cells_occur, def_of, false, filled, filled_body, length, shape_of, takes_memory, value_of, values_of, ℕ};
-ghost use Rattle.fr_frame.specs.Filling.{filled_entered};
+ghost use Rattle.fr_frame.specs.Common.{AreUnplaced, IfOk, IsChecked, IsClosed, IsFull, IsFullAs, IsNamed, IsPlanFor, None, OnErr, OnOk, as_fields, body_occurs, body_of, cells_occur, column_of, def_of, defaulted, defaulted_cells, defaulted_nth, defaulted_struct, entered_body, field_fill, length, shape_of, takes_template, true, values_of, ℕ};
 
 use crate::children::Children;
-use crate::field_plans::{copy_fill, plans_of_fields};
+use crate::field_plans::{FillColumn, copy_fill, plans_of_fields};
 use crate::places::{Piece, Tracker};
-use fr_plan::{NodeId, TypePlanCore};
+use fr_plan::{FieldPlan, NodeId, TypePlanCore};
 use fr_shape::{Def, OutOfMemory, ShapeTable, Value, clone_template};
 use std::alloc::Global;
 
-/// Puts a copy of its template at each field that isn't there, of a struct or of the variant that
-/// is selected. Only these need memory.
+/// Puts its fill at a field, where that isn't there and has one.
+fn fill_hole(
+    alloc: Global,
+    table: &ShapeTable,
+    told: &FieldPlan,
+    column: FillColumn,
+    i: usize,
+    children: &mut Children,
+) -> Result<(), OutOfMemory>
+    requires checked { IsChecked table.now }
+    requires named { IsNamed table.now told.now }
+    requires inside { i < length children.old }
+    requires closed { AreUnplaced children.old }
+    ensures filled { OnOk result (children.new ≡ defaulted_nth
+        (field_fill (column_of column) table.now told.now.field) i children.old) }
+    ensures refused { OnErr result (children.new ≡ children.old) }
+{
+    if children.value(i).is_some() {
+        return Ok(());
+    }
+    if let Some(copy) = copy_fill(alloc, table, told, column)? {
+        children.put(i, copy);
+    }
+    Ok(())
+}
+
+/// Puts its fill at each field that isn't there and has one, of a struct or of the variant that is
+/// selected. Only these need memory.
 fn fill_holes(
     alloc: Global,
     table: &ShapeTable,
     plan: &TypePlanCore,
     node: NodeId,
+    column: FillColumn,
     selected: Option<u32>,
     children: &mut Children,
 ) -> Result<(), OutOfMemory>
@@ -25,46 +51,60 @@ fn fill_holes(
     requires inside { node.0 < length plan.now.nodes }
     requires full { IsFullAs (def_of table.now (shape_of plan.now node)) (as_fields selected)
         (length children.old) }
-    requires fills { IsSome
-        (filled table.now (shape_of plan.now node) (as_fields selected) 0 children.old) }
-    ensures filled { OnOk result (values_of children.new
-        ≡ filled table.now (shape_of plan.now node) (as_fields selected) 0 children.old) }
+    requires closed { AreUnplaced children.old }
+    ensures filled { OnOk result (children.new ≡ defaulted_cells (column_of column) table.now
+        (shape_of plan.now node) (as_fields selected) 0 children.old) }
+    ensures memory { OnErr result (values_of children.old ≡ None) }
     ensures tokens { (t : ℕ) → cells_occur children.new t ≡ cells_occur children.old t }
-    ensures count { length children.new ≡ length children.old }
-    ensures kept { KeepGiven children.old children.new }
-    ensures closed { AreUnplaced children.old → AreUnplaced children.new }
+    ensures closed { AreUnplaced children.new }
 {
+    if children.are_all_there() {
+        return Ok(());
+    }
     let told = plans_of_fields(table, plan, node, selected);
     for i in 0..told.len() {
-        if children.value(i).is_none() {
-            let copy = copy_fill(alloc, table, told[i].fill_rule)?;
-            children.put(i, copy);
-        }
+        fill_hole(alloc, table, &told[i], column, i, children)?;
     }
     Ok(())
 }
 
-/// What is made of a place that was only entered.
-fn made_of_entered(
+/// A struct of so many fields, none of which was there, each with its fill, where it has one.
+fn struct_of_fills(
     alloc: Global,
     table: &ShapeTable,
     plan: &TypePlanCore,
     node: NodeId,
+    column: FillColumn,
+    count: usize,
 ) -> Result<Piece, OutOfMemory>
     requires checked { IsChecked table.now }
     requires planned { IsPlanFor table.now plan.now }
     requires inside { node.0 < length plan.now.nodes }
-    requires fills { IsSome (filled_entered table.now (shape_of plan.now node)) }
-    ensures filled { IfOk result (λ made. value_of (body_of made)
-        ≡ filled_entered table.now (shape_of plan.now node)) }
-    ensures boxless { IfOk result (λ made. takes_memory (body_of made) ≡ false) }
-    ensures tokens { IfOk result (λ made. (t : ℕ) → body_occurs (body_of made) t ≡ 0) }
-    ensures full { IfOk result (λ made.
-        IsFull table.now (shape_of plan.now node) (body_of made)) }
-    ensures closed { IfOk result (λ made. IsClosed (body_of made)) }
+    requires full { IsFullAs (def_of table.now (shape_of plan.now node)) (as_fields None) count }
+    ensures filled { IfOk result (λ made. body_of made
+        ≡ defaulted_struct (column_of column) table.now (shape_of plan.now node)) }
+{
+    let mut children = Children::none_yet(alloc, count)?;
+    fill_holes(alloc, table, plan, node, column, None, &mut children)?;
+    Ok(Piece::Begun(Tracker::Fields(None), children))
+}
+
+/// What becomes of a place that was only entered.
+fn fill_entered(
+    alloc: Global,
+    table: &ShapeTable,
+    plan: &TypePlanCore,
+    node: NodeId,
+    column: FillColumn,
+) -> Result<Piece, OutOfMemory>
+    requires checked { IsChecked table.now }
+    requires planned { IsPlanFor table.now plan.now }
+    requires inside { node.0 < length plan.now.nodes }
+    ensures filled { IfOk result (λ made. body_of made
+        ≡ defaulted (column_of column) table.now (shape_of plan.now node) entered_body) }
 {
     let Some(entry) = table.get(plan.node(node).shape) else {
-        unreachable!()
+        return Ok(Piece::Entered);
     };
     match (&entry.def, &entry.preset) {
         (Def::Option(_), Some(_)) => Ok(Piece::Whole(Value::None)),
@@ -72,52 +112,47 @@ fn made_of_entered(
             Ok(Piece::Whole(clone_template(alloc, template.value())?))
         }
         (Def::Struct(described), None) => {
-            let mut children = Children::none_yet(alloc, described.fields.len())?;
-            fill_holes(alloc, table, plan, node, None, &mut children)?;
-            Ok(Piece::Begun(Tracker::Fields(None), children))
+            struct_of_fills(alloc, table, plan, node, column, described.fields.len())
         }
-        (Def::Option(_), None) => unreachable!(),
-        (Def::Scalar(_) | Def::Str | Def::Opaque | Def::Dynamic, _) => unreachable!(),
-        (Def::Undefined | Def::Other | Def::Enum(_) | Def::Result(..), _) => unreachable!(),
-        (Def::List(_) | Def::Map(..) | Def::Set(_) | Def::Array(..), _) => unreachable!(),
-        (Def::Slice(_) | Def::Pointer(_), _) => unreachable!(),
+        (Def::Option(_), None) => Ok(Piece::Entered),
+        (Def::Scalar(_) | Def::Str | Def::Opaque | Def::Dynamic, _) => Ok(Piece::Entered),
+        (Def::Undefined | Def::Other | Def::Enum(_) | Def::Result(..), _) => Ok(Piece::Entered),
+        (Def::List(_) | Def::Map(..) | Def::Set(_) | Def::Array(..), _) => Ok(Piece::Entered),
+        (Def::Slice(_) | Def::Pointer(_), _) => Ok(Piece::Entered),
     }
 }
 
-/// Lets a place hold what it makes. One that is whole, or all of whose children are there, stays as
-/// it is.
+/// Lets a place, all of whose children are given or not there, take its fills by the rules of this
+/// column. One that is whole, or all of whose children are there, stays as it is.
 pub(crate) fn fill(
     alloc: Global,
     table: &ShapeTable,
     plan: &TypePlanCore,
     node: NodeId,
+    column: FillColumn,
     piece: &mut Piece,
 ) -> Result<(), OutOfMemory>
     requires checked { IsChecked table.now }
     requires planned { IsPlanFor table.now plan.now }
     requires inside { node.0 < length plan.now.nodes }
     requires full { IsFull table.now (shape_of plan.now node) (body_of piece.old) }
-    requires fills { IsSome (filled_body table.now (shape_of plan.now node) (body_of piece.old)) }
-    ensures filled { OnOk result (value_of (body_of piece.new)
-        ≡ filled_body table.now (shape_of plan.now node) (body_of piece.old)) }
-    ensures tracker { OnOk result (KeepsTracker (body_of piece.old) (body_of piece.new)) }
+    requires closed { IsClosed (body_of piece.old) }
+    ensures filled { OnOk result (body_of piece.new ≡ defaulted (column_of column) table.now
+        (shape_of plan.now node) (body_of piece.old)) }
+    ensures memory { OnErr result (takes_template (body_of piece.old) ≡ true) }
     ensures tokens { (t : ℕ) →
         body_occurs (body_of piece.new) t ≡ body_occurs (body_of piece.old) t }
-    ensures full { IsFull table.now (shape_of plan.now node) (body_of piece.new) }
-    ensures closed { IsClosed (body_of piece.old) → IsClosed (body_of piece.new) }
-    ensures memory { OnErr result (value_of (body_of piece.old) ≡ None) }
+    ensures closed { IsClosed (body_of piece.new) }
 {
     match piece {
         Piece::Entered => {
-            *piece = made_of_entered(alloc, table, plan, node)?;
+            *piece = fill_entered(alloc, table, plan, node, column)?;
             Ok(())
         }
         Piece::Whole(_) => Ok(()),
         Piece::Begun(tracker, children) => match tracker.fields() {
-            Some(_) if children.are_all_there() => Ok(()),
-            Some(selected) => fill_holes(alloc, table, plan, node, selected, children),
+            Some(selected) => fill_holes(alloc, table, plan, node, column, selected, children),
             None => Ok(()),
         },
-        Piece::Object(..) => Ok(()),
     }
 }

@@ -1,34 +1,48 @@
 //! Places that get more children: those that take items, as a list, a set or a pointer to a slice,
 //! and those that take entries, a map or a dynamic object.
-ghost use Rattle.fr_frame.specs.Common.{IfInUse, IfOk, IfSome, IsGrowing, IsInUse, KeepsReserved, None, OnErr, OnOk, SameTokens, Shows, added, as_tracker, count_cells, def_of, depth_below, depth_limit, false, heap_of, is_begun_body, is_list_body, item_owner, length, reformed, shape_of, true, with_body, with_entered};
-ghost use Rattle.std.specs.Prelude.{◌^◌, ◌+◌, ◌<◌, ◌≡◌};
-ghost use Rattle.fr_frame.specs.Growing.{grown, MayGrow};
+ghost use Rattle.fr_frame.specs.Common.{IfInUse, IfOk, IsInUse, IsReserved, KeepsReserved, None, OnErr, OnOk, SameTokens, Shows, as_tracker, count_cells, false, heap_of, held_by, is_begun_body, is_list_body, links, option_map, reformed, slots_occur, true, view, with_body, ℕ};
+ghost use Rattle.std.specs.Prelude.{IsOk, ◌^◌, ◌+◌, ◌<◌, ◌≡◌};
+ghost use Rattle.fr_frame.specs.Growing.{grown, grown_above, MayGrow, MayGrowAbove};
+ghost use Rattle.fr_frame.specs.Cells.{held_value, value_occurs};
+ghost use Rattle.fr_frame.specs.Changes.{IsOwnerInUse};
 ghost use Rattle.fr_frame.specs.RawSlots.{stays_list, IsReformed};
 
-use crate::pieces::{count_children, fresh, grow, is_begun, is_list, reform};
-use crate::places::{FrameOwner, Growth, Place, Slot, SlotId, Tracker};
+use crate::pieces::{count_children, grow, is_begun, is_list, reform};
+use crate::places::{FrameOwner, Growth, Slot, SlotId, Tracker};
 use crate::slots::Slots;
-use fr_plan::{NodeId, TypePlanCore};
-use fr_shape::{OutOfMemory, ShapeTable};
+use fr_shape::{OutOfMemory, Value};
 
-/// Lets a list that has its items in slots of their own be begun so instead, and leaves them there.
-/// False, and nothing is changed, where no such list is in the slot, or where a place that is begun
-/// so has no items in slots.
-fn reform_list(slot: &mut Slot, tracker: Tracker) -> bool
-    ensures reformed { result ≡ true → IsReformed tracker slot.old slot.new }
-    ensures kept { result ≡ false → slot.new ≡ slot.old }
-    ensures told { result ≡ stays_list tracker slot.old }
+/// Whether a list that has its items in slots of their own is in the slot, which may leave them
+/// there where it is begun so instead.
+fn stays_list(slot: &Slot, tracker: &Tracker) -> bool
+    ensures { result ≡ stays_list tracker.now slot.now }
 {
     match slot {
-        Slot::List(place, _) => {
-            if tracker.keeps_items() && is_list(&place.piece) {
-                reform(&mut place.piece, tracker);
-                return true;
-            }
-            false
-        }
+        Slot::List(place, _) => tracker.keeps_items() && is_list(&place.piece),
         Slot::Free(_) | Slot::Reserved | Slot::Used(_) | Slot::Item(_) => false,
     }
+}
+
+/// Lets such a list be begun so instead, and leaves its items there.
+fn reform_list(slot: &mut Slot, tracker: Tracker)
+    requires { stays_list tracker slot.old ≡ true }
+    ensures { IsReformed tracker slot.old slot.new }
+{
+    match slot {
+        Slot::List(place, _) => reform(&mut place.piece, tracker),
+        Slot::Free(_) | Slot::Reserved | Slot::Used(_) | Slot::Item(_) => unreachable!(),
+    }
+}
+
+/// The number of a child. None has the number 4,294,967,295.
+pub(crate) fn narrow(number: usize) -> Result<u32, OutOfMemory>
+    ensures same { IfOk result (λ narrow. narrow ≡ number) }
+    ensures narrow { OnOk result (number + 1 < 2 ^ 32) }
+{
+    if number >= u32::MAX as usize {
+        return Err(OutOfMemory);
+    }
+    Ok(number as u32)
 }
 
 impl SlotId {
@@ -40,7 +54,8 @@ impl SlotId {
             (with_body (heap_of slots.old) self.0 (reformed (as_tracker tracker))) }
         ensures tokens { SameTokens slots.old slots.new }
     {
-        if reform_list(slots.entries.get_mut(self.idx()), tracker) {
+        if stays_list(slots.entries.get(self.idx()), &tracker) {
+            reform_list(slots.entries.get_mut(self.idx()), tracker);
             return;
         }
         let place = slots.place_mut(self);
@@ -71,25 +86,21 @@ impl Slots {
         }
     }
 
-    /// Where an item belongs that comes behind all children of a place, unless there are too many.
-    pub(crate) fn item_owner(&self, parent: SlotId) -> Option<FrameOwner>
+    /// The number of a child that comes behind all children of a place, unless there are too many.
+    pub(crate) fn next_child(&self, parent: SlotId) -> Result<u32, OutOfMemory>
         requires { IsInUse self.now parent.0 }
-        ensures owner { IfSome result (λ owner. IfInUse self.now parent.0 (λ above.
-            owner ≡ item_owner parent.0 above.body)) }
-        ensures narrow { IfSome result (λ owner. IfInUse self.now parent.0 (λ above.
+        ensures number { IfOk result (λ number. IfInUse self.now parent.0 (λ above.
+            number ≡ count_cells above.body)) }
+        ensures narrow { OnOk result (IfInUse self.now parent.0 (λ above.
             count_cells above.body + 1 < 2 ^ 32)) }
     {
         let Some(above) = self.place(parent) else {
             unreachable!()
         };
-        let count = count_children(&above.piece);
-        if count >= u32::MAX as usize {
-            return None;
-        }
-        Some(FrameOwner::Child(parent, count as u32))
+        narrow(count_children(&above.piece))
     }
 
-    /// More at a begun place, behind its children, none of which is there yet.
+    /// More at a begun place, behind the children that it has, and nothing there yet.
     fn grow(&mut self, parent: SlotId, growth: Growth) -> Result<(), OutOfMemory>
         requires { IfInUse self.old parent.0 (λ above. MayGrow growth above.body) }
         ensures grown { OnOk result (Shows self.new
@@ -103,121 +114,43 @@ impl Slots {
         grow(alloc, &mut place.piece, growth)
     }
 
-    /// A slot for a new item of this node, which the list or open pointer to a slice has behind its
-    /// other children from then on, in the slot where it stays when it completes.
-    fn enter_list_item(
+    /// Lets the place above have a child in this slot, which it gets first, if it is new, and hands
+    /// out the value that it had of it. An item of a list gets its room and its slot at once.
+    pub(crate) fn take_in(
         &mut self,
-        table: &ShapeTable,
-        plan: &TypePlanCore,
-        node: NodeId,
-        parent: SlotId,
-    ) -> Result<SlotId, OutOfMemory>
-        requires parent { IfInUse self.old parent.0 (λ above. IsGrowing above.body) }
-        requires list { IfInUse self.old parent.0 (λ above. is_list_body above.body ≡ true) }
-        requires planned { node.0 < length plan.now.nodes }
-        ensures vacant { IfOk result (λ id. heap_of self.old id.0 ≡ None) }
-        ensures entered { IfOk result (λ id. IfInUse self.old parent.0 (λ above.
-            Shows self.new (with_entered (def_of table.now (shape_of plan.now node))
-            (with_body (heap_of self.old) parent.0 added) node (item_owner parent.0 above.body)
-            id.0))) }
-        ensures limit { OnOk result (IfInUse self.old parent.0 (λ above.
-            depth_below (heap_of self.old) (item_owner parent.0 above.body) < depth_limit)) }
-        ensures narrow { OnOk result (IfInUse self.old parent.0 (λ above.
-            count_cells above.body + 1 < 2 ^ 32)) }
-        ensures tokens { SameTokens self.old self.new }
+        owner: &FrameOwner,
+        growth: Option<Growth>,
+        id: SlotId,
+    ) -> Result<Option<Value>, OutOfMemory>
+        requires owner { IsOwnerInUse self.old owner.now }
+        requires may { MayGrowAbove growth owner.now (heap_of self.old) }
+        requires reserved { IsReserved self.old id.0 }
+        ensures linked { OnOk result (Shows self.new
+            (links owner.now id.0 (grown_above growth owner.now (heap_of self.old)))) }
+        ensures held { IfOk result (λ held. option_map view held
+            ≡ held_value (held_by (grown_above growth owner.now (heap_of self.old)) owner.now)) }
+        ensures kept { growth ≡ None → IsOk result }
         ensures refused { OnErr result (Shows self.new (heap_of self.old)) }
+        ensures tokens { IfOk result (λ held. (t : ℕ) → slots_occur self.old t
+            ≡ slots_occur self.new t + value_occurs (option_map view held) t) }
+        ensures tokens_kept { OnErr result (SameTokens self.old self.new) }
+        ensures reserved { KeepsReserved self.old self.new }
     {
-        let Some(owner) = self.item_owner(parent) else {
-            return Err(OutOfMemory);
+        let Some(growth) = growth else {
+            return Ok(self.link(id, owner));
         };
-        let Some(depth) = self.depth_below(&owner) else {
-            return Err(OutOfMemory);
+        let FrameOwner::Child(parent, _) = owner else {
+            unreachable!()
         };
-        let id = self.vacant()?;
-        let Ok(()) = self.add_item(parent, id) else {
-            self.give_back(id);
-            return Err(OutOfMemory);
-        };
-        let piece = fresh(self.alloc(), table, plan.node(node).shape);
-        self.lower(
-            id,
-            Place {
-                node,
-                owner,
-                stored: false,
-                depth,
-                piece,
-            },
-        );
-        Ok(id)
-    }
-
-    /// A slot for a new child of this node, which the begun place has behind its other children from
-    /// then on: an item, the key of an entry, or the value under a key.
-    pub(crate) fn enter_behind(
-        &mut self,
-        table: &ShapeTable,
-        plan: &TypePlanCore,
-        node: NodeId,
-        parent: SlotId,
-        growth: Growth,
-    ) -> Result<SlotId, OutOfMemory>
-        requires parent { IfInUse self.old parent.0 (λ above. MayGrow growth above.body) }
-        requires planned { node.0 < length plan.now.nodes }
-        ensures vacant { IfOk result (λ id. heap_of self.old id.0 ≡ None) }
-        ensures entered { IfOk result (λ id. IfInUse self.old parent.0 (λ above.
-            Shows self.new (with_entered (def_of table.now (shape_of plan.now node))
-            (with_body (heap_of self.old) parent.0 (grown growth)) node
-            (item_owner parent.0 above.body) id.0))) }
-        ensures limit { OnOk result (IfInUse self.old parent.0 (λ above.
-            depth_below (heap_of self.old) (item_owner parent.0 above.body) < depth_limit)) }
-        ensures narrow { OnOk result (IfInUse self.old parent.0 (λ above.
-            count_cells above.body + 1 < 2 ^ 32)) }
-        ensures tokens { SameTokens self.old self.new }
-        ensures refused { OnErr result (Shows self.new (heap_of self.old)) }
-    {
-        let Some(owner) = self.item_owner(parent) else {
-            return Err(OutOfMemory);
-        };
-        let Some(depth) = self.depth_below(&owner) else {
-            return Err(OutOfMemory);
-        };
-        let id = self.vacant()?;
-        let Ok(()) = self.grow(parent, growth) else {
-            self.give_back(id);
-            return Err(OutOfMemory);
-        };
-        self.settle(table, plan, node, owner, depth, id);
-        Ok(id)
-    }
-
-    /// A slot for a new item of this node, which the place that takes items has behind its other
-    /// children from then on.
-    pub(crate) fn enter_item(
-        &mut self,
-        table: &ShapeTable,
-        plan: &TypePlanCore,
-        node: NodeId,
-        parent: SlotId,
-    ) -> Result<SlotId, OutOfMemory>
-        requires parent { IfInUse self.old parent.0 (λ above. IsGrowing above.body) }
-        requires planned { node.0 < length plan.now.nodes }
-        ensures vacant { IfOk result (λ id. heap_of self.old id.0 ≡ None) }
-        ensures entered { IfOk result (λ id. IfInUse self.old parent.0 (λ above.
-            Shows self.new (with_entered (def_of table.now (shape_of plan.now node))
-            (with_body (heap_of self.old) parent.0 added) node (item_owner parent.0 above.body)
-            id.0))) }
-        ensures limit { OnOk result (IfInUse self.old parent.0 (λ above.
-            depth_below (heap_of self.old) (item_owner parent.0 above.body) < depth_limit)) }
-        ensures narrow { OnOk result (IfInUse self.old parent.0 (λ above.
-            count_cells above.body + 1 < 2 ^ 32)) }
-        ensures tokens { SameTokens self.old self.new }
-        ensures refused { OnErr result (Shows self.new (heap_of self.old)) }
-    {
-        if self.is_list(parent) {
-            self.enter_list_item(table, plan, node, parent)
-        } else {
-            self.enter_behind(table, plan, node, parent, Growth::Item)
+        match growth {
+            Growth::Item if self.is_list(*parent) => {
+                self.add_item(*parent, id)?;
+                Ok(None)
+            }
+            growth => {
+                self.grow(*parent, growth)?;
+                Ok(self.link(id, owner))
+            }
         }
     }
 }

@@ -1,17 +1,14 @@
-//! Items of lists: one comes, and lies in a slot of its own; one completes, and keeps its slot.
-ghost use Rattle.std.specs.Prelude.{◌++◌, ◌<◌, ◌∷◌, ◌≡◌};
-ghost use Rattle.fr_frame.specs.Common.{Conserved, HasRoomIn, IfInUse, IfNone, IfSome, IsGrowing, IsListedIn, IsOk, IsPlain, IsReserved, IsSeenAs, IsSome, KeepsReserved, OnErr, OnOk, Room, SameTokens, Shows, Some, Val, [], body_occurs, body_of, false, gives, heap_of, held_by, is_list, is_list_body, is_used, length, node_in, node_of, option_copied, option_map, placed, slots_occur, takes_memory, true, value_of, with_body, with_placed, without};
-ghost use Rattle.fr_frame.specs.Items.{IsListed};
-ghost use Rattle.fr_frame.specs.RawItems.{in_list, of_list, with_room, IsAddedIn, IsBelow, IsListIn, IsTakenOf};
-ghost use Rattle.fr_frame.specs.RawSlots.{IsEmptied};
-ghost use Rattle.fr_frame.specs.declared.places.Slot.{Slot as Entry};
+//! Items of lists: one comes, and lies in a slot of its own; one is whole, and keeps its slot.
+ghost use Rattle.std.specs.Prelude.{IsSomeAnd, ◌++◌, ◌<◌, ◌∷◌, ◌≡◌};
+ghost use Rattle.fr_frame.specs.Common.{HasRoomIn, IfInUse, IfSome, IsGrowing, IsListedIn, IsPlain, IsReserved, IsSeenAs, KeepsReserved, OnErr, OnOk, SameTokens, Shows, Some, [], body_of, false, heap_of, held_by, is_list, is_list_body, is_used, length, node_in, node_of, option_copied, option_map, placed, true, with_body, with_placed};
+ghost use Rattle.fr_frame.specs.Handing.{IsHanded, IsWhole};
+ghost use Rattle.fr_frame.specs.RawItems.{with_room, IsAddedIn, IsKeptItem, IsListed, IsListIn};
+ghost use Rattle.fr_frame.specs.declared.places.Taker.{Taker};
 
-use crate::draining::{drain, has_items};
-use crate::making::value_of;
 use crate::places::{FrameOwner, Item, ItemsKind, Piece, Place, Slot, SlotId, Tracker};
 use crate::slots::Slots;
 use fr_arena::{Arena, ListRope};
-use fr_shape::{Ledger, OutOfMemory, Value};
+use fr_shape::{OutOfMemory, Value};
 use std::alloc::Global;
 
 /// One item more in a list, which will be in this slot: it has its room in the piece, and the slot
@@ -89,8 +86,7 @@ fn add_item_in(alloc: Global, slot: &mut Slot, item: SlotId) -> Result<(), OutOf
 
 /// Whether a list has this slot for its item of this number.
 fn is_item(piece: &Piece, items: &ListRope<SlotId>, number: u32, slot: SlotId) -> bool
-    ensures listed { result ≡ true → IsListedIn piece.now items.now.items slot.0 number }
-    ensures other { IsListedIn piece.now items.now.items slot.0 number → result ≡ true }
+    ensures { result ≡ true → IsListedIn piece.now items.now.items slot.0 number }
 {
     let Piece::Begun(
         Tracker::Items(ItemsKind::List)
@@ -116,23 +112,11 @@ fn place_in(slot: &Slot) -> Option<&Place>
     }
 }
 
-/// Whether a place that belongs there belongs to a list that has items in slots of their own.
-fn is_of_list(entries: &Arena<Slot>, owner: &FrameOwner) -> bool
-    ensures { result ≡ of_list entries.now owner.now }
-{
-    match owner {
-        FrameOwner::Child(list, _) => has_items(entries, *list),
-        FrameOwner::Root => false,
-    }
-}
-
 /// The list that has the place in a slot among its items, and the item's number among the list's
 /// children.
 fn list_of(entries: &Arena<Slot>, id: SlotId) -> Option<(SlotId, u32)>
     requires { id.0 < length entries.now }
-    ensures below { IfSome result (λ found.
-        IsBelow entries.now id.0 (FrameOwner.Child found.0 found.1)) }
-    ensures listed { IfSome result (λ found. IsListed entries.now id.0 found.0.0 found.1) }
+    ensures { IfSome result (λ found. IsListed entries.now id.0 found.0 found.1) }
 {
     let place = place_in(entries.get(id.idx()))?;
     let FrameOwner::Child(list, number) = &place.owner else {
@@ -149,20 +133,6 @@ fn list_of(entries: &Arena<Slot>, id: SlotId) -> Option<(SlotId, u32)>
     }
 }
 
-/// Whether the place in a slot belongs to a list that has items in slots of their own. Few places
-/// do, so the test is short.
-pub(crate) fn is_in_list(entries: &Arena<Slot>, id: SlotId) -> bool
-    ensures { result ≡ in_list entries.now id.0 }
-{
-    if (id.0 as usize) >= entries.len() {
-        return false;
-    }
-    match place_in(entries.get(id.idx())) {
-        Some(place) => is_of_list(entries, &place.owner),
-        None => false,
-    }
-}
-
 /// Marks one more of a list's items.
 fn mark_item(slot: &mut Slot)
     ensures { IsSeenAs slot.old slot.new }
@@ -174,29 +144,42 @@ fn mark_item(slot: &mut Slot)
     }
 }
 
-/// Takes what was put at a place that is no list with items.
-fn take_piece(slot: &mut Slot) -> Piece
-    requires { IsPlain slot.old }
-    ensures { IsTakenOf slot.old slot.new result }
+/// Puts an item that has completed into its slot, from which what was put at its place was taken.
+fn put_value(slot: &mut Slot, piece: Piece, list: SlotId, number: u32)
+    requires { IsWhole (body_of piece) }
+    ensures { IsKeptItem list number (body_of piece) slot.new }
 {
-    match slot {
-        Slot::Used(place) => std::mem::replace(&mut place.piece, Piece::Entered),
-        Slot::Free(_) | Slot::Reserved | Slot::List(..) | Slot::Item(_) => unreachable!(),
-    }
-}
-
-/// Puts an item that has completed into the slot of its place, from which its value was taken.
-/// Nothing is there any more that would have to be let go.
-fn put_item(slot: &mut Slot, value: Value, list: SlotId, number: u32)
-    requires emptied { IsEmptied slot.old }
-    ensures { slot.new ≡ Entry.Item (record { value = value; list = list; number = number }) }
-{
-    let item = Slot::Item(Item {
+    let Piece::Whole(value) = piece else {
+        unreachable!()
+    };
+    *slot = Slot::Item(Item {
         value,
         list,
         number,
     });
-    std::mem::forget(std::mem::replace(slot, item));
+}
+
+/// Takes what was put at a whole place out of it.
+fn take_piece(slot: &mut Slot) -> Piece
+    requires { IsSomeAnd (node_in slot.old) (λ at. IsWhole at.body) }
+    ensures whole { IsWhole (body_of result) }
+    ensures body { IsSomeAnd (node_in slot.old) (λ at. at.body ≡ body_of result) }
+{
+    match slot {
+        Slot::Used(place) => std::mem::replace(&mut place.piece, Piece::Entered),
+        Slot::List(place, _) => std::mem::replace(&mut place.piece, Piece::Entered),
+        Slot::Free(_) | Slot::Reserved | Slot::Item(_) => unreachable!(),
+    }
+}
+
+/// Lets an item that has completed stay in the slot of its place, which is whole.
+#[inline(never)]
+fn put_item(slot: &mut Slot, list: SlotId, number: u32)
+    requires { IsSomeAnd (node_in slot.old) (λ at. IsWhole at.body) }
+    ensures { IsSomeAnd (node_in slot.old) (λ at. IsKeptItem list number at.body slot.new) }
+{
+    let piece = take_piece(slot);
+    put_value(slot, piece, list, number);
 }
 
 impl Slots {
@@ -215,45 +198,21 @@ impl Slots {
         add_item_in(alloc, self.entries.get_mut(list.idx()), item)
     }
 
-    /// Lets a place that is whole, or begun with each child there, and is an item of a list have
-    /// completed: it keeps its slot, with its value. None where the place is no such item; then
-    /// nothing is changed.
-    #[inline(never)]
-    pub(crate) fn complete_item(
-        &mut self,
-        id: SlotId,
-        ledger: &mut Ledger,
-    ) -> Option<Result<(), OutOfMemory>>
-        requires complete { IfInUse self.old id.0 (λ at. IsSome (value_of at.body)) }
+    /// Lets a whole place that is an item of a list keep its slot, with its value, which contracts
+    /// see in the list. Nothing is changed, and the answer is no, where the place is no such item.
+    pub(crate) fn keep_item(&mut self, id: SlotId) -> bool
+        requires whole { IfInUse self.old id.0 (λ at. IsWhole at.body) }
         requires owned { IfInUse self.old id.0 (λ at.
             held_by (heap_of self.old) at.owner ≡ Some (placed id.0)) }
-        requires room { IfInUse self.old id.0 (λ at. Room (body_occurs at.body) ledger.old) }
-        ensures none { IfNone result (self.new ≡ self.old) }
-        ensures ledger_kept { IfNone result (ledger.new ≡ ledger.old) }
-        ensures handed { IfSome result (λ done. OnOk done
-            (IfInUse self.old id.0 (λ at. (v : Val) → value_of at.body ≡ Some v → Shows self.new
-            (gives at.owner v (without (heap_of self.old) id.0 at.owner))))) }
-        ensures memory { IfSome result (λ done. IfInUse self.old id.0 (λ at.
-            takes_memory at.body ≡ false → IsOk done)) }
-        ensures left { IfSome result (λ done. OnErr done (IfInUse self.old id.0 (λ at.
-            Shows self.new (without (heap_of self.old) id.0 at.owner)))) }
-        ensures conserved { IfSome result (λ done. Conserved (slots_occur self.old) ledger.old
-            (slots_occur self.new) ledger.new) }
+        ensures kept { result ≡ true → IsHanded Taker.Above self.old self.new id.0 }
+        ensures tokens { SameTokens self.old self.new }
+        ensures none { result ≡ false → self.new ≡ self.old }
     {
-        let (list, number) = list_of(&self.entries, id)?;
-        drain(&mut self.entries, &mut self.free, id);
-        let piece = take_piece(self.entries.get_mut(id.idx()));
-        match value_of(self.alloc(), piece, ledger) {
-            Ok(value) => {
-                put_item(self.entries.get_mut(id.idx()), value, list, number);
-                mark_item(self.entries.get_mut(list.idx()));
-                Some(Ok(()))
-            }
-            Err(refused) => {
-                let place = self.leave(id);
-                self.unlink(id, &place.owner);
-                Some(Err(refused))
-            }
-        }
+        let Some((list, number)) = list_of(&self.entries, id) else {
+            return false;
+        };
+        put_item(self.entries.get_mut(id.idx()), list, number);
+        mark_item(self.entries.get_mut(list.idx()));
+        true
     }
 }

@@ -1,6 +1,7 @@
 //! The keys of a dynamic object.
 ghost use Rattle.std.specs.Prelude.{◌++◌, ◌∷◌, ◌≡◌};
-ghost use Rattle.fr_frame.specs.Common.{OnErr, OnOk, [], entry_found, keys_apart, length, names_of, true, view};
+ghost use Rattle.fr_frame.specs.Common.{IfOk, OnErr, OnOk, [], entry_found, keys_apart, length, names_of, true, view};
+ghost use Rattle.fr_model.specs.Dynamics.{key_nth};
 ghost use Rattle.fr_frame.specs.KeyNames.{name_of};
 
 use crate::value_index::ValueIndex;
@@ -43,6 +44,22 @@ pub(crate) fn text_of(name: Value) -> Text
     }
 }
 
+/// A copy of the text of a name.
+fn copy_of(alloc: Global, name: &Value) -> Result<Text, OutOfMemory>
+    ensures { IfOk result (λ key. key ≡ name_of (view name.now)) }
+{
+    match name {
+        Value::Text(text) => Text::new(alloc, text.as_str()),
+        Value::Unit | Value::Bool(_) | Value::Char(_) | Value::Int(_) | Value::Nat(_) => {
+            Ok(Text::default())
+        }
+        Value::Token(_) | Value::Product(_) | Value::Variant(..) => Ok(Text::default()),
+        Value::None | Value::Some(_) | Value::Ok(_) | Value::Err(_) => Ok(Text::default()),
+        Value::List(_) | Value::Map(_) | Value::Set(_) => Ok(Text::default()),
+        Value::Ptr(_) | Value::Dyn(_) => Ok(Text::default()),
+    }
+}
+
 impl KeyList {
     /// No names. Takes no memory.
     fn none(alloc: Global) -> KeyList
@@ -70,6 +87,16 @@ impl KeyList {
         let sought = Value::Text(key);
         let found = self.index.find(self.names.as_slice(), &sought);
         (found, text_of(sought))
+    }
+
+    /// A copy of the name of this number, or an empty one past the end.
+    fn copy(&self, alloc: Global, i: u32) -> Result<Text, OutOfMemory>
+        ensures copy { IfOk result (λ key. key ≡ key_nth self.now i) }
+    {
+        match self.names.get(i as usize) {
+            Some(name) => copy_of(alloc, name),
+            None => Ok(Text::default()),
+        }
     }
 
     /// One more name behind the others. Without memory there are those that were there.
@@ -111,7 +138,7 @@ impl Model for Keys {
 
 impl Keys {
     /// No keys. Takes no memory.
-    pub(crate) fn none() -> Keys
+    pub fn none() -> Keys
         ensures empty { result ≡ [] }
     {
         Keys { list: None }
@@ -136,6 +163,16 @@ impl Keys {
         match &self.list {
             Some(list) => list.number_of(key),
             None => (None, key),
+        }
+    }
+
+    /// A copy of the key of this number, or an empty one past the end.
+    pub(crate) fn copy(&self, alloc: Global, i: u32) -> Result<Text, OutOfMemory>
+        ensures copy { IfOk result (λ key. key ≡ key_nth self.now i) }
+    {
+        match &self.list {
+            Some(list) => list.copy(alloc, i),
+            None => Ok(Text::default()),
         }
     }
 

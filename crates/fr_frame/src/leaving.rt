@@ -1,88 +1,30 @@
 //! Leaving a slot: with the value of its place, or releasing what was put there.
 ghost use Rattle.std.specs.Prelude.{◌+◌, ◌≡◌};
-ghost use Rattle.fr_frame.specs.Common.{Conserved, IfInUse, IfOk, IsInUse, IsOk, IsSetBody, IsSome, None, OnErr, OnOk, Room, RoseBy, Shows, Some, Val, absent, body_occurs, body_of, cell_at, false, gives, heap_of, held_by, occurs, placed, slots_occur, takes_memory, value_of, view, with_body, with_ended, with_slot, without, ℕ};
-ghost use Rattle.fr_frame.specs.Heap.{ends, IsItemOf};
+ghost use Rattle.fr_frame.specs.Common.{Conserved, FrameOwner, IfInUse, IfOk, IsInUse, IsOk, IsSome, OnErr, OnOk, Room, RoseBy, SameTokens, Shows, Some, Val, body_occurs, body_of, false, heap_of, held_by, occurs, placed, slots_occur, takes_memory, value_of, view, without, ℕ};
+ghost use Rattle.fr_frame.specs.Handing.{handed, unhanded, IsHanded, IsMadeWhole, IsTakenWhole, IsWhole, MayTake};
+ghost use Rattle.fr_frame.specs.declared.places.Taker.{Taker};
 
-use crate::items::is_in_list;
-use crate::making::value_of;
+use crate::making::{make_whole, value_of};
 use crate::pieces::{end_child, release_piece};
-use crate::places::{FrameOwner, Piece, Place, SlotId};
+use crate::places::{FrameOwner, Piece, Place, SlotId, Taker};
 use crate::slots::Slots;
 use fr_shape::{Ledger, OutOfMemory, Value};
-
-impl Slots {
-    /// Puts a value at the owner's child of its number, which isn't there.
-    fn give(&mut self, owner: &FrameOwner, value: Value)
-        requires { held_by (heap_of self.old) owner.now ≡ Some absent }
-        ensures given { Shows self.new (gives owner.now (view value) (heap_of self.old)) }
-        ensures tokens { (t : ℕ) → slots_occur self.new t
-            ≡ slots_occur self.old t + occurs (view value) t }
-    {
-        match owner {
-            FrameOwner::Child(parent, i) => parent.put_child(self, *i, value),
-            FrameOwner::Root => unreachable!(),
-        }
-    }
-
-    /// Lets a child of a set go, which isn't there, and puts a value behind the set's other
-    /// children, unless one of them is `same`: then it is released.
-    fn end_child(&mut self, parent: SlotId, i: u32, value: Value, ledger: &mut Ledger)
-        requires in_use { IsInUse self.old parent.0 }
-        requires set { IfInUse self.old parent.0 (λ at. IsSetBody at.body) }
-        requires absent { IfInUse self.old parent.0 (λ at. cell_at at.body i ≡ Some absent) }
-        requires room { Room (occurs (view value)) ledger.old }
-        ensures ended { Shows self.new
-            (with_body (heap_of self.old) parent.0 (with_ended i (view value))) }
-        ensures conserved { Conserved (λ t. slots_occur self.old t + occurs (view value) t)
-            ledger.old (slots_occur self.new) ledger.new }
-    {
-        let place = self.place_mut(parent);
-        end_child(&mut place.piece, i, value, ledger);
-    }
-
-    /// The same by the owner of the child.
-    fn end_item(&mut self, owner: &FrameOwner, value: Value, ledger: &mut Ledger)
-        requires absent { held_by (heap_of self.old) owner.now ≡ Some absent }
-        requires set { IsItemOf owner.now (heap_of self.old) }
-        requires room { Room (occurs (view value)) ledger.old }
-        ensures ended { Shows self.new (ends owner.now (view value) (heap_of self.old)) }
-        ensures conserved { Conserved (λ t. slots_occur self.old t + occurs (view value) t)
-            ledger.old (slots_occur self.new) ledger.new }
-    {
-        match owner {
-            FrameOwner::Child(parent, i) => self.end_child(*parent, *i, value, ledger),
-            FrameOwner::Root => unreachable!(),
-        }
-    }
-}
 
 impl SlotId {
     /// Takes what was put at the place out of its slot, which is then free, and tells where the
     /// place belonged.
     fn take_out(self, slots: &mut Slots) -> (FrameOwner, Piece)
         requires { IsInUse slots.old self.0 }
-        ensures taken { IfInUse slots.old self.0 (λ at.
-            (at.owner ≡ result.0) × (at.body ≡ body_of result.1)) }
-        ensures left { Shows slots.new (without (heap_of slots.old) self.0 result.0) }
+        ensures owner { IfInUse slots.old self.0 (λ at. at.owner ≡ result.0) }
+        ensures body { IfInUse slots.old self.0 (λ at. at.body ≡ body_of result.1) }
+        ensures left { IfInUse slots.old self.0 (λ at.
+            Shows slots.new (without (heap_of slots.old) self.0 at.owner)) }
         ensures tokens { (t : ℕ) → slots_occur slots.old t
             ≡ slots_occur slots.new t + body_occurs (body_of result.1) t }
     {
         let Place { owner, piece, .. } = slots.leave(self);
         slots.unlink(self, &owner);
         (owner, piece)
-    }
-
-    /// Takes what was put at the place out of its slot, which is then free.
-    fn leave(self, slots: &mut Slots) -> Piece
-        requires { IsInUse slots.old self.0 }
-        ensures body { IfInUse slots.old self.0 (λ at. at.body ≡ body_of result) }
-        ensures left { IfInUse slots.old self.0 (λ at.
-            Shows slots.new (without (heap_of slots.old) self.0 at.owner)) }
-        ensures tokens { (t : ℕ) → slots_occur slots.old t
-            ≡ slots_occur slots.new t + body_occurs (body_of result) t }
-    {
-        let (_owner, piece) = self.take_out(slots);
-        piece
     }
 
     /// The value of a place that is whole, or begun with each child there. Its slot is then free,
@@ -106,87 +48,127 @@ impl SlotId {
             RoseBy (body_occurs at.body) ledger.old ledger.new)) }
     {
         let alloc = slots.alloc();
-        let piece = self.leave(slots);
+        let (_, piece) = self.take_out(slots);
         value_of(alloc, piece, ledger)
     }
 
-    /// Hands the value of a place to its owner, and the slot is then free, as `hand_up` says, but
-    /// at an item that keeps its slot.
-    fn hand_over(self, slots: &mut Slots, ledger: &mut Ledger) -> Result<(), OutOfMemory>
+    /// Lets a place be whole where it is, with its value. It stays as it was where there is no
+    /// memory for making that.
+    fn make_whole(self, slots: &mut Slots, ledger: &mut Ledger) -> Result<(), OutOfMemory>
         requires complete { IfInUse slots.old self.0 (λ at. IsSome (value_of at.body)) }
+        requires room { IfInUse slots.old self.0 (λ at. Room (body_occurs at.body) ledger.old) }
+        ensures made { OnOk result (IsMadeWhole slots.old slots.new self.0) }
+        ensures memory { IfInUse slots.old self.0 (λ at.
+            takes_memory at.body ≡ false → IsOk result) }
+        ensures refused { OnErr result (Shows slots.new (heap_of slots.old)) }
+        ensures room { IfInUse slots.new self.0 (λ at. Room (body_occurs at.body) ledger.new) }
+        ensures conserved { Conserved (slots_occur slots.old) ledger.old (slots_occur slots.new)
+            ledger.new }
+        ensures ledger_kept { OnErr result (ledger.new ≡ ledger.old) }
+    {
+        let alloc = slots.alloc();
+        let place = slots.place_mut(self);
+        make_whole(alloc, &mut place.piece, ledger)
+    }
+
+    /// Takes a whole place, which its owner has in this slot, out of it, with its value.
+    fn take_whole(self, slots: &mut Slots) -> (SlotId, u32, Value)
+        requires whole { IfInUse slots.old self.0 (λ at. IsWhole at.body) }
         requires owned { IfInUse slots.old self.0 (λ at.
             held_by (heap_of slots.old) at.owner ≡ Some (placed self.0)) }
+        ensures taken { IsTakenWhole slots.old slots.new self.0
+            (FrameOwner.Child result.0 result.1) (view result.2) }
+        ensures tokens { (t : ℕ) → slots_occur slots.old t
+            ≡ slots_occur slots.new t + occurs (view result.2) t }
+    {
+        let (owner, piece) = self.take_out(slots);
+        let FrameOwner::Child(parent, i) = owner else {
+            unreachable!()
+        };
+        let Piece::Whole(value) = piece else {
+            unreachable!()
+        };
+        (parent, i, value)
+    }
+
+    /// Gives the value of a whole place to its owner: an item of a list keeps its slot, and any
+    /// other slot is then free.
+    fn give(self, slots: &mut Slots)
+        requires whole { IfInUse slots.old self.0 (λ at. IsWhole at.body) }
+        requires owned { IfInUse slots.old self.0 (λ at.
+            held_by (heap_of slots.old) at.owner ≡ Some (placed self.0)) }
+        ensures given { IsHanded Taker.Above slots.old slots.new self.0 }
+        ensures tokens { SameTokens slots.old slots.new }
+    {
+        if slots.keep_item(self) {
+            return;
+        }
+        let (parent, i, value) = self.take_whole(slots);
+        parent.put_child(slots, i, value);
+    }
+
+    /// Puts the value of a whole place, an item, behind its set's other items, unless one of them
+    /// is `same`: then the value is released. The slot is then free.
+    fn end(self, slots: &mut Slots, ledger: &mut Ledger)
+        requires whole { IfInUse slots.old self.0 (λ at. IsWhole at.body) }
+        requires owned { IfInUse slots.old self.0 (λ at.
+            MayTake Taker.Set self.0 at.owner (heap_of slots.old)) }
+        requires room { IfInUse slots.old self.0 (λ at. Room (body_occurs at.body) ledger.old) }
+        ensures ended { IsHanded Taker.Set slots.old slots.new self.0 }
+        ensures conserved { Conserved (slots_occur slots.old) ledger.old (slots_occur slots.new)
+            ledger.new }
+    {
+        let (parent, i, value) = self.take_whole(slots);
+        let place = slots.place_mut(parent);
+        end_child(&mut place.piece, i, value, ledger);
+    }
+
+    /// Hands the value of a place that is whole, or begun with each child there, to what takes it.
+    /// No place is in the slot then, unless the place takes its value itself; an item of a list
+    /// keeps the slot. What a set or a map leaves out of its value, as it is there twice, is
+    /// released, and so is the value of an item that its set has already. Where there is no memory for making the value, what was put at the
+    /// place is released, unless the place is to take it itself: then it stays as it was.
+    pub fn hand_over(
+        self,
+        slots: &mut Slots,
+        taker: Taker,
+        ledger: &mut Ledger,
+    ) -> Result<(), OutOfMemory>
+        requires complete { IfInUse slots.old self.0 (λ at. IsSome (value_of at.body)) }
+        requires may { IfInUse slots.old self.0 (λ at.
+            MayTake taker self.0 at.owner (heap_of slots.old)) }
         requires room { IfInUse slots.old self.0 (λ at. Room (body_occurs at.body) ledger.old) }
         ensures handed { OnOk result (IfInUse slots.old self.0 (λ at. (v : Val)
             → value_of at.body ≡ Some v → Shows slots.new
-            (gives at.owner v (without (heap_of slots.old) self.0 at.owner)))) }
+            (handed taker self.0 at.owner v (heap_of slots.old)))) }
         ensures memory { IfInUse slots.old self.0 (λ at.
             takes_memory at.body ≡ false → IsOk result) }
-        ensures left { OnErr result (IfInUse slots.old self.0 (λ at.
-            Shows slots.new (without (heap_of slots.old) self.0 at.owner))) }
+        ensures left { OnErr result (IfInUse slots.old self.0 (λ at. Shows slots.new
+            (unhanded taker self.0 at.owner (heap_of slots.old)))) }
+        ensures ledger_kept { OnErr result (taker ≡ Taker.Itself → ledger.new ≡ ledger.old) }
         ensures conserved { Conserved (slots_occur slots.old) ledger.old (slots_occur slots.new)
             ledger.new }
     {
-        let alloc = slots.alloc();
-        let (owner, piece) = self.take_out(slots);
-        let value = value_of(alloc, piece, ledger)?;
-        slots.give(&owner, value);
-        Ok(())
-    }
-
-    /// Hands the value of a place that is whole, or begun with each child there, to its owner,
-    /// which has the place in this slot. The slot is then free. What a set or a map leaves out of
-    /// its value, as it is there twice, is released. Where there is no memory for making the value,
-    /// what was put at the place is released.
-    pub fn hand_up(self, slots: &mut Slots, ledger: &mut Ledger) -> Result<(), OutOfMemory>
-        requires complete { IfInUse slots.old self.0 (λ at. IsSome (value_of at.body)) }
-        requires owned { IfInUse slots.old self.0 (λ at.
-            held_by (heap_of slots.old) at.owner ≡ Some (placed self.0)) }
-        requires room { IfInUse slots.old self.0 (λ at. Room (body_occurs at.body) ledger.old) }
-        ensures handed { OnOk result (IfInUse slots.old self.0 (λ at. (v : Val)
-            → value_of at.body ≡ Some v → Shows slots.new
-            (gives at.owner v (without (heap_of slots.old) self.0 at.owner)))) }
-        ensures memory { IfInUse slots.old self.0 (λ at.
-            takes_memory at.body ≡ false → IsOk result) }
-        ensures left { OnErr result (IfInUse slots.old self.0 (λ at.
-            Shows slots.new (without (heap_of slots.old) self.0 at.owner))) }
-        ensures conserved { Conserved (slots_occur slots.old) ledger.old (slots_occur slots.new)
-            ledger.new }
-    {
-        if !is_in_list(&slots.entries, self) {
-            return self.hand_over(slots, ledger);
+        match self.make_whole(slots, ledger) {
+            Ok(()) => match taker {
+                Taker::Above => {
+                    self.give(slots);
+                    Ok(())
+                }
+                Taker::Set => {
+                    self.end(slots, ledger);
+                    Ok(())
+                }
+                Taker::Itself => Ok(()),
+            },
+            Err(refused) => match taker {
+                Taker::Above | Taker::Set => {
+                    self.release_frame(slots, ledger);
+                    Err(refused)
+                }
+                Taker::Itself => Err(refused),
+            },
         }
-        match slots.complete_item(self, ledger) {
-            Some(completed) => completed,
-            None => self.hand_over(slots, ledger),
-        }
-    }
-
-    /// Puts the value of a set's item that is whole, or begun with each child there, behind the
-    /// set's other items, unless one of them is `same`: then the value is released. The item's slot
-    /// is then free, and the set has no child for it. Where there is no memory for making the
-    /// value, what was put at the item is released, and the set's child isn't there.
-    pub fn end_item(self, slots: &mut Slots, ledger: &mut Ledger) -> Result<(), OutOfMemory>
-        requires complete { IfInUse slots.old self.0 (λ at. IsSome (value_of at.body)) }
-        requires owned { IfInUse slots.old self.0 (λ at.
-            held_by (heap_of slots.old) at.owner ≡ Some (placed self.0)) }
-        requires of_set { IfInUse slots.old self.0 (λ at. IsItemOf at.owner (heap_of slots.old)) }
-        requires room { IfInUse slots.old self.0 (λ at. Room (body_occurs at.body) ledger.old) }
-        ensures ended { OnOk result (IfInUse slots.old self.0 (λ at. (v : Val)
-            → value_of at.body ≡ Some v → Shows slots.new
-            (ends at.owner v (with_slot (heap_of slots.old) self.0 None)))) }
-        ensures memory { IfInUse slots.old self.0 (λ at.
-            takes_memory at.body ≡ false → IsOk result) }
-        ensures left { OnErr result (IfInUse slots.old self.0 (λ at.
-            Shows slots.new (without (heap_of slots.old) self.0 at.owner))) }
-        ensures conserved { Conserved (slots_occur slots.old) ledger.old (slots_occur slots.new)
-            ledger.new }
-    {
-        let alloc = slots.alloc();
-        let (owner, piece) = self.take_out(slots);
-        let value = value_of(alloc, piece, ledger)?;
-        slots.end_item(&owner, value, ledger);
-        Ok(())
     }
 
     /// Records the tokens of what was put at the place as released. Its slot is then free, and its
@@ -201,7 +183,7 @@ impl SlotId {
         ensures tokens { IfInUse slots.old self.0 (λ at. (t : ℕ) → slots_occur slots.old t
             ≡ slots_occur slots.new t + body_occurs at.body t) }
     {
-        let piece = self.leave(slots);
+        let (_, piece) = self.take_out(slots);
         release_piece(piece, ledger);
     }
 }

@@ -9,14 +9,11 @@ mod changing;
 mod children;
 mod completing;
 mod contents;
-mod default_filling;
 mod defaulting;
 mod draining;
 mod dynamic_pieces;
-mod dynamic_places;
 mod dynamics;
 mod entering;
-mod field_defaults;
 mod field_plans;
 mod filling;
 mod gathering;
@@ -26,7 +23,6 @@ mod key_places;
 mod keys;
 mod lacking;
 mod leaving;
-mod leftovers;
 mod linking;
 mod making;
 mod opening;
@@ -41,6 +37,6 @@ pub use children::Children;
 pub use keys::Keys;
 pub use places::{
     ChildWay, ContentKind, EntriesKind, FrameOwner, Item, ItemsKind, Piece, Place, Slot, SlotId,
-    Tracker,
+    Taker, Tracker,
 };
 pub use slots::Slots;

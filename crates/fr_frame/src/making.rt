@@ -1,15 +1,13 @@
 //! The value of a place.
 ghost use Rattle.std.specs.Prelude.{◌≡◌};
-ghost use Rattle.fr_frame.specs.Common.{Conserved, IfErr, IfOk, IsOk, IsSome, OnErr, OnOk, Room, RoseBy, Some, Val, as_entries, as_tracker, begun_body, body_occurs, body_of, cells_occur, entries_in, entries_view, false, first, is_some, items_in, length, map_of, no_entries, no_vals, occurs, takes_memory, true, vals_occur, vals_view, value_of, values_of, view, whole_body};
+ghost use Rattle.fr_frame.specs.Common.{Conserved, IfErr, IfOk, IsOk, IsSome, OnErr, OnOk, Room, RoseBy, Some, Val, as_tracker, begun_body, body_occurs, body_of, cells_occur, entries_in, entries_view, false, first, is_some, items_in, length, map_of, no_entries, no_vals, occurs, takes_memory, true, vals_occur, vals_view, value_of, view, whole_body};
 ghost use Rattle.fr_shape.specs.Val.{list_of, set_of};
 ghost use Rattle.fr_model.specs.Complete.{value_as};
-ghost use Rattle.fr_model.specs.Trackers.{EntriesKind as TreeEntriesKind};
 ghost use Rattle.fr_frame.specs.Bodies.{around_as, boxed_as, boxes, gathers, is_around};
 
 use crate::children::Children;
 use crate::dynamics::{array_of, object_of};
 use crate::gathering::{distinct_items, merge_entries};
-use crate::keys::Keys;
 use crate::pieces::release_piece;
 use crate::places::{ContentKind, EntriesKind, ItemsKind, Piece, Tracker};
 use fr_shape::{Items, Ledger, OutOfMemory, Value};
@@ -24,14 +22,14 @@ fn list_of(values: Vec<Value>) -> Value
 
 /// The value that is made of those of the children of a place that is begun so, where that holds no
 /// box and isn't put together anew. Takes no memory.
-fn value_of_parts(tracker: Tracker, values: Vec<Value>) -> Value
-    requires no_box { boxes (as_tracker tracker) ≡ false }
-    requires as_it_is { gathers (as_tracker tracker) ≡ false }
-    ensures { view result ≡ value_as (as_tracker tracker) (vals_view values.items) }
+fn value_of_parts(tracker: &Tracker, values: Vec<Value>) -> Value
+    requires no_box { boxes (as_tracker tracker.now) ≡ false }
+    requires as_it_is { gathers (as_tracker tracker.now) ≡ false }
+    ensures { view result ≡ value_as (as_tracker tracker.now) (vals_view values.items) }
 {
     match tracker {
         Tracker::Fields(None) | Tracker::Elements => Value::Product(Items::from_vec(values)),
-        Tracker::Fields(Some(k)) => Value::Variant(k, Items::from_vec(values)),
+        Tracker::Fields(Some(k)) => Value::Variant(*k, Items::from_vec(values)),
         Tracker::Items(ItemsKind::List) => list_of(values),
         Tracker::Content(_) | Tracker::Entries(_) => unreachable!(),
         Tracker::Items(ItemsKind::Slice | ItemsKind::ClosedSlice) => unreachable!(),
@@ -52,10 +50,10 @@ fn only(mut values: Vec<Value>) -> Value
 
 /// What the box of a place that is begun so holds: the value of its one child, or the list of a
 /// slice's items. Takes no memory.
-fn value_in_box(tracker: Tracker, values: Vec<Value>) -> Value
-    requires boxes { boxes (as_tracker tracker) ≡ true }
-    requires one { is_around (as_tracker tracker) ≡ true → length values.items ≡ 1 }
-    ensures { view result ≡ boxed_as (as_tracker tracker) (vals_view values.items) }
+fn value_in_box(tracker: &Tracker, values: Vec<Value>) -> Value
+    requires boxes { boxes (as_tracker tracker.now) ≡ true }
+    requires one { is_around (as_tracker tracker.now) ≡ true → length values.items ≡ 1 }
+    ensures { view result ≡ boxed_as (as_tracker tracker.now) (vals_view values.items) }
 {
     match tracker {
         Tracker::Content(_) => only(values),
@@ -66,9 +64,9 @@ fn value_in_box(tracker: Tracker, values: Vec<Value>) -> Value
 }
 
 /// The value of a place that is begun so, whose box holds this. Takes no memory.
-fn value_of_box(tracker: Tracker, held: Box<Value>) -> Value
-    requires { boxes (as_tracker tracker) ≡ true }
-    ensures { view result ≡ around_as (as_tracker tracker) (view held.value) }
+fn value_of_box(tracker: &Tracker, held: Box<Value>) -> Value
+    requires { boxes (as_tracker tracker.now) ≡ true }
+    ensures { view result ≡ around_as (as_tracker tracker.now) (view held.value) }
 {
     match tracker {
         Tracker::Content(ContentKind::Some) => Value::Some(held),
@@ -123,26 +121,28 @@ fn map_of(alloc: Global, values: Vec<Value>, ledger: &mut Ledger) -> Result<Valu
 }
 
 /// The value that is put together anew of those of the children of a place that is begun so.
-/// Without memory they are handed back.
+/// Without memory they are handed back, and the tracker stays.
 fn value_gathered(
     alloc: Global,
-    tracker: Tracker,
+    tracker: &mut Tracker,
     values: Vec<Value>,
     ledger: &mut Ledger,
 ) -> Result<Value, Vec<Value>>
-    requires gathers { gathers (as_tracker tracker) ≡ true }
+    requires gathers { gathers (as_tracker tracker.old) ≡ true }
     requires room { Room (vals_occur (vals_view values.items)) ledger.old }
     ensures value { IfOk result (λ v.
-        view v ≡ value_as (as_tracker tracker) (vals_view values.items)) }
+        view v ≡ value_as (as_tracker tracker.old) (vals_view values.items)) }
     ensures conserved { IfOk result (λ v. Conserved (vals_occur (vals_view values.items)) ledger.old
         (occurs (view v)) ledger.new) }
+    ensures tracker_kept { OnErr result (as_tracker tracker.new ≡ as_tracker tracker.old) }
     ensures handed_back { IfErr result (λ back. back.items ≡ values.items) }
     ensures ledger_kept { OnErr result (ledger.new ≡ ledger.old) }
 {
     match tracker {
         Tracker::Items(ItemsKind::Set) => set_of(alloc, values, ledger),
-        Tracker::Entries(EntriesKind::Map(_)) => map_of(alloc, values, ledger),
         Tracker::Items(ItemsKind::Array) => array_of(alloc, values, ledger),
+        Tracker::Entries(EntriesKind::Map(_)) => map_of(alloc, values, ledger),
+        Tracker::Entries(EntriesKind::Object(keys)) => object_of(alloc, keys, values, ledger),
         Tracker::Items(ItemsKind::List | ItemsKind::Slice | ItemsKind::ClosedSlice) => {
             unreachable!()
         }
@@ -151,21 +151,22 @@ fn value_gathered(
 }
 
 /// The value of a place that is begun with each child there, which holds no box. Without memory the
-/// children are handed back.
+/// children are handed back, and the tracker stays.
 fn value_of_children(
     alloc: Global,
-    tracker: Tracker,
+    tracker: &mut Tracker,
     children: Children,
     ledger: &mut Ledger,
 ) -> Result<Value, Children>
-    requires no_box { boxes (as_tracker tracker) ≡ false }
-    requires there { IsSome (value_of (begun_body (as_tracker tracker) children)) }
+    requires no_box { boxes (as_tracker tracker.old) ≡ false }
+    requires there { IsSome (value_of (begun_body (as_tracker tracker.old) children)) }
     requires room { Room (cells_occur children) ledger.old }
     ensures value { IfOk result (λ v.
-        value_of (begun_body (as_tracker tracker) children) ≡ Some (view v)) }
-    ensures memory { gathers (as_tracker tracker) ≡ false → IsOk result }
+        value_of (begun_body (as_tracker tracker.old) children) ≡ Some (view v)) }
+    ensures memory { gathers (as_tracker tracker.old) ≡ false → IsOk result }
     ensures conserved { IfOk result (λ v. Conserved (cells_occur children) ledger.old
         (occurs (view v)) ledger.new) }
+    ensures tracker_kept { OnErr result (as_tracker tracker.new ≡ as_tracker tracker.old) }
     ensures handed_back { IfErr result (λ back. back ≡ children) }
     ensures ledger_kept { OnErr result (ledger.new ≡ ledger.old) }
 {
@@ -179,56 +180,33 @@ fn value_of_children(
     }
 }
 
-/// The value of a dynamic object with each child there. Without memory its keys and children are
-/// handed back.
-fn value_of_object(
-    alloc: Global,
-    keys: Keys,
-    children: Children,
-    ledger: &mut Ledger,
-) -> Result<Value, (Keys, Children)>
-    requires there { IsSome (values_of children) }
-    requires room { Room (cells_occur children) ledger.old }
-    ensures value { IfOk result (λ v.
-        value_of (begun_body (as_entries (TreeEntriesKind.Object keys)) children) ≡ Some (view v)) }
-    ensures conserved { IfOk result (λ v. Conserved (cells_occur children) ledger.old
-        (occurs (view v)) ledger.new) }
-    ensures keys_back { IfErr result (λ back. back.0 ≡ keys) }
-    ensures handed_back { IfErr result (λ back. back.1 ≡ children) }
-    ensures ledger_kept { OnErr result (ledger.new ≡ ledger.old) }
-{
-    let (values, given) = children.into_parts();
-    match object_of(alloc, keys, values, ledger) {
-        Ok(value) => Ok(value),
-        Err((keys, back)) => Err((keys, Children::of_parts(back, given))),
-    }
-}
-
 /// The value of a place that is begun with each child there, which holds this box. Takes no memory.
-fn value_made(tracker: Tracker, children: Children, mut held: Box<Value>) -> Value
-    requires boxes { boxes (as_tracker tracker) ≡ true }
-    requires there { IsSome (value_of (begun_body (as_tracker tracker) children)) }
-    ensures { value_of (begun_body (as_tracker tracker) children) ≡ Some (view result) }
+fn value_made(tracker: &Tracker, children: Children, mut held: Box<Value>) -> Value
+    requires boxes { boxes (as_tracker tracker.now) ≡ true }
+    requires there { IsSome (value_of (begun_body (as_tracker tracker.now) children)) }
+    ensures { value_of (begun_body (as_tracker tracker.now) children) ≡ Some (view result) }
 {
     *held = value_in_box(tracker, children.into_values());
     value_of_box(tracker, held)
 }
 
 /// The value of a place that is begun with each child there. Without memory the children are handed
-/// back.
+/// back, and the tracker stays.
 fn value_of_begun(
     alloc: Global,
-    tracker: Tracker,
+    tracker: &mut Tracker,
     children: Children,
     ledger: &mut Ledger,
 ) -> Result<Value, Children>
-    requires there { IsSome (value_of (begun_body (as_tracker tracker) children)) }
+    requires there { IsSome (value_of (begun_body (as_tracker tracker.old) children)) }
     requires room { Room (cells_occur children) ledger.old }
     ensures value { IfOk result (λ v.
-        value_of (begun_body (as_tracker tracker) children) ≡ Some (view v)) }
-    ensures memory { takes_memory (begun_body (as_tracker tracker) children) ≡ false → IsOk result }
+        value_of (begun_body (as_tracker tracker.old) children) ≡ Some (view v)) }
+    ensures memory { takes_memory (begun_body (as_tracker tracker.old) children) ≡ false
+        → IsOk result }
     ensures conserved { IfOk result (λ v. Conserved (cells_occur children) ledger.old
         (occurs (view v)) ledger.new) }
+    ensures tracker_kept { OnErr result (as_tracker tracker.new ≡ as_tracker tracker.old) }
     ensures handed_back { IfErr result (λ back. back ≡ children) }
     ensures ledger_kept { OnErr result (ledger.new ≡ ledger.old) }
 {
@@ -255,14 +233,12 @@ fn value_or_back(alloc: Global, piece: Piece, ledger: &mut Ledger) -> Result<Val
 {
     match piece {
         Piece::Whole(value) => Ok(value),
-        Piece::Begun(tracker, children) => match value_of_begun(alloc, tracker, children, ledger) {
-            Ok(value) => Ok(value),
-            Err(back) => Err(Piece::Begun(tracker, back)),
-        },
-        Piece::Object(keys, children) => match value_of_object(alloc, keys, children, ledger) {
-            Ok(value) => Ok(value),
-            Err((keys, back)) => Err(Piece::Object(keys, back)),
-        },
+        Piece::Begun(mut tracker, children) => {
+            match value_of_begun(alloc, &mut tracker, children, ledger) {
+                Ok(value) => Ok(value),
+                Err(back) => Err(Piece::Begun(tracker, back)),
+            }
+        }
         Piece::Entered => unreachable!(),
     }
 }
@@ -312,6 +288,9 @@ pub(crate) fn make_whole(
         (body_occurs (body_of piece.new)) ledger.new }
     ensures ledger_kept { OnErr result (ledger.new ≡ ledger.old) }
 {
+    if let Piece::Whole(_) = piece {
+        return Ok(());
+    }
     let before = std::mem::replace(piece, Piece::Entered);
     match value_or_back(alloc, before, ledger) {
         Ok(value) => {

@@ -1,12 +1,16 @@
 //! Taking a value apart into those of the children that it has at a place that is begun.
 ghost use Rattle.std.specs.Prelude.{◌+◌, ◌≡◌};
-ghost use Rattle.fr_frame.specs.Common.{IfOk, IfSome, IsSome, OnErr, Some, as_tracker, cells_of_vals, entries_of, entries_view, in_turn, length, option_map, parts_of, set_items_of, view};
-ghost use Rattle.fr_model.specs.Places.{items_of};
+ghost use Rattle.fr_frame.specs.Common.{IfOk, IfSome, IsSome, OnErr, Some, as_content, as_entries, as_tracker, cells_of_vals, entries_of, entries_view, dynamic_in, in_turn, length, member_vals, option_map, parts_of, set_items_of, view};
+ghost use Rattle.fr_model.specs.Contents.{content_of};
+ghost use Rattle.fr_model.specs.Dynamics.{members_of_object, object_keys};
+ghost use Rattle.fr_model.specs.Places.{base_in, items_of};
 ghost use Rattle.fr_model.specs.Step.{parts_as};
+ghost use Rattle.fr_model.specs.Trackers.{ContentKind as TreeContentKind, EntriesKind as TreeEntriesKind};
 ghost use Rattle.fr_model.specs.Tree.{over_base};
 
 use crate::children::Children;
-use crate::places::{EntriesKind, ItemsKind, Tracker};
+use crate::dynamics::{elements_of, members_of};
+use crate::places::{ContentKind, EntriesKind, ItemsKind, Tracker};
 use fr_shape::{Items, OutOfMemory, Value};
 use std::alloc::Global;
 
@@ -106,63 +110,92 @@ fn put_entries(children: &mut Children, mut entries: Vec<(Value, Value)>)
     }
 }
 
-/// Takes keys and values, in turn, out of a map. It stays as it was where there is no memory for
-/// them.
-fn children_of_map(alloc: Global, value: &mut Value) -> Result<Children, OutOfMemory>
+/// Takes keys and values, in turn, out of a map, and tells that it is begun over its entries. It
+/// stays as it was where there is no memory for them, or where they are too many to be numbered.
+fn children_of_map(alloc: Global, value: &mut Value) -> Result<(Tracker, Children), OutOfMemory>
     requires { IsSome (entries_of (view value.old)) }
-    ensures parts { IfOk result (λ children.
-        option_map cells_of_vals (entries_of (view value.old)) ≡ Some children) }
+    ensures over { IfOk result (λ made.
+        as_tracker made.0 ≡ as_entries (TreeEntriesKind.Map (base_in (view value.old)))) }
+    ensures parts { IfOk result (λ made.
+        option_map cells_of_vals (entries_of (view value.old)) ≡ Some made.1) }
     ensures refused { OnErr result (view value.new ≡ view value.old) }
 {
     let count = count_entries(value);
-    if count > usize::MAX / 2 {
+    let Ok(base) = u32::try_from(count) else {
         return Err(OutOfMemory);
-    }
+    };
     let mut children = Children::none_yet(alloc, 2 * count)?;
     let entries = entries_of(std::mem::replace(value, Value::Unit));
     put_entries(&mut children, entries);
-    Ok(children)
+    Ok((Tracker::Entries(EntriesKind::Map(base)), children))
 }
 
-/// As what a place that holds this is begun: a map over the entries that it has. None where they
-/// are too many to be numbered.
-pub(crate) fn over_base(tracker: Tracker, value: &Value) -> Option<Tracker>
-    ensures over { IfSome result (λ over.
-        as_tracker over ≡ over_base (as_tracker tracker) (view value.now)) }
+/// Takes the content out of a whole `Some`. Takes no memory.
+fn content_of(value: Value) -> Value
+    requires { IsSome (content_of (view value)) }
+    ensures { content_of (view value) ≡ Some (view result) }
 {
-    match tracker {
-        Tracker::Entries(EntriesKind::Map(_)) => match value {
-            Value::Map(entries) => {
-                Some(Tracker::Entries(EntriesKind::Map(u32::try_from(entries.len()).ok()?)))
-            },
-            _ => Some(Tracker::Entries(EntriesKind::Map(0))),
-        },
-        Tracker::Fields(_) | Tracker::Elements | Tracker::Content(_) | Tracker::Items(_) => {
-            Some(tracker)
-        }
+    match value {
+        Value::Some(held) => Box::into_inner(held),
+        _ => unreachable!(),
     }
 }
 
-/// Takes the values of its children out of a value that has some, as children that are all there.
-/// The value stays where there is no memory for them.
+/// Takes the content out of a whole `Some`. It stays as it was where there is no memory for it.
+fn children_of_some(alloc: Global, value: &mut Value) -> Result<Children, OutOfMemory>
+    requires { IsSome (content_of (view value.old)) }
+    ensures parts { IfOk result (λ children. option_map cells_of_vals
+        (parts_as (as_content TreeContentKind.Some) (view value.old)) ≡ Some children) }
+    ensures refused { OnErr result (view value.new ≡ view value.old) }
+{
+    let mut children = Children::none_yet(alloc, 1)?;
+    children.put(0, content_of(std::mem::replace(value, Value::Unit)));
+    Ok(children)
+}
+
+/// Takes keys and values of its entries out of a dynamic object, and tells that it is begun under
+/// these keys. It stays as it was where there is no memory for them.
+fn children_of_object(alloc: Global, value: &mut Value) -> Result<(Tracker, Children), OutOfMemory>
+    requires { IsSome (members_of_object (dynamic_in (view value.old))) }
+    ensures over { IfOk result (λ made. as_tracker made.0
+        ≡ as_entries (TreeEntriesKind.Object (object_keys (view value.old)))) }
+    ensures parts { IfOk result (λ made. option_map cells_of_vals
+        (option_map member_vals (members_of_object (dynamic_in (view value.old))))
+        ≡ Some made.1) }
+    ensures refused { OnErr result (view value.new ≡ view value.old) }
+{
+    let (keys, children) = members_of(alloc, value)?;
+    Ok((Tracker::Entries(EntriesKind::Object(keys)), children))
+}
+
+/// Takes the values of its children out of a value that has some, as children that are all there,
+/// and tells as what it is begun with them: a map over the entries that it has, an object under its
+/// keys. The value stays where there is no memory for them.
 pub(crate) fn children_of(
     alloc: Global,
     tracker: Tracker,
     value: &mut Value,
-) -> Result<Children, OutOfMemory>
+) -> Result<(Tracker, Children), OutOfMemory>
     requires { IsSome (parts_as (as_tracker tracker) (view value.old)) }
-    ensures parts { IfOk result (λ children.
-        option_map cells_of_vals (parts_as (as_tracker tracker) (view value.old)) ≡ Some children) }
+    ensures over { IfOk result (λ made.
+        as_tracker made.0 ≡ over_base (as_tracker tracker) (view value.old)) }
+    ensures parts { IfOk result (λ made.
+        option_map cells_of_vals (parts_as (as_tracker tracker) (view value.old)) ≡ Some made.1) }
     ensures refused { OnErr result (view value.new ≡ view value.old) }
 {
     match tracker {
-        Tracker::Fields(None) | Tracker::Elements => children_of_product(alloc, value),
-        Tracker::Items(ItemsKind::List) => children_of_list(alloc, value),
-        Tracker::Items(ItemsKind::Set) => children_of_set(alloc, value),
+        Tracker::Fields(None) => Ok((tracker, children_of_product(alloc, value)?)),
+        Tracker::Elements => Ok((tracker, children_of_product(alloc, value)?)),
+        Tracker::Content(ContentKind::Some) => Ok((tracker, children_of_some(alloc, value)?)),
+        Tracker::Items(ItemsKind::List) => Ok((tracker, children_of_list(alloc, value)?)),
+        Tracker::Items(ItemsKind::Set) => Ok((tracker, children_of_set(alloc, value)?)),
+        Tracker::Items(ItemsKind::Array) => Ok((tracker, elements_of(alloc, value)?)),
         Tracker::Entries(EntriesKind::Map(_)) => children_of_map(alloc, value),
-        Tracker::Fields(Some(_)) | Tracker::Content(_) => unreachable!(),
-        Tracker::Items(ItemsKind::Slice | ItemsKind::ClosedSlice | ItemsKind::Array) => {
+        Tracker::Entries(EntriesKind::Object(_)) => children_of_object(alloc, value),
+        Tracker::Fields(Some(_)) => unreachable!(),
+        Tracker::Content(ContentKind::Ok | ContentKind::Err | ContentKind::Pointer) => {
             unreachable!()
         }
+        Tracker::Items(ItemsKind::Slice | ItemsKind::ClosedSlice) => unreachable!(),
     }
 }

@@ -1,18 +1,17 @@
 //! What is put at one place, by itself.
 ghost use Rattle.std.specs.Prelude.{◌+◌, ◌<◌, ◌≡◌};
-ghost use Rattle.fr_frame.specs.Common.{Conserved, IfSome, IsGrowing, IsSetBody, IsSome, OnErr, OnOk, Room, RoseBy, Some, absent, added, added_entry, as_tracker, begun_body, body_occurs, body_of, cell_at, cells_occur, count_cells, def_of, given, is_begun_body, is_list_body, length, linked, occurs, opened, opened_some, option_and_then, option_map, product, reformed, slice_get, slice_set, slot_of_cell, unlinked, vals_view, value_occurs, view, whole_body, with_cell, with_ended, ℕ};
+ghost use Rattle.fr_frame.specs.Common.{Conserved, IfSome, IsGrowing, IsSetBody, IsSome, OnErr, OnOk, Room, RoseBy, Some, absent, added, added_entry, as_tracker, begun_body, body_occurs, body_of, cell_at, cells_occur, count_cells, def_of, given, is_begun_body, is_list_body, length, linked, occurs, opened, option_and_then, option_map, product, reformed, slice_get, slice_set, slot_of_cell, unlinked, vals_view, value_occurs, view, whole_body, with_cell, with_ended, ℕ};
 ghost use Rattle.fr_shape.specs.Fills.{is_empty_struct};
-ghost use Rattle.fr_model.specs.Contents.{content_of};
 ghost use Rattle.fr_model.specs.Trackers.{Tracker as TreeTracker};
-ghost use Rattle.fr_frame.specs.Bodies.{fresh_body, HoldsSome, IsMapBody, MayOpen};
+ghost use Rattle.fr_frame.specs.Bodies.{fresh_body, IsMapBody, MayOpen};
 ghost use Rattle.fr_frame.specs.Cells.{held_value};
 ghost use Rattle.fr_frame.specs.Growing.{grown, MayGrow};
 ghost use Rattle.fr_frame.specs.declared.places.SlotId.{SlotId as Number};
 
 use crate::children::Children;
 use crate::dynamic_pieces::add_entry_for;
-use crate::opening::{children_of, over_base};
-use crate::places::{ContentKind, Growth, Piece, SlotId, Tracker};
+use crate::opening::children_of;
+use crate::places::{Growth, Piece, SlotId, Tracker};
 use fr_shape::{Items, Ledger, OutOfMemory, ShapeId, ShapeTable, Value, release};
 use std::alloc::Global;
 
@@ -41,7 +40,6 @@ pub(crate) fn slot_at(piece: &Piece, i: usize) -> Option<SlotId>
 {
     match piece {
         Piece::Begun(_, children) => slot_of_child(children, i),
-        Piece::Object(_, children) => slot_of_child(children, i),
         Piece::Entered | Piece::Whole(_) => None,
     }
 }
@@ -72,7 +70,6 @@ pub(crate) fn link(piece: &mut Piece, i: u32, slot: SlotId) -> Option<Value>
 {
     match piece {
         Piece::Begun(_, children) => link_child(children, i, slot),
-        Piece::Object(_, children) => link_child(children, i, slot),
         Piece::Entered | Piece::Whole(_) => None,
     }
 }
@@ -102,7 +99,6 @@ pub(crate) fn unlink(piece: &mut Piece, i: u32, slot: SlotId)
 {
     match piece {
         Piece::Begun(_, children) => unlink_child(children, i, slot),
-        Piece::Object(_, children) => unlink_child(children, i, slot),
         Piece::Entered | Piece::Whole(_) => {}
     }
 }
@@ -130,7 +126,6 @@ pub(crate) fn put_child(piece: &mut Piece, i: u32, value: Value)
 {
     match piece {
         Piece::Begun(_, children) => put_at(children, i, value),
-        Piece::Object(_, children) => put_at(children, i, value),
         Piece::Entered | Piece::Whole(_) => unreachable!(),
     }
 }
@@ -164,53 +159,12 @@ pub(crate) fn open(
             Ok(())
         }
         Piece::Whole(value) => {
-            let Some(over) = over_base(tracker, value) else {
-                return Err(OutOfMemory);
-            };
-            let children = children_of(alloc, tracker, value)?;
+            let (over, children) = children_of(alloc, tracker, value)?;
             *piece = Piece::Begun(over, children);
             Ok(())
         }
-        Piece::Begun(..) | Piece::Object(..) => Ok(()),
+        Piece::Begun(..) => Ok(()),
     }
-}
-
-/// Takes the content out of a whole `Some`. Takes no memory.
-fn content_of(value: Value) -> Value
-    requires { IsSome (content_of (view value)) }
-    ensures { content_of (view value) ≡ Some (view result) }
-{
-    match value {
-        Value::Some(held) => Box::into_inner(held),
-        _ => unreachable!(),
-    }
-}
-
-/// The value of a place that is whole.
-fn held_in(piece: Piece) -> Value
-    requires { HoldsSome (body_of piece) }
-    ensures { body_of piece ≡ whole_body (view result) }
-{
-    match piece {
-        Piece::Whole(value) => value,
-        Piece::Entered | Piece::Begun(..) | Piece::Object(..) => unreachable!(),
-    }
-}
-
-/// Begins a whole `Some` in its stead, around its content. It stays as it was where there is no
-/// memory for that.
-pub(crate) fn open_some(alloc: Global, piece: &mut Piece) -> Result<(), OutOfMemory>
-    requires { HoldsSome (body_of piece.old) }
-    ensures opened { OnOk result (body_of piece.new ≡ opened_some (body_of piece.old)) }
-    ensures refused { OnErr result (body_of piece.new ≡ body_of piece.old) }
-    ensures tokens { (t : ℕ) →
-        body_occurs (body_of piece.new) t ≡ body_occurs (body_of piece.old) t }
-{
-    let mut children = Children::none_yet(alloc, 1)?;
-    let value = held_in(std::mem::replace(piece, Piece::Entered));
-    children.put(0, content_of(value));
-    *piece = Piece::Begun(Tracker::Content(ContentKind::Some), children);
-    Ok(())
 }
 
 /// Whether a place is begun as a list or as a pointer to a slice.
@@ -219,7 +173,7 @@ pub(crate) fn is_list(piece: &Piece) -> bool
 {
     match piece {
         Piece::Begun(tracker, _) => tracker.keeps_items(),
-        Piece::Object(..) | Piece::Entered | Piece::Whole(_) => false,
+        Piece::Entered | Piece::Whole(_) => false,
     }
 }
 
@@ -228,7 +182,7 @@ pub(crate) fn is_begun(piece: &Piece) -> bool
     ensures { result ≡ is_begun_body (body_of piece.now) }
 {
     match piece {
-        Piece::Begun(..) | Piece::Object(..) => true,
+        Piece::Begun(..) => true,
         Piece::Entered | Piece::Whole(_) => false,
     }
 }
@@ -243,7 +197,7 @@ fn add_child(alloc: Global, piece: &mut Piece) -> Result<(), OutOfMemory>
 {
     match piece {
         Piece::Begun(_, children) => children.push(alloc),
-        Piece::Entered | Piece::Whole(_) | Piece::Object(..) => unreachable!(),
+        Piece::Entered | Piece::Whole(_) => unreachable!(),
     }
 }
 
@@ -257,11 +211,11 @@ fn add_entry(alloc: Global, piece: &mut Piece) -> Result<(), OutOfMemory>
 {
     match piece {
         Piece::Begun(_, children) => children.push_two(alloc),
-        Piece::Entered | Piece::Whole(_) | Piece::Object(..) => unreachable!(),
+        Piece::Entered | Piece::Whole(_) => unreachable!(),
     }
 }
 
-/// More at a begun place, behind its children, none of which is there yet.
+/// More at a begun place, behind the children that it has, and nothing there yet.
 pub(crate) fn grow(alloc: Global, piece: &mut Piece, growth: Growth) -> Result<(), OutOfMemory>
     requires { MayGrow growth (body_of piece.old) }
     ensures grown { OnOk result (body_of piece.new ≡ grown growth (body_of piece.old)) }
@@ -301,7 +255,6 @@ pub(crate) fn count_children(piece: &Piece) -> usize
 {
     match piece {
         Piece::Begun(_, children) => children.len(),
-        Piece::Object(_, children) => children.len(),
         Piece::Entered | Piece::Whole(_) => 0,
     }
 }
@@ -314,7 +267,6 @@ pub(crate) fn reform(piece: &mut Piece, tracker: Tracker)
 {
     match std::mem::replace(piece, Piece::Entered) {
         Piece::Begun(_, children) => *piece = Piece::Begun(tracker, children),
-        Piece::Object(_keys, children) => *piece = Piece::Begun(tracker, children),
         Piece::Whole(value) => *piece = Piece::Whole(value),
         Piece::Entered => {}
     }
@@ -363,6 +315,5 @@ pub(crate) fn release_piece(piece: Piece, ledger: &mut Ledger)
         Piece::Entered => {}
         Piece::Whole(value) => release(value, ledger),
         Piece::Begun(_, children) => release_children(children, ledger),
-        Piece::Object(_keys, children) => release_children(children, ledger),
     }
 }

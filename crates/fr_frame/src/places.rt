@@ -1,7 +1,7 @@
 //! The places in slots.
 ghost use Rattle.std.specs.Borrow.{Lends, sem};
-ghost use Rattle.std.specs.Prelude.{◌≡◌};
-ghost use Rattle.fr_frame.specs.Common.{None, Some, as_entries};
+ghost use Rattle.std.specs.Prelude.{[], false, not, IsOk, ◌≡◌};
+ghost use Rattle.fr_frame.specs.Common.{IfOk, None, Some, as_entries};
 ghost use Rattle.fr_model.specs.Paths.{step_as};
 ghost use Rattle.fr_model.specs.Trackers.{EntriesKind as TreeEntriesKind};
 
@@ -10,7 +10,8 @@ use crate::keys::Keys;
 use fr_arena::{Idx, ListRope};
 use fr_path::PathStep;
 use fr_plan::NodeId;
-use fr_shape::{Text, Value};
+use fr_shape::{OutOfMemory, Text, Value};
+use std::alloc::Global;
 
 /// The number of a slot.
 #[derive(Clone, Copy, PartialEq, Eq, Hash)]
@@ -61,16 +62,18 @@ pub enum ItemsKind {
 }
 
 /// Whose entries a place has: those of a map, whose keys and values take turns, over as many as it
-/// had when it was begun.
-#[derive(Clone, Copy)]
+/// had when it was begun; or those of a dynamic object, with a child for the value under each of
+/// these keys.
+#[derive(Drop)]
 pub enum EntriesKind {
     Map(u32),
+    Object(Keys),
 }
 
 /// As what a place is begun, told by what its children are: the fields of a struct, or of an enum's
 /// variant of this number, the elements of an array, the one thing that it holds, items, or
 /// entries.
-#[derive(Clone, Copy)]
+#[derive(Drop)]
 pub enum Tracker {
     Fields(Option<u32>),
     Elements,
@@ -92,19 +95,38 @@ fn entry_step(base: u32, i: u32) -> PathStep
     }
 }
 
+impl EntriesKind {
+    ghost use Rattle.fr_model.specs.Trackers.{keys_of_tracker, same_keys};
+    ghost use Rattle.fr_frame.specs.Heap.{as_entries_kind};
+
+    /// Whether these are the entries of an object with keys.
+    fn has_keys(&self) -> bool
+        ensures { result
+            ≡ not (same_keys (keys_of_tracker (as_entries (as_entries_kind self.now))) []) }
+    {
+        match self {
+            EntriesKind::Map(_) => false,
+            EntriesKind::Object(keys) => keys.len() > 0,
+        }
+    }
+}
+
 impl Tracker {
-    ghost use Rattle.fr_model.specs.Trackers.{base_of_tracker, tracker_number, same_tracker};
+    ghost use Rattle.fr_model.specs.DynamicPlaces.{is_object_tracker};
+    ghost use Rattle.fr_model.specs.Trackers.{base_of_tracker, keys_of_tracker, tracker_number, same_keys, same_tracker};
     ghost use Rattle.fr_frame.specs.Bodies.{boxes, gathers};
     ghost use Rattle.fr_frame.specs.Heap.{as_tracker, fields_of_tracker};
     ghost use Rattle.fr_frame.specs.Items.{keeps_items};
     ghost use Rattle.fr_frame.specs.Outlines.{has_items};
 
     /// The step to child `i` of a place that is begun so. A content, a side or a pointee is child
-    /// 0; of a map's children each other one is a key, before its value.
-    pub fn step(self, i: u32) -> PathStep
-        ensures step { result ≡ step_as (as_tracker self) i }
+    /// 0; of a map's children each other one is a key, before its value. Only the step to an entry
+    /// of an object takes memory, for its key.
+    pub fn step(&self, alloc: Global, i: u32) -> Result<PathStep, OutOfMemory>
+        ensures step { IfOk result (λ step. step ≡ step_as (as_tracker self.now) i) }
+        ensures memory { is_object_tracker (as_tracker self.now) ≡ false → IsOk result }
     {
-        match self {
+        Ok(match self {
             Tracker::Fields(_) => PathStep::Field(i),
             Tracker::Elements => PathStep::Index(i),
             Tracker::Content(ContentKind::Some) => PathStep::OptionSome,
@@ -115,13 +137,14 @@ impl Tracker {
             Tracker::Items(
                 ItemsKind::List | ItemsKind::Slice | ItemsKind::ClosedSlice | ItemsKind::Array,
             ) => PathStep::Index(i),
-            Tracker::Entries(EntriesKind::Map(base)) => entry_step(base, i),
-        }
+            Tracker::Entries(EntriesKind::Map(base)) => entry_step(*base, i),
+            Tracker::Entries(EntriesKind::Object(keys)) => PathStep::Entry(keys.copy(alloc, i)?),
+        })
     }
 
     /// A number for each.
-    fn number(self) -> u64
-        ensures { result ≡ tracker_number (as_tracker self) }
+    fn number(&self) -> u64
+        ensures { result ≡ tracker_number (as_tracker self.now) }
     {
         match self {
             Tracker::Fields(None) => 0,
@@ -136,30 +159,45 @@ impl Tracker {
             Tracker::Items(ItemsKind::Set) => 9,
             Tracker::Entries(EntriesKind::Map(_)) => 10,
             Tracker::Items(ItemsKind::Array) => 11,
-            Tracker::Fields(Some(k)) => 13 + k as u64,
+            Tracker::Entries(EntriesKind::Object(_)) => 12,
+            Tracker::Fields(Some(k)) => 13 + *k as u64,
         }
     }
 
     /// How many entries a map had when it was begun.
-    fn base(self) -> u32
-        ensures { result ≡ base_of_tracker (as_tracker self) }
+    fn base(&self) -> u32
+        ensures { result ≡ base_of_tracker (as_tracker self.now) }
     {
         match self {
-            Tracker::Entries(EntriesKind::Map(base)) => base,
+            Tracker::Entries(EntriesKind::Map(base)) => *base,
+            Tracker::Entries(EntriesKind::Object(_)) => 0,
             Tracker::Fields(_) | Tracker::Elements | Tracker::Content(_) | Tracker::Items(_) => 0,
         }
     }
 
-    /// Whether both are the same way to be begun.
-    pub fn is(self, other: Tracker) -> bool
-        ensures same { result ≡ same_tracker (as_tracker self) (as_tracker other) }
+    /// Whether it is an object with keys.
+    fn has_keys(&self) -> bool
+        ensures { result ≡ not (same_keys (keys_of_tracker (as_tracker self.now)) []) }
     {
-        self.number() == other.number() && self.base() == other.base()
+        match self {
+            Tracker::Entries(kind) => kind.has_keys(),
+            Tracker::Fields(_) | Tracker::Elements | Tracker::Content(_) | Tracker::Items(_) => {
+                false
+            }
+        }
+    }
+
+    /// Whether both are the same way to be begun, where the other is no object with keys.
+    pub fn is(&self, other: &Tracker) -> bool
+        requires keyless { keys_of_tracker (as_tracker other.now) ≡ [] }
+        ensures same { result ≡ same_tracker (as_tracker self.now) (as_tracker other.now) }
+    {
+        !self.has_keys() && self.base() == other.base() && self.number() == other.number()
     }
 
     /// Whether what is made of a place that is begun so holds a box.
-    pub(crate) fn boxes(self) -> bool
-        ensures { result ≡ boxes (as_tracker self) }
+    pub(crate) fn boxes(&self) -> bool
+        ensures { result ≡ boxes (as_tracker self.now) }
     {
         match self {
             Tracker::Content(_) | Tracker::Items(ItemsKind::Slice | ItemsKind::ClosedSlice) => true,
@@ -169,8 +207,8 @@ impl Tracker {
     }
 
     /// Whether what is made of a place that is begun so is put together anew.
-    pub(crate) fn gathers(self) -> bool
-        ensures { result ≡ gathers (as_tracker self) }
+    pub(crate) fn gathers(&self) -> bool
+        ensures { result ≡ gathers (as_tracker self.now) }
     {
         match self {
             Tracker::Items(ItemsKind::Set | ItemsKind::Array) | Tracker::Entries(_) => true,
@@ -181,9 +219,9 @@ impl Tracker {
 
     /// Whether the items of a place that is begun so keep their slots: it is a list or a pointer to
     /// a slice.
-    pub(crate) fn keeps_items(self) -> bool
-        ensures told { result ≡ has_items (as_tracker self) }
-        ensures kept { result ≡ keeps_items self }
+    pub(crate) fn keeps_items(&self) -> bool
+        ensures told { result ≡ has_items (as_tracker self.now) }
+        ensures kept { result ≡ keeps_items self.now }
     {
         match self {
             Tracker::Items(ItemsKind::List | ItemsKind::Slice | ItemsKind::ClosedSlice) => true,
@@ -196,11 +234,11 @@ impl Tracker {
 
     /// Whose fields the children of a place are that is begun so, if they are fields: there are
     /// fills and validators for them alone.
-    pub(crate) fn fields(self) -> Option<Option<u32>>
-        ensures { result ≡ fields_of_tracker (as_tracker self) }
+    pub(crate) fn fields(&self) -> Option<Option<u32>>
+        ensures { result ≡ fields_of_tracker (as_tracker self.now) }
     {
         match self {
-            Tracker::Fields(selected) => Some(selected),
+            Tracker::Fields(selected) => Some(*selected),
             Tracker::Elements | Tracker::Content(_) | Tracker::Items(_) | Tracker::Entries(_) => {
                 None
             }
@@ -219,6 +257,17 @@ pub enum ChildWay<'k> {
     Entry(&'k str),
 }
 
+/// What takes the value of a place that completes.
+#[derive(Clone, Copy)]
+pub enum Taker {
+    /// The place above, at its child of the place's number.
+    Above,
+    /// The set above, behind its other items.
+    Set,
+    /// The place itself, which is whole then.
+    Itself,
+}
+
 /// What comes behind the children of a begun place: an item; the key and the value of an entry of a
 /// map; or the value that a dynamic object has under a key, which it didn't have.
 #[derive(Drop)]
@@ -228,14 +277,12 @@ pub(crate) enum Growth {
     EntryFor(Text),
 }
 
-/// What was put at a place so far: nothing, all of its value, or some of its children. A dynamic
-/// object, which is begun with a child for each key, holds its keys.
+/// What was put at a place so far: nothing, all of its value, or some of its children.
 #[derive(Drop)]
 pub enum Piece {
     Entered,
     Whole(Value),
     Begun(Tracker, Children),
-    Object(Keys, Children),
 }
 
 /// A place in a slot. `stored` says that the builder isn't at it or below it, and that it will be

@@ -6,12 +6,11 @@ ghost use Rattle.fr_frame.specs.RawSlots.{with_stored};
 ghost use Rattle.fr_frame.specs.declared.places.SlotId.{SlotId as Number};
 
 use crate::draining::holds_item;
-use crate::making::make_whole;
 use crate::pieces::{count_children, is_list, release_piece, slot_at};
 use crate::places::{Piece, Slot, SlotId};
 use crate::slots::Slots;
 use fr_arena::{Arena, ListRope};
-use fr_shape::{Ledger, OutOfMemory};
+use fr_shape::Ledger;
 
 impl SlotId {
     /// Marks the place as stored, or as not stored. Takes no memory.
@@ -39,26 +38,6 @@ impl SlotId {
             ≡ child_slot (heap_of slots.now) self.0 i }
     {
         slots.child_slot(self, i as usize)
-    }
-
-    /// Lets a place that is whole, or begun with each child there, be whole with its value. It
-    /// stays as it was where there is no memory for making it. What a set or a map leaves out of
-    /// its value, as it is there twice, is released.
-    pub fn make_whole(self, slots: &mut Slots, ledger: &mut Ledger) -> Result<(), OutOfMemory>
-        requires complete { IfInUse slots.old self.0 (λ at. IsSome (value_of at.body)) }
-        requires room { IfInUse slots.old self.0 (λ at. Room (body_occurs at.body) ledger.old) }
-        ensures whole { OnOk result (IfInUse slots.old self.0 (λ at. (v : Val)
-            → value_of at.body ≡ Some v → Becomes slots.old slots.new self.0 at (whole_body v))) }
-        ensures memory { IfInUse slots.old self.0 (λ at.
-            takes_memory at.body ≡ false → IsOk result) }
-        ensures refused { OnErr result (Shows slots.new (heap_of slots.old)) }
-        ensures conserved { Conserved (slots_occur slots.old) ledger.old (slots_occur slots.new)
-            ledger.new }
-        ensures ledger_kept { OnErr result (ledger.new ≡ ledger.old) }
-    {
-        let alloc = slots.alloc();
-        let place = slots.place_mut(self);
-        make_whole(alloc, &mut place.piece, ledger)
     }
 }
 

@@ -1,7 +1,7 @@
 //! Running the validators of a place whose children are all there. What a plan says of its fields
 //! is read without a table, and holds for every table that it is a plan of.
-ghost use Rattle.std.specs.Prelude.{◌<◌, ◌≡◌};
-ghost use Rattle.fr_frame.specs.Common.{HasAllChildren, HasTheseFields, HasValidators, IfErr, IsCauseOf, IsChecked, IsFull, IsPlanFor, IsPlanned, IsSome, None, OnOk, Table, as_fields, body_of, first_invalid, invalid, length, option_copied, option_map, refused_of, shape_of, slice_get, trees_of, values_of, view};
+ghost use Rattle.std.specs.Prelude.{◌≡◌};
+ghost use Rattle.fr_frame.specs.Common.{HasAllChildren, HasValidators, IfErr, IsCauseOf, IsChecked, IsPlanFor, IsPlanned, IsSome, None, OnOk, Table, as_fields, body_of, first_invalid, invalid, option_copied, option_map, refused_of, shape_of, slice_get, trees_of, values_of, view};
 
 use crate::children::Children;
 use crate::field_plans::{fields_told, has_validators};
@@ -54,12 +54,11 @@ fn test_values<H: Hooks>(
 ) -> Result<(), ReflectErrorKind>
     requires planned { IsPlanned plan.now node }
     requires there { IsSome (values_of children.now) }
-    ensures passing { OnOk result ((table : Table)
-        → HasTheseFields table plan.now node selected children.now
+    ensures passing { OnOk result ((table : Table) → IsChecked table → IsPlanFor table plan.now
         → first_invalid (H.means hooks.now) table (shape_of plan.now node) (as_fields selected) 0
         (trees_of children.now) ≡ None) }
-    ensures failing { IfErr result (λ kind. (table : Table)
-        → HasTheseFields table plan.now node selected children.now
+    ensures failing { IfErr result (λ kind. (table : Table) → IsChecked table
+        → IsPlanFor table plan.now
         → IsCauseOf (first_invalid (H.means hooks.now) table (shape_of plan.now node)
         (as_fields selected) 0 (trees_of children.now)) kind) }
 {
@@ -85,12 +84,9 @@ pub(crate) fn test_valid<H: Hooks>(
     requires planned { IsPlanned plan.now node }
     requires there { HasAllChildren (body_of piece.now) }
     ensures passing { OnOk result ((table : Table) → IsChecked table → IsPlanFor table plan.now
-        → node.0 < length plan.now.nodes
-        → IsFull table (shape_of plan.now node) (body_of piece.now)
         → invalid (H.means hooks.now) table (shape_of plan.now node) (body_of piece.now) ≡ None) }
     ensures failing { IfErr result (λ kind. (table : Table) → IsChecked table
-        → IsPlanFor table plan.now → node.0 < length plan.now.nodes
-        → IsFull table (shape_of plan.now node) (body_of piece.now)
+        → IsPlanFor table plan.now
         → IsCauseOf (invalid (H.means hooks.now) table (shape_of plan.now node)
         (body_of piece.now)) kind) }
 {
@@ -100,6 +96,5 @@ pub(crate) fn test_valid<H: Hooks>(
             Some(selected) => test_values(alloc, plan, hooks, node, selected, children),
             None => Ok(()),
         },
-        Piece::Object(..) => Ok(()),
     }
 }

@@ -11,8 +11,7 @@ loop-slot-preserved c =
       freed = frees_on n c.loop-slot.at c.in-Some.slot.0 start c.loop-slot.entries c.put_item.new.entries was.freed c.put_item.ensures.freed;
       held = holds_on n c.loop-slot.at c.in-Some.slot.0 start c.loop-slot.entries c.put_item.new.entries was.held c.put_item.ensures.freed;
       children = filled_on start c.loop-slot.entries n c.loop-slot.at c.loop-slot.children c.put_item.new.children c.in-Some.slot c.next.new.self (omega arith) was.held c.put_item.ensures.put
-          ∙ ap (with_items (items_of start) n 0 c.loop-slot.at c.loop-slot.children) (sym c.in-Some.ensures.steps)
-          ∙ was.children;
+          ∙ ap (with_items (items_of start) n 0 c.loop-slot.at c.loop-slot.children) (sym c.in-Some.ensures.steps) ∙ was.children;
     }
 
 pub returns-then-at-len-clause-children : goal.returns-then-at-len-clause-children

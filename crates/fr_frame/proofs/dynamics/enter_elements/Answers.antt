@@ -9,5 +9,4 @@ returns c =
     let done = c.in_default.ensures.cases.0 in
     entered_all element_cell c.loop-element.children c.loop-element.i rest (map element_cell c.args.elements.items)
     (none_left rest (omega (arith, c.loop-element.invariant.count))) (omega (arith, c.loop-element.invariant.number))
-    c.loop-element.invariant.entered
-    ∙ sym (element_cells c.args.elements.items)
+    c.loop-element.invariant.entered ∙ sym (element_cells c.args.elements.items)

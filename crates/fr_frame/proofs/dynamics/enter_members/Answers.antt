@@ -9,5 +9,4 @@ returns c =
     let done = c.in_default.ensures.cases.0 in
     entered_all member_cell c.loop-member.children c.loop-member.i rest (map member_cell c.args.members.items)
     (none_left rest (omega (arith, c.loop-member.invariant.count))) (omega (arith, c.loop-member.invariant.number))
-    c.loop-member.invariant.entered
-    ∙ sym (member_cells c.args.members.items)
+    c.loop-member.invariant.entered ∙ sym (member_cells c.args.members.items)

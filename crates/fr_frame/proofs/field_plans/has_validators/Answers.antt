@@ -8,8 +8,6 @@ pub returns : goal.returns
 returns c table checked planned =
     c.has_validators.ensures.some table planned.root checked planned.inside planned.planned
     (node_reached c.law_plan_complete.ensures.complete table c.args.plan.now checked planned c.args.node c.node.result.now
-    c.node.ensures.node)
-    ∙ ap
-    (λ (found : Option TypePlanNode).
+    c.node.ensures.node) ∙ ap (λ (found : Option TypePlanNode).
     has_validators (def_of table (unwrap_or (option_map shape_of_node found) (record { 0 = 0 })).0) c.args.selected)
     (sym c.node.ensures.node)

@@ -12,10 +12,10 @@ fields-requires c =
     record { inside = found_inside p.table c.args.plan.now (shape_of c.args.plan.now c.args.node) c.in-Some.described.now found }
 
 pub returns-in-Some-clause-told : goal.returns-in-Some-clause-told
-returns-in-Some-clause-told c table checked planned inside =
+returns-in-Some-clause-told c table checked planned =
     let found : IsFound table c.args.plan.now (shape_of c.args.plan.now c.args.node) c.in-Some.described.now
     = subst (FoundFor table c.args.plan.now (shape_of c.args.plan.now c.args.node)) (sym c.in-Some.ensures.plan)
-    (struct_found c.law_plan_lookups.ensures.resolve table c.args.plan.now checked planned c.args.node inside) in
+    (struct_found c.law_plan_lookups.ensures.resolve table c.args.plan.now checked planned c.args.node c.requires.inside) in
     subst (AreTold table c.args.plan.now (shape_of c.args.plan.now c.args.node) None) (sym c.fields.ensures.fields)
     (found_told table c.args.plan.now (shape_of c.args.plan.now c.args.node) c.in-Some.described.now found)
 
@@ -31,7 +31,7 @@ returns-in-Some-clause-validators c i =
     has_told p.table c.args.plan.now (shape_of c.args.plan.now c.args.node) None c.fields.result.now told i
 
 pub returns-in-None-clause-told : goal.returns-in-None-clause-told
-returns-in-None-clause-told c table checked planned inside =
+returns-in-None-clause-told c table checked planned =
     none_told table c.args.plan.now (shape_of c.args.plan.now c.args.node)
     (subst (FoundFor table c.args.plan.now (shape_of c.args.plan.now c.args.node)) (sym c.in-None.ensures.plan)
-    (struct_found c.law_plan_lookups.ensures.resolve table c.args.plan.now checked planned c.args.node inside))
+    (struct_found c.law_plan_lookups.ensures.resolve table c.args.plan.now checked planned c.args.node c.requires.inside))

@@ -5,10 +5,10 @@ use Rattle.fr_frame.proofs.ToldLaws.{EnumFor, IsEnumFound, enum_found, has_told,
 use Rattle.fr_frame.proofs.field_plans.plans_of_variant.Goals as goal
 
 pub returns-in_default-clause-told : goal.returns-in_default-clause-told
-returns-in_default-clause-told c table checked planned inside =
+returns-in_default-clause-told c table checked planned =
     no_enum_told table c.args.plan.now (shape_of c.args.plan.now c.args.node) c.args.variant
     (subst (EnumFor table c.args.plan.now (shape_of c.args.plan.now c.args.node)) (sym c.in_default.ensures.plan)
-    (enum_found c.law_plan_lookups.ensures.resolve table c.args.plan.now checked planned c.args.node inside))
+    (enum_found c.law_plan_lookups.ensures.resolve table c.args.plan.now checked planned c.args.node c.requires.inside))
 
 pub variants-requires : goal.variants-requires
 variants-requires c =
@@ -38,10 +38,10 @@ fields-requires c =
     }
 
 pub returns-in-Some-told_at-clause-told : goal.returns-in-Some-told_at-clause-told
-returns-in-Some-told_at-clause-told c table checked planned inside =
+returns-in-Some-told_at-clause-told c table checked planned =
     let found : IsEnumFound table c.args.plan.now (shape_of c.args.plan.now c.args.node) c.in-Some.described.now
     = subst (EnumFor table c.args.plan.now (shape_of c.args.plan.now c.args.node)) (sym c.in-Some.ensures.plan)
-    (enum_found c.law_plan_lookups.ensures.resolve table c.args.plan.now checked planned c.args.node inside) in
+    (enum_found c.law_plan_lookups.ensures.resolve table c.args.plan.now checked planned c.args.node c.requires.inside) in
     let at : Some c.in-Some-told_at.selected.now
     ≡ slice_get (part_of c.args.plan.now.lists.variants c.in-Some.described.now.variants) c.args.variant
     = c.in-Some-told_at.ensures
@@ -66,10 +66,9 @@ returns-in-Some-told_at-clause-validators c i =
     found c.in-Some-told_at.selected.now at).told) i
 
 pub returns-in-None-clause-told : goal.returns-in-None-clause-told
-returns-in-None-clause-told c table checked planned inside =
+returns-in-None-clause-told c table checked planned =
     let found : IsEnumFound table c.args.plan.now (shape_of c.args.plan.now c.args.node) c.in-Some.described.now
     = subst (EnumFor table c.args.plan.now (shape_of c.args.plan.now c.args.node)) (sym c.in-Some.ensures.plan)
-    (enum_found c.law_plan_lookups.ensures.resolve table c.args.plan.now checked planned c.args.node inside) in
+    (enum_found c.law_plan_lookups.ensures.resolve table c.args.plan.now checked planned c.args.node c.requires.inside) in
     variant_none table c.args.plan.now (shape_of c.args.plan.now c.args.node) c.args.variant c.in-Some.described.now found
-    (c.in-None.ensures
-    ∙ ap (λ (told : List VariantPlanMeta). slice_get told c.args.variant) c.variants.ensures.variants)
+    (c.in-None.ensures ∙ ap (λ (told : List VariantPlanMeta). slice_get told c.args.variant) c.variants.ensures.variants)

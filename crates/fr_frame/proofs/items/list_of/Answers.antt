@@ -1,26 +1,22 @@
 use Rattle.std.proofs.Common.{Some, ap, sym, ◌∙◌, subst, arith}
 use Rattle.fr_frame.specs.Common.{IsListedIn, Slot, node_of}
-use Rattle.fr_frame.proofs.SlotLaws.{read}
+use Rattle.fr_frame.proofs.HeapLaws.{read}
 use Rattle.fr_frame.proofs.items.list_of.Goals as goal
 
-pub returns-in-List-clause-below : goal.returns-in-List-clause-below
-returns-in-List-clause-below c = record {
+pub returns-in-List : goal.returns-in-List
+returns-in-List c = record {
   slot = c.get.result.now;
   here = read c.args.entries.now c.args.id.0 c.idx.result c.get.result.now c.idx.ensures.number c.requires c.get.ensures.value;
   at = node_of c.in_ok-place.place.now;
   node = sym c.in_ok-place.ensures;
-  is = c.in-Child.is;
-}
-
-pub returns-in-List-clause-listed : goal.returns-in-List-clause-listed
-returns-in-List-clause-listed c = record {
-  list = c.in-List.above;
+  owner = c.in-Child.is;
+  above = c.in-List.above;
   items = c.in-List.items;
-  here =
+  there =
       read c.args.entries.now c.in-Child.list.0 c.idx-2.result c.get-2.result.now c.idx-2.ensures.number
       (omega (arith, c.len.ensures.count, c.if-list-len.false)) c.get-2.ensures.value
       ∙ ap (λ (slot : Slot). Some slot) c.in-List.is;
   listed =
       subst (λ rope. IsListedIn c.in-List.above.piece rope.items c.args.id.0 c.in-Child.number) c.deref.ensures
-      (c.is_item.ensures.listed c.if-is_item.true);
+      (c.is_item.ensures c.if-is_item.true);
 }

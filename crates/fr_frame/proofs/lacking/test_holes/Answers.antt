@@ -1,40 +1,30 @@
-use Rattle.std.proofs.Common.{◌≡◌, length, Option, None, sym, ◌∙◌, subst, arith}
-use Rattle.fr_frame.specs.Common.{IfErr, IsCauseOf, IsTold, ReflectErrorKind, as_fields, child_count, lack_of_child, lack_of_holes, shape_of}
-use Rattle.std.proofs.lemmas.Grind.{common_steps}
-use Rattle.fr_frame.proofs.LackLaws.{told_here, item_is, err_so, holes_preserved, holes_cause}
+use Rattle.std.proofs.Common.{◌≡◌, ℕ, replicate, None, Option, refl, sym, ◌∙◌, ap, subst}
+use Rattle.fr_frame.specs.Common.{IfErr, IsAnswer, IsFullAs, Meanings, OnOk, Question, ReflectErrorKind, Table, absent, as_fields, ask, ask_holes, child_count, def_of, first_asked, first_unmet, shape_of}
+use Rattle.fr_frame.proofs.AskLaws.{holes_are, holes_lack, unmet_is}
+use Rattle.fr_frame.proofs.FillLaws.{length_holes}
 use Rattle.fr_frame.proofs.lacking.test_holes.Goals as goal
 
-pub returns-in_err-test_field-clause-failing : goal.returns-in_err-test_field-clause-failing
-returns-in_err-test_field-clause-failing g c =
-    let count : child_count c.args.table.now (shape_of c.args.plan.now c.args.node) ≡ length c.plans_of_fields-told.result.now
-    = c.plans_of_fields-told.ensures.count (child_count c.args.table.now (shape_of c.args.plan.now c.args.node)) c.requires.described in
-    let is : IsTold c.args.table.now c.args.plan.now (shape_of c.args.plan.now c.args.node) None c.loop-i.i c.index-told-i.result
-    = told_here c.args.table.now c.args.plan.now (shape_of c.args.plan.now c.args.node) None c.loop-i.i c.plans_of_fields-told.result.now
-    c.index-told-i.result c.plans_of_fields-told.ensures
-    (item_is c.plans_of_fields-told.result.now c.loop-i.i c.index-told-i.result c.loop-i-test.true c.index-told-i.is) in
-    let failing : IfErr c.test_field.result (IsCauseOf (lack_of_holes (g.H.Hooks.means c.args.hooks.now) c.args.table.now
-    (shape_of c.args.plan.now c.args.node) (as_fields None) (child_count c.args.table.now (shape_of c.args.plan.now c.args.node)) 0))
-    = err_so c.test_field.result
-    (IsCauseOf (lack_of_child (g.H.Hooks.means c.args.hooks.now) c.args.table.now c.index-told-i.result.field.shape.0
-    (as_fields c.index-told-i.result.field.variant) c.index-told-i.result.field.index None))
-    (IsCauseOf (lack_of_holes (g.H.Hooks.means c.args.hooks.now) c.args.table.now
-    (shape_of c.args.plan.now c.args.node) (as_fields None) (child_count c.args.table.now (shape_of c.args.plan.now c.args.node)) 0))
-    (λ kind cause.
-    subst (λ (o : Option ReflectErrorKind). IsCauseOf o kind) (sym c.loop-i.invariant)
-    (holes_cause (g.H.Hooks.means c.args.hooks.now) c.args.table.now c.args.plan.now (shape_of c.args.plan.now c.args.node) None
-    c.loop-i.i c.index-told-i.result is (child_count c.args.table.now (shape_of c.args.plan.now c.args.node)) (omega arith) kind cause))
-    c.test_field.ensures.failing in
-    grind (arith, common_steps)
+holes_asked : (question : Question) (means : Meanings) (table : Table) (s : ℕ)
+    → first_asked (ask question means table s (as_fields None)) 0 (replicate (child_count table s) absent) ≡ ask_holes question means table s
+holes_asked Question.Strict means table s = sym (holes_lack means table s (as_fields None) (child_count table s) 0)
+holes_asked Question.Marks means table s =
+    sym (unmet_is means table s (as_fields None) 0 (replicate (child_count table s) absent))
+    ∙ ap (first_unmet table s (as_fields None) 0) (holes_are (child_count table s))
+holes_asked Question.There means table s = refl
 
-pub loop-i-preserved : goal.loop-i-preserved
-loop-i-preserved g c =
-    let count : child_count c.args.table.now (shape_of c.args.plan.now c.args.node) ≡ length c.plans_of_fields-told.result.now
-    = c.plans_of_fields-told.ensures.count (child_count c.args.table.now (shape_of c.args.plan.now c.args.node)) c.requires.described in
-    let is : IsTold c.args.table.now c.args.plan.now (shape_of c.args.plan.now c.args.node) None c.loop-i.i c.index-told-i.result
-    = told_here c.args.table.now c.args.plan.now (shape_of c.args.plan.now c.args.node) None c.loop-i.i c.plans_of_fields-told.result.now
-    c.index-told-i.result c.plans_of_fields-told.ensures
-    (item_is c.plans_of_fields-told.result.now c.loop-i.i c.index-told-i.result c.loop-i-test.true c.index-told-i.is) in
-    c.loop-i.invariant
-    ∙ holes_preserved (g.H.Hooks.means c.args.hooks.now) c.args.table.now c.args.plan.now (shape_of c.args.plan.now c.args.node) None
-    c.loop-i.i c.index-told-i.result is (child_count c.args.table.now (shape_of c.args.plan.now c.args.node)) (omega arith)
-    c.in_ok-test_field.ensures.passing
+pub test_fields-requires-clause-full : goal.test_fields-requires-clause-full
+test_fields-requires-clause-full g c =
+    subst (IsFullAs (def_of c.args.table.now (shape_of c.args.plan.now c.args.node)) (as_fields None))
+    (sym (length_holes (child_count c.args.table.now (shape_of c.args.plan.now c.args.node)))) c.requires.described
+
+pub returns-clause-passing : goal.returns-clause-passing
+returns-clause-passing g c =
+    subst (λ (o : Option ReflectErrorKind). OnOk c.test_fields.result (o ≡ None))
+    (holes_asked c.args.question (g.H.Hooks.means c.args.hooks.now) c.args.table.now (shape_of c.args.plan.now c.args.node))
+    c.test_fields.ensures.passing
+
+pub returns-clause-failing : goal.returns-clause-failing
+returns-clause-failing g c =
+    subst (λ (o : Option ReflectErrorKind). IfErr c.test_fields.result (IsAnswer c.args.question o))
+    (holes_asked c.args.question (g.H.Hooks.means c.args.hooks.now) c.args.table.now (shape_of c.args.plan.now c.args.node))
+    c.test_fields.ensures.failing

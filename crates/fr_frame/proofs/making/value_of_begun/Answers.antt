@@ -6,5 +6,5 @@ use Rattle.fr_frame.proofs.making.value_of_begun.Goals as goal
 pub returns-in-Ok-clause-conserved : goal.returns-in-Ok-clause-conserved
 returns-in-Ok-clause-conserved c =
     as_before (cells_occur c.args.children) (occurs (view c.value_made.result)) c.args.ledger.now
-    (begun_occurs (as_tracker c.args.tracker) c.args.children (view c.value_made.result)
-    (boxes_as_it_is (as_tracker c.args.tracker) (sym c.boxes.ensures ∙ c.if-not-boxes.false)) c.value_made.ensures)
+    (begun_occurs (as_tracker c.args.tracker.now) c.args.children (view c.value_made.result)
+    (boxes_as_it_is (as_tracker c.args.tracker.now) (sym c.boxes.ensures ∙ c.if-not-boxes.false)) c.value_made.ensures)

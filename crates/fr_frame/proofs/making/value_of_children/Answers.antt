@@ -8,9 +8,9 @@ use Rattle.fr_frame.proofs.making.value_of_children.Goals as goal
 pub returns-then-not-gathers-clause-conserved : goal.returns-then-not-gathers-clause-conserved
 returns-then-not-gathers-clause-conserved c =
     as_before (cells_occur c.args.children) (occurs (view c.value_of_parts.result)) c.args.ledger.now
-    (begun_occurs (as_tracker c.args.tracker) c.args.children (view c.value_of_parts.result)
+    (begun_occurs (as_tracker c.args.tracker.now) c.args.children (view c.value_of_parts.result)
     (sym c.gathers.ensures ∙ c.if-not-gathers.true)
-    (boxless_value (as_tracker c.args.tracker) c.args.children (vals_view c.into_parts-values.result.0.items)
+    (boxless_value (as_tracker c.args.tracker.now) c.args.children (vals_view c.into_parts-values.result.0.items)
     (view c.value_of_parts.result) c.requires.no_box c.into_parts-values.ensures.values c.value_of_parts.ensures))
 
 pub value_gathered-requires-clause-room : goal.value_gathered-requires-clause-room

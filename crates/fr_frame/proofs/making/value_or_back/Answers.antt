@@ -2,6 +2,3 @@ use Rattle.fr_frame.proofs.making.value_or_back.Goals as goal
 
 pub value_of_begun-requires-clause-room : goal.value_of_begun-requires-clause-room
 value_of_begun-requires-clause-room c = rw c.in-Begun.is at c.requires.room
-
-pub value_of_object-requires-clause-room : goal.value_of_object-requires-clause-room
-value_of_object-requires-clause-room c = rw c.in-Object.is at c.requires.room

@@ -19,8 +19,7 @@ loop-i-preserved c = record {
         c.loop-i.invariant.end,
         entering_one c.args.entries.items c.loop-i.entries.items c.loop-i.children c.loop-i._i c.loop-i.invariant.entering
             c.pop.new.self.items (c.in-Some.key, c.in-Some.value) c.in-Some.ensures.items,
-      ))
-      (c.put-in-loop-i.ensures
+      )) (c.put-in-loop-i.ensures
       ∙ ap (λ (cs : List Cell). set cs (c.loop-i.end - 2 + 1) (given (view c.in-Some.value))) c.put.ensures);
   end = omega (
     arith,

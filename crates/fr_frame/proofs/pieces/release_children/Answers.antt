@@ -27,13 +27,11 @@ loop-i-preserved c =
       | in-None w ↦
           let rose : RoseBy (value_occurs (value_at c.loop-i.children c.loop-i.i)) c.loop-i.ledger c.match-take.ledger
           = subst (λ (after : List ℕ). RoseBy (value_occurs (value_at c.loop-i.children c.loop-i.i)) c.loop-i.ledger after)
-          (sym w.ledger-is)
-          (rose_not (value_at c.loop-i.children c.loop-i.i) c.loop-i.ledger w.in-None.ensures.taken) in
+          (sym w.ledger-is) (rose_not (value_at c.loop-i.children c.loop-i.i) c.loop-i.ledger w.in-None.ensures.taken) in
           releasing_step c.args.children c.loop-i.children c.args.ledger.now c.loop-i.ledger c.loop-i.i c.loop-i.invariant
           c.take.new.self c.match-take.ledger (omega (arith, c.loop-i.invariant.count)) c.take.ensures.rest rose
     ]
 
 pub returns : goal.returns
 returns c =
-    releasing_ends c.args.children c.loop-i.children c.args.ledger.now c.loop-i.ledger c.loop-i.i c.loop-i.invariant
-    (omega arith)
+    releasing_ends c.args.children c.loop-i.children c.args.ledger.now c.loop-i.ledger c.loop-i.i c.loop-i.invariant (omega arith)

@@ -5,6 +5,3 @@ release-requires c = record { room = rw c.in-Whole.is at c.requires }
 
 pub release_children-requires : goal.release_children-requires
 release_children-requires c = rw c.in-Begun.is at c.requires
-
-pub release_children-requires-in-Object : goal.release_children-requires-in-Object
-release_children-requires-in-Object c = rw c.in-Object.is at c.requires

@@ -1,6 +1,6 @@
 use Rattle.std.proofs.Common.{arith}
 use Rattle.fr_frame.specs.Common.{Slot}
-use Rattle.fr_frame.proofs.SlotLaws.{there}
+use Rattle.fr_frame.proofs.HeapLaws.{there}
 use Rattle.fr_frame.proofs.slots.put.Goals as goal
 
 pub get_mut-requires : goal.get_mut-requires

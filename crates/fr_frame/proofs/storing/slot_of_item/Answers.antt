@@ -11,15 +11,13 @@ returns-then-i-count c =
 
 pub returns-then-not-is_list : goal.returns-then-not-is_list
 returns-then-not-is_list c =
-    c.slot_at.ensures
-    ∙ sym (ap (option_and_then slot_of_cell)
+    c.slot_at.ensures ∙ sym (ap (option_and_then slot_of_cell)
     (cell_no_list (items_of c.args.entries.now) c.args.list.0 c.args.items.now.items (body_of c.args.piece.now) c.args.i
     (sym c.is_list.ensures ∙ c.if-not-is_list.true)))
 
 pub returns-then-i-before : goal.returns-then-i-before
 returns-then-i-before c =
-    c.slot_at-then-i-before.ensures
-    ∙ sym (ap (option_and_then slot_of_cell)
+    c.slot_at-then-i-before.ensures ∙ sym (ap (option_and_then slot_of_cell)
     (cell_before (items_of c.args.entries.now) c.args.list.0 c.args.items.now.items (body_of c.args.piece.now) c.args.i
     (omega (arith, c.saturating_sub-before.ensures, c.count_children-count.ensures, c.len.ensures.count, c.if-i-before.true))))
 

@@ -12,6 +12,5 @@ index_mut-requires c = omega (arith, same_length c.self.inside.given c.self.insi
 pub returns : goal.returns
 returns c =
     cells_put c.self.inside.given c.unset.new.self c.self.inside.values.items c.args.self.now c.args.i c.nothing.result
-    absent c.self.view_is
-    (λ j ne. c.unset.ensures.by_index j ∙ bit_unset c.args.i j _ ne)
+    absent c.self.view_is (λ j ne. c.unset.ensures.by_index j ∙ bit_unset c.args.i j _ ne)
     (ap (λ b. cell b (view c.nothing.result)) (c.unset.ensures.by_index c.args.i ∙ bit_unset_here c.args.i _) ∙ ap in_slot c.nothing.ensures)

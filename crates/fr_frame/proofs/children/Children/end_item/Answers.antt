@@ -12,23 +12,19 @@ pub returns-then-is_there-clause-ended : goal.returns-then-is_there-clause-ended
 returns-then-is_there-clause-ended c =
     c.pop.ensures (without_cell c.args.i c.args.self.now) absent
     (behind c.args.i c.args.self.now c.index_more.new.self c.move_last-last.new.self c.index_more.ensures
-    c.move_last-last.ensures.moved)
-    ∙ there_already (view c.args.value) c.args.i c.args.self.now c.requires.absent
+    c.move_last-last.ensures.moved) ∙ there_already (view c.args.value) c.args.i c.args.self.now c.requires.absent
     (ap (has_same_cell (view c.args.value)) (sym c.index_more.ensures) ∙ sym c.has_same-is_there.ensures ∙ c.if-is_there.true)
 
 pub returns-then-is_there-clause-conserved : goal.returns-then-is_there-clause-conserved
 returns-then-is_there-clause-conserved c =
     item_released (view c.args.value) c.args.i c.args.self.now c.pop.new.self c.args.ledger.now c.release.new.ledger
-    c.requires.absent
-    (c.pop.ensures (without_cell c.args.i c.args.self.now) absent
+    c.requires.absent (c.pop.ensures (without_cell c.args.i c.args.self.now) absent
     (behind c.args.i c.args.self.now c.index_more.new.self c.move_last-last.new.self c.index_more.ensures
-    c.move_last-last.ensures.moved))
-    c.release.ensures.released
+    c.move_last-last.ensures.moved)) c.release.ensures.released
 
 pub returns-else-is_there-clause-ended : goal.returns-else-is_there-clause-ended
 returns-else-is_there-clause-ended c =
-    c.put.ensures
-    ∙ comes_last (view c.args.value) c.args.i c.args.self.now c.move_last-last.new.self c.move_last-last.result
+    c.put.ensures ∙ comes_last (view c.args.value) c.args.i c.args.self.now c.move_last-last.new.self c.move_last-last.result
     c.requires.absent
     (ap (has_same_cell (view c.args.value)) (sym c.index_more.ensures) ∙ sym c.has_same-is_there.ensures ∙ c.if-is_there.false)
     (behind c.args.i c.args.self.now c.index_more.new.self c.move_last-last.new.self c.index_more.ensures
@@ -40,8 +36,7 @@ returns-else-is_there-clause-conserved c =
     item_kept (view c.args.value) c.args.i c.args.self.now c.put.new.self c.args.ledger.now c.requires.absent
     (comes_behind (view c.args.value) c.args.i c.args.self.now c.put.new.self c.requires.absent
     (ap (has_same_cell (view c.args.value)) (sym c.index_more.ensures) ∙ sym c.has_same-is_there.ensures ∙ c.if-is_there.false)
-    (c.put.ensures
-    ∙ comes_last (view c.args.value) c.args.i c.args.self.now c.move_last-last.new.self c.move_last-last.result
+    (c.put.ensures ∙ comes_last (view c.args.value) c.args.i c.args.self.now c.move_last-last.new.self c.move_last-last.result
     c.requires.absent
     (ap (has_same_cell (view c.args.value)) (sym c.index_more.ensures) ∙ sym c.has_same-is_there.ensures ∙ c.if-is_there.false)
     (behind c.args.i c.args.self.now c.index_more.new.self c.move_last-last.new.self c.index_more.ensures

@@ -21,6 +21,5 @@ returns-then-is_same c =
 
 pub returns : goal.returns
 returns c =
-    sym (c.loop-i.invariant
-    ∙ ap (has_same_cell (view c.args.value.now))
+    sym (c.loop-i.invariant ∙ ap (has_same_cell (view c.args.value.now))
     (past_all c.args.self.now c.loop-i.i (omega (arith, c.len-i-end.ensures.count))))

@@ -8,8 +8,7 @@ returns-clause-values c = values_are c.self.inside.given c.self.inside.values.it
 
 pub returns-clause-numbers : goal.returns-clause-numbers
 returns-clause-numbers c = record {
-  all = λ i h.
-      bits_by c.self.inside.given 0 c.self.inside.values.items
+  all = λ i h. bits_by c.self.inside.given 0 c.self.inside.values.items
       (ap (λ (cs : List Cell). is_some (values_of cs)) c.self.view_is ∙ c.requires) i (omega arith) (omega (arith, h));
   room = c.self.invariant.room;
 }

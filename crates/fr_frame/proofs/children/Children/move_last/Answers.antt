@@ -1,33 +1,48 @@
-use Rattle.std.proofs.Common.{arith}
-use Rattle.fr_frame.specs.Common.{absent}
-use Rattle.fr_frame.proofs.ItemLaws.{get_inside, sinking_begins, sinking_count, sinking_ends, sinking_here, sinking_step, without_length}
+use Rattle.std.proofs.Common.{ap, sym, ◌∙◌, length, List, slice_get, arith}
+use Rattle.fr_frame.specs.Common.{Cell, absent, without_cell}
+use Rattle.fr_frame.specs.Cells.{swapped}
+use Rattle.fr_frame.proofs.ItemLaws.{get_inside, next_number, one_back, one_get, one_last, one_length, one_next, with_one, without_length}
 use Rattle.fr_frame.proofs.children.Children.move_last.Goals as goal
 
 pub loop-at-init : goal.loop-at-init
-loop-at-init c = sinking_begins c.args.self.now c.args.i
+loop-at-init c = sym (one_back c.args.i absent c.args.self.now c.requires)
 
 pub move_back-requires-clause-inside : goal.move_back-requires-clause-inside
 move_back-requires-clause-inside c =
     omega (
       arith,
       c.len-last.ensures.count,
-      sinking_count c.args.self.now c.loop-at.self c.args.i c.loop-at.at c.loop-at.invariant c.requires,
+      ap length c.loop-at.invariant ∙ one_length c.loop-at.at absent (without_cell c.args.i c.args.self.now),
+      without_length c.args.i c.args.self.now (get_inside c.args.self.now c.args.i absent c.requires),
     )
 
 pub move_back-requires-clause-absent : goal.move_back-requires-clause-absent
 move_back-requires-clause-absent c =
-    sinking_here c.args.self.now c.loop-at.self c.args.i c.loop-at.at c.loop-at.invariant c.requires
-    (omega (arith, c.len-last.ensures.count))
+    ap (λ (cs : List Cell). slice_get cs c.loop-at.at) c.loop-at.invariant
+    ∙ one_get c.loop-at.at absent (without_cell c.args.i c.args.self.now) (omega (
+      arith,
+      c.len-last.ensures.count,
+      without_length c.args.i c.args.self.now (get_inside c.args.self.now c.args.i absent c.requires),
+    ))
 
 pub loop-at-preserved : goal.loop-at-preserved
 loop-at-preserved c =
-    sinking_step c.args.self.now c.loop-at.self c.args.i c.loop-at.at c.loop-at.invariant c.requires c.move_back.new.self
-    (omega (arith, c.len-last.ensures.count)) c.move_back.ensures
+    c.move_back.ensures ∙ ap (swapped c.loop-at.at) c.loop-at.invariant
+    ∙ one_next c.loop-at.at absent (without_cell c.args.i c.args.self.now) (omega (
+      arith,
+      c.len-last.ensures.count,
+      without_length c.args.i c.args.self.now (get_inside c.args.self.now c.args.i absent c.requires),
+    ))
+    ∙ ap (λ n. with_one n absent (without_cell c.args.i c.args.self.now)) (next_number c.loop-at.at)
 
 pub returns-clause-moved : goal.returns-clause-moved
 returns-clause-moved c =
-    sinking_ends c.args.self.now c.loop-at.self c.args.i c.loop-at.at c.loop-at.invariant c.requires
-    (omega (arith, c.len-last.ensures.count))
+    c.loop-at.invariant ∙ one_last c.loop-at.at absent (without_cell c.args.i c.args.self.now)
+    (omega (
+      arith,
+      c.len-last.ensures.count,
+      without_length c.args.i c.args.self.now (get_inside c.args.self.now c.args.i absent c.requires),
+    ))
 
 pub returns-clause-last : goal.returns-clause-last
 returns-clause-last c =

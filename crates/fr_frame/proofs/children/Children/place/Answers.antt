@@ -16,8 +16,7 @@ index_mut-requires c = omega (arith, same_length c.self.inside.given c.self.insi
 pub returns-then-not-was_given-clause-placed : goal.returns-then-not-was_given-clause-placed
 returns-then-not-was_given-clause-placed c =
     cells_put c.self.inside.given c.unset.new.self c.self.inside.values.items c.args.self.now c.args.i c.replace-held.new.dest
-    (placed c.args.slot.0) c.self.view_is
-    (λ j ne. c.unset.ensures.by_index j ∙ bit_unset c.args.i j _ ne)
+    (placed c.args.slot.0) c.self.view_is (λ j ne. c.unset.ensures.by_index j ∙ bit_unset c.args.i j _ ne)
     (ap (λ b. cell b (view c.replace-held.new.dest)) (c.unset.ensures.by_index c.args.i ∙ bit_unset_here c.args.i _)
     ∙ ap (λ (v : Value). in_slot (view v)) c.replace-held.ensures.after ∙ ap in_slot c.in_place.ensures)
 
@@ -28,8 +27,7 @@ returns-then-not-was_given-clause-taken c =
 pub returns-clause-placed : goal.returns-clause-placed
 returns-clause-placed c =
     cells_put c.self.inside.given c.unset.new.self c.self.inside.values.items c.args.self.now c.args.i c.replace-held.new.dest
-    (placed c.args.slot.0) c.self.view_is
-    (λ j ne. c.unset.ensures.by_index j ∙ bit_unset c.args.i j _ ne)
+    (placed c.args.slot.0) c.self.view_is (λ j ne. c.unset.ensures.by_index j ∙ bit_unset c.args.i j _ ne)
     (ap (λ b. cell b (view c.replace-held.new.dest)) (c.unset.ensures.by_index c.args.i ∙ bit_unset_here c.args.i _)
     ∙ ap (λ (v : Value). in_slot (view v)) c.replace-held.ensures.after ∙ ap in_slot c.in_place.ensures)
 

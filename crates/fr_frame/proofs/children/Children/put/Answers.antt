@@ -12,6 +12,5 @@ index_mut-requires c = omega (arith, same_length c.self.inside.given c.self.insi
 pub returns : goal.returns
 returns c =
     cells_put c.self.inside.given c.set.new.self c.self.inside.values.items c.args.self.now c.args.i c.args.value
-    (given (view c.args.value)) c.self.view_is
-    (λ j ne. c.set.ensures.by_index j ∙ bit_set c.args.i j _ ne)
+    (given (view c.args.value)) c.self.view_is (λ j ne. c.set.ensures.by_index j ∙ bit_set c.args.i j _ ne)
     (ap (λ b. cell b (view c.args.value)) (c.set.ensures.by_index c.args.i ∙ bit_set_here c.args.i _))

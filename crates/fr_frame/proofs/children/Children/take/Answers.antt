@@ -16,8 +16,7 @@ index_mut-requires c = omega (arith, same_length c.self.inside.given c.self.insi
 pub returns-then-not-was_given-clause-rest : goal.returns-then-not-was_given-clause-rest
 returns-then-not-was_given-clause-rest c =
     cells_put c.self.inside.given c.unset.new.self c.self.inside.values.items c.args.self.now c.args.i c.replace-held.new.dest
-    absent c.self.view_is
-    (λ j ne. c.unset.ensures.by_index j ∙ bit_unset c.args.i j _ ne)
+    absent c.self.view_is (λ j ne. c.unset.ensures.by_index j ∙ bit_unset c.args.i j _ ne)
     (ap (λ b. cell b (view c.replace-held.new.dest)) (c.unset.ensures.by_index c.args.i ∙ bit_unset_here c.args.i _)
     ∙ ap (λ (v : Value). in_slot (view v)) c.replace-held.ensures.after ∙ ap in_slot c.nothing.ensures)
 
@@ -28,8 +27,7 @@ returns-then-not-was_given-clause-taken c =
 pub returns-clause-rest : goal.returns-clause-rest
 returns-clause-rest c =
     cells_put c.self.inside.given c.unset.new.self c.self.inside.values.items c.args.self.now c.args.i c.replace-held.new.dest
-    absent c.self.view_is
-    (λ j ne. c.unset.ensures.by_index j ∙ bit_unset c.args.i j _ ne)
+    absent c.self.view_is (λ j ne. c.unset.ensures.by_index j ∙ bit_unset c.args.i j _ ne)
     (ap (λ b. cell b (view c.replace-held.new.dest)) (c.unset.ensures.by_index c.args.i ∙ bit_unset_here c.args.i _)
     ∙ ap (λ (v : Value). in_slot (view v)) c.replace-held.ensures.after ∙ ap in_slot c.nothing.ensures)
 

@@ -1,77 +1,22 @@
-use Rattle.std.proofs.Common.{◌≡◌, ◌⊎◌, List, inl, inr, set, arith}
-use Rattle.std.proofs.lemmas.Result.{on_ok_weaker, IfErr-weaker}
-use Rattle.fr_frame.specs.Common.{FillsAt, IfInUse, IsClosedAt, KeepsTracker, Node, ReflectErrorKind, Shows, Slot, body_of, heap_of, strict_column}
-use Rattle.fr_frame.proofs.PlaceLaws.{repieced, set_other, of_place, of_repieced, becomes, shows_same, occur_change}
+use Rattle.std.proofs.lemmas.Result.{IfErr-weaker}
+use Rattle.fr_frame.specs.Common.{FillColumn}
+use Rattle.fr_frame.proofs.DefaultedLaws.{has_taken, on_ok_both, strictly_so, tracker_so, unfilled_so}
 use Rattle.fr_frame.proofs.places.SlotId.fill_and_require_fields.Goals as goal
 
 pub returns-clause-filled : goal.returns-clause-filled
 returns-clause-filled g c =
-    on_ok_weaker c.fill_piece.result
-    (λ filled.
-    of_place c.args.slots.now c.args.self.0 c.place_mut-place.result.now c.place_mut-place.ensures.value
-    (FillsAt strict_column (g.H.Hooks.means c.args.hooks.now) c.args.table.now c.args.plan.now c.args.slots.now
-    (set c.args.slots.now c.args.self.0 (Slot.Used (repieced c.place_mut-place.result.now c.fill_piece.new.piece)))
-    c.args.self.0)
-    (record {
-      body = body_of c.fill_piece.new.piece;
-      filled = filled;
-      becomes =
-          becomes c.args.slots.now c.args.self.0 c.place_mut-place.result.now c.place_mut-place.ensures.value
-          c.fill_piece.new.piece;
-    }))
-    c.fill_piece.ensures.filled
-
-pub returns-clause-unchanged : goal.returns-clause-unchanged
-returns-clause-unchanged g c =
-    IfErr-weaker c.fill_piece.result _ _
-    (λ kind. either kind)
-    c.fill_piece.ensures.kept
-  where
-    either : (kind : ReflectErrorKind)
-        → (kind ≡ ReflectErrorKind.OutOfMemory) ⊎ (body_of c.fill_piece.new.piece ≡ body_of c.place_mut-place.result.now.piece)
-        → (kind ≡ ReflectErrorKind.OutOfMemory)
-        ⊎ Shows (set c.args.slots.now c.args.self.0 (Slot.Used (repieced c.place_mut-place.result.now c.fill_piece.new.piece)))
-        (heap_of c.args.slots.now)
-    either kind (inl memory) = inl memory
-    either kind (inr same) =
-        inr (shows_same c.args.slots.now c.args.self.0 c.place_mut-place.result.now c.place_mut-place.ensures.value
-        c.fill_piece.new.piece same)
-
-pub returns-clause-others : goal.returns-clause-others
-returns-clause-others g c n ne =
-    set_other c.args.slots.now c.args.self.0 (Slot.Used (repieced c.place_mut-place.result.now c.fill_piece.new.piece)) n ne
-
-pub returns-clause-closed : goal.returns-clause-closed
-returns-clause-closed g c =
-    of_place c.args.slots.now c.args.self.0 c.place_mut-place.result.now c.place_mut-place.ensures.value
-    (IsClosedAt c.args.slots.now
-    (set c.args.slots.now c.args.self.0 (Slot.Used (repieced c.place_mut-place.result.now c.fill_piece.new.piece))) c.args.self.0)
-    (record {
-      body = body_of c.fill_piece.new.piece;
-      closed = c.fill_piece.ensures.closed;
-      tokens = c.fill_piece.ensures.tokens;
-      becomes =
-          becomes c.args.slots.now c.args.self.0 c.place_mut-place.result.now c.place_mut-place.ensures.value
-          c.fill_piece.new.piece;
-    })
-
-pub returns-clause-tokens : goal.returns-clause-tokens
-returns-clause-tokens g c t =
-    omega (
-      arith,
-      occur_change c.args.slots.now c.args.self.0 c.place_mut-place.result.now c.place_mut-place.ensures.value
-          c.fill_piece.new.piece t,
-      c.fill_piece.ensures.tokens t,
-    )
+    on_ok_both c.fill_by.result (λ filled met. strictly_so c.requires.checked
+    (has_taken FillColumn.Strict (g.H.Hooks.means c.args.hooks.now) c.args.table.now c.args.plan.now c.args.slots.now c.fill_by.new.slots
+    c.args.self.0 c.requires.place filled met)) c.fill_by.ensures.filled c.fill_by.ensures.met
 
 pub returns-clause-tracker : goal.returns-clause-tracker
 returns-clause-tracker g c =
-    let after : List Slot
-    = set c.args.slots.now c.args.self.0 (Slot.Used (repieced c.place_mut-place.result.now c.fill_piece.new.piece)) in
-    on_ok_weaker c.fill_piece.result
-    (λ kept.
-    of_place c.args.slots.now c.args.self.0 c.place_mut-place.result.now c.place_mut-place.ensures.value
-    (λ (at : Node). IfInUse after c.args.self.0 (λ (then_at : Node). KeepsTracker at.body then_at.body))
-    (of_repieced c.args.slots.now c.args.self.0 c.place_mut-place.result.now c.place_mut-place.ensures.value
-    c.fill_piece.new.piece (λ (then_at : Node). KeepsTracker (body_of c.place_mut-place.result.now.piece) then_at.body) kept))
-    c.fill_piece.ensures.tracker
+    on_ok_both c.fill_by.result (λ filled met. tracker_so c.requires.checked
+    (has_taken FillColumn.Strict (g.H.Hooks.means c.args.hooks.now) c.args.table.now c.args.plan.now c.args.slots.now c.fill_by.new.slots
+    c.args.self.0 c.requires.place filled met)) c.fill_by.ensures.filled c.fill_by.ensures.met
+
+pub returns-clause-why : goal.returns-clause-why
+returns-clause-why g c =
+    IfErr-weaker c.fill_by.result _ _
+    (unfilled_so (g.H.Hooks.means c.args.hooks.now) c.args.table.now c.args.plan.now c.args.slots.now c.args.self.0 c.requires.place
+    c.requires.checked) c.fill_by.ensures.why

@@ -1,63 +1,21 @@
-use Rattle.std.proofs.Common.{◌≡◌, ◌⊎◌, List, inl, inr, set, subst, arith}
-use Rattle.std.proofs.lemmas.Result.{on_ok_weaker, IfErr-weaker}
-use Rattle.fr_frame.specs.Common.{Becomes, Body, IsClosedAt, Node, ReflectErrorKind, Shows, Slot, body_of, defaulted, heap_of, node_of, shape_of}
-use Rattle.fr_frame.proofs.PlaceLaws.{repieced, set_other, of_place, becomes, shows_same, occur_change}
+use Rattle.std.proofs.Common.{inl, inr}
+use Rattle.std.proofs.lemmas.Result.{IfErr-weaker}
+use Rattle.fr_frame.specs.Common.{FillColumn, IsUnfilled, Node, Some, shape_of, takes_template, true, unmet, ◌≡◌, ◌⊎◌}
+use Rattle.fr_shape.specs.declared.error.ReflectErrorKind.{ReflectErrorKind as Kind}
+use Rattle.fr_frame.proofs.PlaceLaws.{in_use_so}
 use Rattle.fr_frame.proofs.places.SlotId.fill_defaults.Goals as goal
 
-pub returns-clause-filled : goal.returns-clause-filled
-returns-clause-filled g c =
-    let after : List Slot
-    = set c.args.slots.now c.args.self.0 (Slot.Used (repieced c.place_mut-place.result.now c.default_piece.new.piece)) in
-    on_ok_weaker c.default_piece.result
-    (λ filled.
-    of_place c.args.slots.now c.args.self.0 c.place_mut-place.result.now c.place_mut-place.ensures.value
-    (λ (at : Node).
-    Becomes c.args.slots.now after c.args.self.0 at (defaulted c.args.table.now (shape_of c.args.plan.now at.node) at.body))
-    (subst (λ (body : Body). Becomes c.args.slots.now after c.args.self.0 (node_of c.place_mut-place.result.now) body) filled
-    (becomes c.args.slots.now c.args.self.0 c.place_mut-place.result.now c.place_mut-place.ensures.value
-    c.default_piece.new.piece)))
-    c.default_piece.ensures.filled
-
-pub returns-clause-unchanged : goal.returns-clause-unchanged
-returns-clause-unchanged g c =
-    IfErr-weaker c.default_piece.result _ _
-    (λ kind. either kind)
-    c.default_piece.ensures.unchanged
+pub returns-clause-why : goal.returns-clause-why
+returns-clause-why g c =
+    IfErr-weaker c.fill_by.result _ _ (λ kind why. in_use_so c.args.slots.now c.args.self.0
+    (λ (at : Node). IsUnfilled FillColumn.Deferred (g.H.Hooks.means c.args.hooks.now) c.args.table.now (shape_of c.args.plan.now at.node) at.body kind)
+    (λ (at : Node). ((kind ≡ Kind.OutOfMemory) × (takes_template at.body ≡ true))
+    ⊎ (unmet c.args.table.now (shape_of c.args.plan.now at.node) at.body ≡ Some kind)) (λ at why. told kind at why) why)
+    c.fill_by.ensures.why
   where
-    either : (kind : ReflectErrorKind)
-        → (kind ≡ ReflectErrorKind.OutOfMemory) ⊎ (body_of c.default_piece.new.piece ≡ body_of c.place_mut-place.result.now.piece)
-        → (kind ≡ ReflectErrorKind.OutOfMemory)
-        ⊎ Shows (set c.args.slots.now c.args.self.0 (Slot.Used (repieced c.place_mut-place.result.now c.default_piece.new.piece)))
-        (heap_of c.args.slots.now)
-    either kind (inl memory) = inl memory
-    either kind (inr same) =
-        inr (shows_same c.args.slots.now c.args.self.0 c.place_mut-place.result.now c.place_mut-place.ensures.value
-        c.default_piece.new.piece same)
-
-pub returns-clause-others : goal.returns-clause-others
-returns-clause-others g c n ne =
-    set_other c.args.slots.now c.args.self.0 (Slot.Used (repieced c.place_mut-place.result.now c.default_piece.new.piece)) n ne
-
-pub returns-clause-closed : goal.returns-clause-closed
-returns-clause-closed g c =
-    of_place c.args.slots.now c.args.self.0 c.place_mut-place.result.now c.place_mut-place.ensures.value
-    (IsClosedAt c.args.slots.now
-    (set c.args.slots.now c.args.self.0 (Slot.Used (repieced c.place_mut-place.result.now c.default_piece.new.piece)))
-    c.args.self.0)
-    (record {
-      body = body_of c.default_piece.new.piece;
-      closed = c.default_piece.ensures.closed;
-      tokens = c.default_piece.ensures.tokens;
-      becomes =
-          becomes c.args.slots.now c.args.self.0 c.place_mut-place.result.now c.place_mut-place.ensures.value
-          c.default_piece.new.piece;
-    })
-
-pub returns-clause-tokens : goal.returns-clause-tokens
-returns-clause-tokens g c t =
-    omega (
-      arith,
-      occur_change c.args.slots.now c.args.self.0 c.place_mut-place.result.now c.place_mut-place.ensures.value
-          c.default_piece.new.piece t,
-      c.default_piece.ensures.tokens t,
-    )
+    told : (kind : Kind) (at : Node)
+        → IsUnfilled FillColumn.Deferred (g.H.Hooks.means c.args.hooks.now) c.args.table.now (shape_of c.args.plan.now at.node) at.body kind
+        → ((kind ≡ Kind.OutOfMemory) × (takes_template at.body ≡ true))
+        ⊎ (unmet c.args.table.now (shape_of c.args.plan.now at.node) at.body ≡ Some kind)
+    told kind at (inl h) = inl (h.0, h.2)
+    told kind at (inr e) = inr e

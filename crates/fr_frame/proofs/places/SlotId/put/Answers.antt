@@ -10,12 +10,10 @@ returns-clause-put c =
 
 pub returns-clause-tokens : goal.returns-clause-tokens
 returns-clause-tokens c =
-    of_place c.args.slots.now c.args.self.0 c.place_mut-place.result.now c.place_mut-place.ensures.value
-    (λ (at : Node).
+    of_place c.args.slots.now c.args.self.0 c.place_mut-place.result.now c.place_mut-place.ensures.value (λ (at : Node).
     (t : ℕ) → slots_occur c.args.slots.now t + occurs (view c.args.value) t
     ≡ slots_occur (set c.args.slots.now c.args.self.0 (Slot.Used (repieced c.place_mut-place.result.now c.replace-before.new.dest))) t
-    + body_occurs at.body t)
-    (λ t.
+    + body_occurs at.body t) (λ t.
     omega (
       arith,
       occur_change c.args.slots.now c.args.self.0 c.place_mut-place.result.now c.place_mut-place.ensures.value

@@ -10,8 +10,7 @@ pub returns-then-is_list-clause-passing : goal.returns-then-is_list-clause-passi
 returns-then-is_list-clause-passing g c =
     of_outline (node_of c.in-Some.place.now) (heap_of c.args.slots.now c.args.self.0)
     (λ (at : Node). (table : Table) → IsChecked table → IsPlanFor table c.args.plan.now → MayComplete table c.args.plan.now at
-    → invalid (g.H.Hooks.means c.args.hooks.now) table (shape_of c.args.plan.now at.node) at.body ≡ None)
-    c.in-Some.ensures.place
+    → invalid (g.H.Hooks.means c.args.hooks.now) table (shape_of c.args.plan.now at.node) at.body ≡ None) c.in-Some.ensures.place
     (λ at there same table checked planned may.
     list_valid (g.H.Hooks.means c.args.hooks.now) table (shape_of c.args.plan.now at.node) at.body
     (sym (same_list _ at.body (same_body (node_of c.in-Some.place.now) at same)) ∙ sym c.is_list.ensures ∙ c.if-is_list.true))
@@ -35,27 +34,17 @@ returns-clause-passing g c =
     let there : heap_of c.args.slots.now c.args.self.0 ≡ Some (node_of c.in-Some.place.now)
     = found_same (node_of c.in-Some.place.now) (heap_of c.args.slots.now c.args.self.0) c.in-Some.ensures.place
     (sym c.is_list.ensures ∙ c.if-is_list.false) in
-    on_ok_weaker c.test_valid.result
-    (λ passing.
-    subst
-    (λ (found : Option Node).
-    IsSomeAnd found
+    on_ok_weaker c.test_valid.result (λ passing. subst (λ (found : Option Node). IsSomeAnd found
     (λ (at : Node). (table : Table) → IsChecked table → IsPlanFor table c.args.plan.now → MayComplete table c.args.plan.now at
     → invalid (g.H.Hooks.means c.args.hooks.now) table (shape_of c.args.plan.now at.node) at.body ≡ None))
-    (sym there) (λ table checked planned may. passing table checked planned may.planned may.full))
-    c.test_valid.ensures.passing
+    (sym there) (λ table checked planned may. passing table checked planned)) c.test_valid.ensures.passing
 
 pub returns-clause-failing : goal.returns-clause-failing
 returns-clause-failing g c =
     let there : heap_of c.args.slots.now c.args.self.0 ≡ Some (node_of c.in-Some.place.now)
     = found_same (node_of c.in-Some.place.now) (heap_of c.args.slots.now c.args.self.0) c.in-Some.ensures.place
     (sym c.is_list.ensures ∙ c.if-is_list.false) in
-    IfErr-weaker c.test_valid.result _ _
-    (λ kind failing.
-    subst
-    (λ (found : Option Node).
-    IsSomeAnd found
+    IfErr-weaker c.test_valid.result _ _ (λ kind failing. subst (λ (found : Option Node). IsSomeAnd found
     (λ (at : Node). (table : Table) → IsChecked table → IsPlanFor table c.args.plan.now → MayComplete table c.args.plan.now at
     → IsCauseOf (invalid (g.H.Hooks.means c.args.hooks.now) table (shape_of c.args.plan.now at.node) at.body) kind))
-    (sym there) (λ table checked planned may. failing table checked planned may.planned may.full))
-    c.test_valid.ensures.failing
+    (sym there) (λ table checked planned may. failing table checked planned)) c.test_valid.ensures.failing

@@ -1,6 +1,6 @@
-use Rattle.std.proofs.Common.{List, refl, ap, ◌∙◌}
+use Rattle.std.proofs.Common.{List, refl, ap, ◌∙◌, arith}
 use Rattle.fr_frame.specs.Common.{Slot, heap_of, slots_occur, slots_seen}
-use Rattle.fr_frame.proofs.SlotLaws.{freed_occur, reserved_in, set_same}
+use Rattle.fr_frame.proofs.SlotLaws.{reserved_in, set_occur, set_same}
 use Rattle.fr_frame.proofs.slots.Slots.give_back.Goals as goal
 
 pub put-requires : goal.put-requires
@@ -12,10 +12,13 @@ pub returns-clause-rest : goal.returns-clause-rest
 returns-clause-rest c n =
     ap (λ (raw : List Slot). heap_of (slots_seen raw) n) c.put.ensures.now
     ∙ set_same c.self.inside.entries c.args.self.now c.self.view_is c.args.id.0 Slot.Reserved (Slot.Free c.self.inside.free)
-    (reserved_in c.self.inside.entries c.args.self.now c.self.view_is c.args.id.0 c.requires.reserved) refl refl refl refl n
+    (reserved_in c.self.inside.entries c.args.self.now c.self.view_is c.args.id.0 c.requires.reserved) refl refl n
 
 pub returns-clause-tokens : goal.returns-clause-tokens
 returns-clause-tokens c t =
-    ap (λ (raw : List Slot). slots_occur (slots_seen raw) t) c.put.ensures.now
-    ∙ freed_occur c.self.inside.entries c.args.self.now c.self.view_is c.args.id.0 c.self.inside.free
-    (reserved_in c.self.inside.entries c.args.self.now c.self.view_is c.args.id.0 c.requires.reserved) t
+    omega (
+      arith,
+      ap (λ (raw : List Slot). slots_occur (slots_seen raw) t) c.put.ensures.now,
+      set_occur c.self.inside.entries c.args.self.now c.self.view_is c.args.id.0 Slot.Reserved (Slot.Free c.self.inside.free)
+          (reserved_in c.self.inside.entries c.args.self.now c.self.view_is c.args.id.0 c.requires.reserved) refl t,
+    )

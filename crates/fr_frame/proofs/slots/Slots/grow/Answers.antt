@@ -2,8 +2,7 @@ use Rattle.std.proofs.Common.{arith}
 use Rattle.std.proofs.lemmas.Result.{on_ok_weaker, IfErr-weaker}
 use Rattle.fr_frame.specs.Common.{Slot}
 use Rattle.fr_frame.specs.Growing.{grown}
-use Rattle.fr_frame.proofs.PlaceLaws.{repieced, shows, shows_same, occur_change}
-use Rattle.fr_frame.proofs.ReservedLaws.{keeps_reserved}
+use Rattle.fr_frame.proofs.PlaceLaws.{keeps_reserved, repieced, shows, shows_same, occur_change}
 use Rattle.fr_frame.proofs.slots.Slots.grow.Goals as goal
 
 pub returns-clause-grown : goal.returns-clause-grown
@@ -14,8 +13,7 @@ returns-clause-grown c =
 
 pub returns-clause-refused : goal.returns-clause-refused
 returns-clause-refused c =
-    IfErr-weaker c.grow.result _ _
-    (λ e.
+    IfErr-weaker c.grow.result _ _ (λ e.
     shows_same c.args.self.now c.args.parent.0 c.place_mut-place.result.now c.place_mut-place.ensures.value c.grow.new.piece)
     c.grow.ensures.refused
 

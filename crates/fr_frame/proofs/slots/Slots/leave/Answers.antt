@@ -1,6 +1,7 @@
-use Rattle.std.proofs.Common.{◌≡◌, ℕ, ◌+◌, ◌<◌, List, length, Some, set, slice_get, refl, sym, subst, ap, ap₂, ◌∙◌}
-use Rattle.fr_frame.specs.Common.{IsPlain, Slot, body_occurs, body_of, heap_of, slots_occur, slots_seen}
-use Rattle.fr_frame.proofs.SlotLaws.{drained_inside, drained_slot, emptied_occur, node_seen, plain_used, read, set_shows}
+use Rattle.std.proofs.Common.{◌≡◌, ℕ, ◌<◌, List, length, Some, set, slice_get, refl, sym, subst, ap, ap₂, ◌∙◌, arith}
+use Rattle.fr_frame.specs.Common.{IsPlain, Slot, heap_of, slots_occur, slots_seen}
+use Rattle.fr_frame.proofs.SlotLaws.{drained_inside, drained_slot, node_seen, plain_used, set_occur, set_shows}
+use Rattle.fr_frame.proofs.HeapLaws.{read}
 use Rattle.fr_frame.proofs.slots.Slots.leave.Goals as goal
 
 pub get_mut-requires : goal.get_mut-requires
@@ -24,8 +25,7 @@ there : (c : goal.In-Used) → slice_get c.drain.new.entries c.args.id.0 ≡ Som
 there c =
     read c.drain.new.entries c.args.id.0 c.idx.result c.get_mut.result.now c.idx.ensures.number
     (drained_inside c.self.inside.entries c.args.self.now c.self.view_is c.drain.new.entries c.args.id.0 c.requires
-    c.drain.ensures.plain) c.get_mut.ensures.value
-    ∙ ap (λ (slot : Slot). Some slot) (sym c.in-Used.ensures.value)
+    c.drain.ensures.plain) c.get_mut.ensures.value ∙ ap (λ (slot : Slot). Some slot) (sym c.in-Used.ensures.value)
 
 now : (c : goal.In-Used) → set c.drain.new.entries c.idx.result c.replace-slot.new.dest
     ≡ set c.drain.new.entries c.args.id.0 (Slot.Free c.drain.new.free)
@@ -40,10 +40,13 @@ pub returns-clause-rest : goal.returns-clause-rest
 returns-clause-rest c n =
     ap (λ (raw : List Slot). heap_of (slots_seen raw) n) (now c)
     ∙ set_shows c.drain.new.entries c.args.self.now (c.drain.ensures.seen ∙ c.self.view_is) c.args.id.0 (Slot.Used c.in-Used.place)
-    (Slot.Free c.drain.new.free) (there c) refl refl n
+    (Slot.Free c.drain.new.free) (there c) refl n
 
 pub returns-clause-tokens : goal.returns-clause-tokens
 returns-clause-tokens c t =
-    emptied_occur c.drain.new.entries c.args.self.now (c.drain.ensures.seen ∙ c.self.view_is) c.args.id.0 c.in-Used.place
-    c.drain.new.free (there c) t
-    ∙ ap (λ (raw : List Slot). slots_occur (slots_seen raw) t + body_occurs (body_of c.in-Used.place.piece) t) (sym (now c))
+    omega (
+      arith,
+      ap (λ (raw : List Slot). slots_occur (slots_seen raw) t) (now c),
+      set_occur c.drain.new.entries c.args.self.now (c.drain.ensures.seen ∙ c.self.view_is) c.args.id.0 (Slot.Used c.in-Used.place)
+          (Slot.Free c.drain.new.free) (there c) refl t,
+    )

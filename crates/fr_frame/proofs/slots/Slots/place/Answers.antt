@@ -1,13 +1,13 @@
 use Rattle.std.proofs.Common.{◌≡◌, Some, slice_get, option_map, ap, sym, ◌∙◌, arith}
 use Rattle.fr_frame.specs.Common.{items_of, outlined}
-use Rattle.fr_frame.proofs.SlotLaws.{no_place, node_seen, past_seen, read, with_place}
+use Rattle.fr_frame.proofs.SlotLaws.{no_place, node_seen, past_seen, with_place}
+use Rattle.fr_frame.proofs.HeapLaws.{read}
 use Rattle.fr_frame.proofs.slots.Slots.place.Goals as goal
 
 pub returns-then-id-len : goal.returns-then-id-len
 returns-then-id-len c = record {
   place =
-      sym (ap (option_map outlined)
-      (past_seen c.self.inside.entries c.args.self.now c.self.view_is c.args.id.0
+      sym (ap (option_map outlined) (past_seen c.self.inside.entries c.args.self.now c.self.view_is c.args.id.0
       (omega (arith, c.len.ensures.count, c.if-id-len.true))));
 }
 

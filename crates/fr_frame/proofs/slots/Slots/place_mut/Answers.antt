@@ -1,6 +1,7 @@
 use Rattle.std.proofs.Common.{◌≡◌, ℕ, ◌<◌, length, Some, set, slice_get, refl, sym, subst, ap, ◌∙◌}
 use Rattle.fr_frame.specs.Common.{Place, Slot, slots_seen}
-use Rattle.fr_frame.proofs.SlotLaws.{drained_inside, drained_slot, get_seen, read, set_seen}
+use Rattle.fr_frame.proofs.SlotLaws.{drained_inside, drained_slot, get_seen, set_seen}
+use Rattle.fr_frame.proofs.HeapLaws.{read}
 use Rattle.fr_frame.proofs.slots.Slots.place_mut.Goals as goal
 
 pub get_mut-slot-requires : goal.get_mut-slot-requires
@@ -25,10 +26,9 @@ returns c =
     ∙ ap (λ (slot : Slot). Some slot) c.place_mut.ensures.value in (
       (
         refl,
-        λ (w : Place).
-            ap (λ (at : ℕ). slots_seen (set c.drain.new.entries at (Slot.Used w))) c.idx.ensures.number
+        λ (w : Place). ap (λ (at : ℕ). slots_seen (set c.drain.new.entries at (Slot.Used w))) c.idx.ensures.number
             ∙ set_seen c.drain.new.entries c.args.self.now (c.drain.ensures.seen ∙ c.self.view_is) c.args.id.0
-            (Slot.Used c.place_mut.result.now) (Slot.Used w) here refl refl,
+            (Slot.Used c.place_mut.result.now) (Slot.Used w) here refl,
       ),
       record {
         writes_back = tt;

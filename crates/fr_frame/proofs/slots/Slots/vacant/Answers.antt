@@ -1,19 +1,20 @@
-use Rattle.std.proofs.Common.{List, slice_get, refl, ap, ◌∙◌}
+use Rattle.std.proofs.Common.{List, Option, IsSomeAnd, slice_get, refl, ap, sym, subst, ◌∙◌, arith}
 use Rattle.fr_frame.specs.Common.{Slot, heap_of, slots_occur, slots_seen}
-use Rattle.fr_frame.proofs.FreeLaws.{free_at}
-use Rattle.fr_frame.proofs.SlotLaws.{get_now, kept_occur, node_seen, set_same}
+use Rattle.fr_frame.specs.RawSlots.{IsFree}
+use Rattle.fr_frame.proofs.HeapLaws.{set_gets}
+use Rattle.fr_frame.proofs.SlotLaws.{get_seen, node_seen, set_occur, set_same}
 use Rattle.fr_frame.proofs.slots.Slots.vacant.Goals as goal
 
 pub reserve-requires : goal.reserve-requires
 reserve-requires c = record {
-  free = free_at c.self.inside.entries c.in-Some.id.0 c.in-Some-after_free.next c.in-Some-after_free.ensures;
+  free = subst (λ (found : Option Slot). IsSomeAnd found IsFree) (sym c.in-Some-after_free.ensures) tt;
 }
 
 pub returns-clause-reserved : goal.returns-clause-reserved
 returns-clause-reserved c =
-    ap (λ (raw : List Slot). slice_get (slots_seen raw) c.in-Some.id.0) c.reserve.ensures.now
-    ∙ get_now c.self.inside.entries c.args.self.now c.self.view_is c.in-Some.id.0 (Slot.Free c.in-Some-after_free.next) Slot.Reserved
-    c.in-Some-after_free.ensures refl refl
+    get_seen c.reserve.new.entries (slots_seen c.reserve.new.entries) refl c.in-Some.id.0 Slot.Reserved
+    (ap (λ (raw : List Slot). slice_get raw c.in-Some.id.0) c.reserve.ensures.now
+    ∙ set_gets c.self.inside.entries c.in-Some.id.0 (Slot.Free c.in-Some-after_free.next) Slot.Reserved c.in-Some-after_free.ensures)
 
 pub returns-clause-vacant : goal.returns-clause-vacant
 returns-clause-vacant c =
@@ -24,10 +25,13 @@ pub returns-clause-rest : goal.returns-clause-rest
 returns-clause-rest c n =
     ap (λ (raw : List Slot). heap_of (slots_seen raw) n) c.reserve.ensures.now
     ∙ set_same c.self.inside.entries c.args.self.now c.self.view_is c.in-Some.id.0 (Slot.Free c.in-Some-after_free.next) Slot.Reserved
-    c.in-Some-after_free.ensures refl refl refl refl n
+    c.in-Some-after_free.ensures refl refl n
 
 pub returns-clause-tokens : goal.returns-clause-tokens
 returns-clause-tokens c t =
-    ap (λ (raw : List Slot). slots_occur (slots_seen raw) t) c.reserve.ensures.now
-    ∙ kept_occur c.self.inside.entries c.args.self.now c.self.view_is c.in-Some.id.0 c.in-Some-after_free.next
-    c.in-Some-after_free.ensures t
+    omega (
+      arith,
+      ap (λ (raw : List Slot). slots_occur (slots_seen raw) t) c.reserve.ensures.now,
+      set_occur c.self.inside.entries c.args.self.now c.self.view_is c.in-Some.id.0 (Slot.Free c.in-Some-after_free.next)
+          Slot.Reserved c.in-Some-after_free.ensures refl t,
+    )

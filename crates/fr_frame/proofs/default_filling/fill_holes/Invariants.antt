@@ -1,7 +1,0 @@
-use Rattle.std.proofs.Common.{◌≡◌}
-use Rattle.fr_frame.specs.Common.{as_fields, shape_of}
-use Rattle.fr_frame.specs.FieldDefaults.{defaulted_first}
-use Rattle.fr_frame.proofs.default_filling.fill_holes.Given as goal
-
-abbrev pub invariant-loop-i : goal.invariant-loop-i
-invariant-loop-i l = l.children ≡ defaulted_first l.table (shape_of l.plan l.fn.node) (as_fields l.fn.selected) 0 l.i l.initial.children

@@ -1,7 +1,0 @@
-use Rattle.std.proofs.Common.{◌∙◌}
-use Rattle.fr_frame.proofs.TrackerLaws.{told_takes}
-use Rattle.fr_frame.proofs.field_defaults.default_of.Goals as goal
-
-pub returns-in-Template : goal.returns-in-Template
-returns-in-Template c =
-    c.template.ensures.meant ∙ told_takes c.args.table.now c.args.meant c.in-Template.default c.requires.named c.in-Template.ensures.rule
