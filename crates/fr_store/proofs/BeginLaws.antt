@@ -1,15 +1,16 @@
 -- Laws of beginning the top, for proofs.
 use Rattle.std.proofs.Common.{◌≡◌, ℕ, zero, suc, ◌+◌, ◌≤◌, List, [], ◌∷◌, length, replicate, false, Option, Some, None, refl, sym, ◌∙◌, ap, subst, arith}
 use Rattle.fr_shape.specs.Fits.{count_vals}
-use Rattle.fr_store.specs.Common.{AllStayPut, AreLeftAll, AreLeftIn, AreUnplaced, Cell, ContentKind, EntriesKind, IsClosed, IsLast, IsOpen, IsOpenAt, ItemsKind, KeepsChildren, Kid, Kids, LosesNone, MayHave, MayHaveIts, Place, Plan, Plot, SameTokens, Shows, Slot, Tracker, Tree, Trees, Val, absent, as_content, as_elements, as_entries, as_fields, as_items, at, base_of_tracker, begun, begun_body, begun_plot, body_in, branch, cells_in, change_at, cursor_in, entered_plot, entry_of, given, gone, heap_of, hole, holes, keeps_closed, keeps_same, kid, kid_here, kid_shown, kids_occur, no_kids, occurs, open_reach, open_top, opened_as, plot_occurs, put_at, there, top_changed, top_stands, tree_change_at, tree_in, tree_in_slots, tree_of, tree_of_at, tree_put_at, trees_in, whole, whole_plot, with_body}
-use Rattle.fr_shape.specs.Tokens.{vals_occur, entries_occur}
-use Rattle.fr_shape.specs.Val.{Vals, no_vals, first, Entries, no_entries, entry, product, list_of, set_of, map_of}
-use Rattle.fr_model.specs.Places.{items_of, parts_of, set_items_of, entries_of, in_turn, base_in, count_entries}
+use Rattle.fr_store.specs.Common.{AllStayPut, AreLeftAll, AreLeftIn, AreUnplaced, Cell, ContentKind, EntriesKind, IsClosed, IsLast, IsOpen, IsOpenAt, KeepsChildren, Kid, Kids, LosesNone, MayHave, MayHaveIts, Place, Plan, Plot, SameTokens, Shows, Slot, Tracker, Tree, Trees, Val, absent, as_content, as_entries, at, base_of_tracker, begun, begun_body, begun_plot, body_in, branch, cells_in, change_at, cursor_in, entered_plot, entry_of, given, gone, heap_of, hole, holes, keeps_closed, keeps_same, kid, kid_here, kid_shown, kids_occur, no_kids, occurs, open_reach, open_top, opened_as, plot_occurs, put_at, there, top_changed, top_stands, tree_change_at, tree_in, tree_in_slots, tree_of, tree_of_at, tree_put_at, trees_in, whole, whole_plot, with_body}
+use Rattle.std.specs.Prelude.{IfSome}
+use Rattle.fr_shape.specs.Tokens.{vals_occur}
+use Rattle.fr_shape.specs.Val.{Vals, no_vals, first, Entries, no_entries, entry, map_of, some}
+use Rattle.fr_model.specs.Places.{entries_of, in_turn, base_in, count_entries}
+use Rattle.fr_model.specs.PartLaws.{parts_hold}
 use Rattle.fr_model.specs.Step.{opened_value, parts_as}
 use Rattle.fr_model.specs.Tree.{over_base, wholes}
 use Rattle.fr_frame.specs.Bodies.{opened, opened_by, cells_of_vals}
 use Rattle.fr_store.specs.LeftLaws.{left_past, left_value, no_base}
-use Rattle.fr_store.specs.Moves.{TakesMany}
 use Rattle.fr_store.proofs.StayLaws.{stay_all, stay_shown}
 
 abbrev pub gones : ℕ → Kids
@@ -71,13 +72,23 @@ pub theres_unplaced : (vs : Vals) → AreUnplaced (cells_in (theres vs))
 theres_unplaced no_vals = tt
 theres_unplaced (first v vs) = (tt, theres_unplaced vs)
 
-many_have : (tracker : Tracker) (count : ℕ) → TakesMany tracker → MayHave tracker count
-many_have (as_content kind) count many = absurd many
-many_have _ count many = tt
+-- a place may have as many children as the value has that it holds, and as are asked for where it holds none
+parts_may : (tracker : Tracker) (v : Val) (vs : Vals) → parts_as tracker v ≡ Some vs → MayHave (over_base tracker v) (length (cells_in (theres vs)))
+parts_may (as_content ContentKind.Some) (some held) vs e =
+    let one : first held no_vals ≡ vs = cc in
+    subst (λ (ws : Vals). length (cells_in (theres ws)) ≤ 1) one (omega arith)
+parts_may (as_content ContentKind.Some) _ vs e = absurd (cc)
+parts_may (as_content _) v vs e = absurd (cc)
+parts_may (as_entries (EntriesKind.Map base)) v vs e = tt
+parts_may (as_entries (EntriesKind.Object keys)) v vs e = tt
+parts_may _ v vs e = tt
 
-over_many : (tracker : Tracker) (v : Val) → TakesMany tracker → TakesMany (over_base tracker v)
-over_many (as_entries (EntriesKind.Map base)) v many = tt
-over_many _ v many = many
+pub gones_count : (count : ℕ) → length (cells_in (gones count)) ≡ count
+gones_count zero = refl
+gones_count (suc count) = ap suc (gones_count count)
+
+pub gones_may : (tracker : Tracker) (count : ℕ) → MayHave tracker count → MayHave tracker (length (cells_in (gones count)))
+gones_may tracker count may = subst (λ (n : ℕ). MayHave tracker n) (sym (gones_count count)) may
 
 pub gones_left : (tracker : Tracker) (i count : ℕ) → base_of_tracker tracker ≡ 0 → AreLeftAll tracker i (gones count)
 gones_left tracker i zero none = no_base tracker i none
@@ -109,18 +120,18 @@ over_base_past : (tracker : Tracker) (v : Val) (vs : Vals) → parts_as tracker 
 over_base_past (as_entries (EntriesKind.Map base)) v vs e = entries_base v vs e
 over_base_past _ v vs e = omega arith
 
-opened_keeps : (tracker : Tracker) (count : ℕ) (plot : Plot) → TakesMany tracker → base_of_tracker tracker ≡ 0
+opened_keeps : (tracker : Tracker) (count : ℕ) (plot : Plot) → MayHave tracker count → base_of_tracker tracker ≡ 0
     → KeepsChildren plot (opened_plot tracker count plot)
-opened_keeps tracker count entered_plot many none =
-    keeps_closed entered_plot (begun_plot tracker (gones count)) (many_have tracker (length (cells_in (gones count))) many)
+opened_keeps tracker count entered_plot may none =
+    keeps_closed entered_plot (begun_plot tracker (gones count)) (gones_may tracker count may)
     (gones_unplaced count) (λ h. gones_left tracker 0 count none)
-opened_keeps tracker count (whole_plot v) many none =
-    keeps_closed (whole_plot v) (opened_whole tracker v (parts_as tracker v)) (may (parts_as tracker v)) (go (parts_as tracker v))
+opened_keeps tracker count (whole_plot v) may none =
+    keeps_closed (whole_plot v) (opened_whole tracker v (parts_as tracker v)) (so (parts_as tracker v) refl) (go (parts_as tracker v))
     (λ h. left (parts_as tracker v) refl)
   where
-    may : (parts : Option Vals) → MayHaveIts (body_in (opened_whole tracker v parts))
-    may (Some vs) = many_have (over_base tracker v) (length (cells_in (theres vs))) (over_many tracker v many)
-    may None = tt
+    so : (parts : Option Vals) → parts_as tracker v ≡ parts → MayHaveIts (body_in (opened_whole tracker v parts))
+    so (Some vs) e = parts_may tracker v vs e
+    so None e = tt
 
     left : (parts : Option Vals) → parts_as tracker v ≡ parts → AreLeftIn (opened_whole tracker v parts)
     left (Some vs) e = theres_left (over_base tracker v) 0 vs (count_vals vs) (omega arith) (over_base_past tracker v vs e)
@@ -129,7 +140,7 @@ opened_keeps tracker count (whole_plot v) many none =
     go : (parts : Option Vals) → IsClosed (body_in (opened_whole tracker v parts))
     go (Some vs) = theres_unplaced vs
     go None = tt
-opened_keeps tracker count (begun_plot made kids) many none = keeps_same (begun_plot made kids)
+opened_keeps tracker count (begun_plot made kids) may none = keeps_same (begun_plot made kids)
 
 opened_loses : (tracker : Tracker) (count : ℕ) (plot : Plot) → LosesNone plot (opened_plot tracker count plot)
 opened_loses tracker count entered_plot n = omega arith
@@ -143,33 +154,12 @@ theres_tokens : (vs : Vals) (t : ℕ) → kids_occur (theres vs) t ≡ vals_occu
 theres_tokens no_vals t = refl
 theres_tokens (first v vs) t = ap (λ (n : ℕ). occurs v t + n) (theres_tokens vs t)
 
-parts_tokens : (tracker : Tracker) (v : Val) (t : ℕ) → plot_occurs (opened_whole tracker v (parts_of v)) t ≡ occurs v t
-parts_tokens tracker (product vs) t = theres_tokens vs t
-parts_tokens tracker _ t = refl
-
-items_tokens : (tracker : Tracker) (v : Val) (t : ℕ) → plot_occurs (opened_whole tracker v (items_of v)) t ≡ occurs v t
-items_tokens tracker (list_of vs) t = theres_tokens vs t
-items_tokens tracker _ t = refl
-
-set_items_tokens : (tracker : Tracker) (v : Val) (t : ℕ) → plot_occurs (opened_whole tracker v (set_items_of v)) t ≡ occurs v t
-set_items_tokens tracker (set_of vs) t = theres_tokens vs t
-set_items_tokens tracker _ t = refl
-
-turn_tokens : (es : Entries) (t : ℕ) → vals_occur (in_turn es) t ≡ entries_occur es t
-turn_tokens no_entries t = refl
-turn_tokens (entry key held es) t = omega (arith, turn_tokens es t)
-
-entries_tokens : (tracker : Tracker) (v : Val) (t : ℕ) → plot_occurs (opened_whole tracker v (entries_of v)) t ≡ occurs v t
-entries_tokens tracker (map_of es) t = theres_tokens (in_turn es) t ∙ turn_tokens es t
-entries_tokens tracker _ t = refl
-
 whole_tokens : (tracker : Tracker) (v : Val) (t : ℕ) → plot_occurs (opened_whole tracker v (parts_as tracker v)) t ≡ occurs v t
-whole_tokens (as_fields None) v t = parts_tokens (as_fields None) v t
-whole_tokens as_elements v t = parts_tokens as_elements v t
-whole_tokens (as_items ItemsKind.List) v t = items_tokens (as_items ItemsKind.List) v t
-whole_tokens (as_items ItemsKind.Set) v t = set_items_tokens (as_items ItemsKind.Set) v t
-whole_tokens (as_entries (EntriesKind.Map base)) v t = entries_tokens (as_entries (EntriesKind.Map base)) v t
-whole_tokens _ v t = refl
+whole_tokens tracker v t = go (parts_as tracker v) (parts_hold tracker v t)
+  where
+    go : (parts : Option Vals) → IfSome parts (λ vs. vals_occur vs t ≡ occurs v t) → plot_occurs (opened_whole tracker v parts) t ≡ occurs v t
+    go (Some vs) same = theres_tokens vs t ∙ same
+    go None same = refl
 
 opened_tokens : (tracker : Tracker) (count : ℕ) (plot : Plot) (t : ℕ) → plot_occurs (opened_plot tracker count plot) t ≡ plot_occurs plot t
 opened_tokens tracker count entered_plot t = gones_tokens count t
@@ -185,11 +175,11 @@ opened_stay slot tracker count _ (i ∷ place) placed = absurd placed.reaches
 
 -- the top is begun
 pub open_begun : (plan : Plan) (before after : List Slot) (stack : List ℕ) (open_now : IsOpen plan before stack) (n : ℕ)
-    → IsLast stack n → (tracker : Tracker) (count : ℕ) → TakesMany tracker → base_of_tracker tracker ≡ 0
+    → IsLast stack n → (tracker : Tracker) (count : ℕ) → MayHave tracker count → base_of_tracker tracker ≡ 0
     → Shows after (with_body (heap_of before) n (opened tracker count)) → SameTokens before after
     → IsOpenAt plan after stack (cursor_in before stack)
     (change_at (cursor_in before stack) (opened_as tracker count) (tree_in_slots before stack))
-open_begun plan before after stack open_now n last tracker count many none shows tokens =
+open_begun plan before after stack open_now n last tracker count may none shows tokens =
     let place : Place = cursor_in before stack in
     let k : Kid = kid_shown (heap_of before) stack in
     let top = open_top plan before stack open_now in
@@ -199,21 +189,21 @@ open_begun plan before after stack open_now n last tracker count many none shows
     (opened_tree tracker count top.plot ∙ ap (opened_as tracker count) (ap tree_of (sym top.is) ∙ tree_of_at place k)) in
     subst (λ (t : Tree). IsOpenAt plan after stack place t) same
     (top_changed plan before after stack open_now n last (opened tracker count) new (opened_body tracker count top.plot)
-    (opened_keeps tracker count top.plot many none) (opened_loses tracker count top.plot) shows
+    (opened_keeps tracker count top.plot may none) (opened_loses tracker count top.plot) shows
     (λ t. omega (arith, tokens t, opened_tokens tracker count top.plot t)))
 
 -- no place leaves its slot
 pub stay_begun : (plan : Plan) (before after : List Slot) (stack : List ℕ) (open_now : IsOpen plan before stack) (n : ℕ)
-    → IsLast stack n → (tracker : Tracker) (count : ℕ) → TakesMany tracker → base_of_tracker tracker ≡ 0
+    → IsLast stack n → (tracker : Tracker) (count : ℕ) → MayHave tracker count → base_of_tracker tracker ≡ 0
     → Shows after (with_body (heap_of before) n (opened tracker count))
     → AllStayPut (kid_here before stack) (kid_here after stack)
-stay_begun plan before after stack open_now n last tracker count many none shows =
+stay_begun plan before after stack open_now n last tracker count may none shows =
     let place : Place = cursor_in before stack in
     let k : Kid = kid_here before stack in
     let top = open_top plan before stack open_now in
     let new : Plot = opened_plot tracker count top.plot in
     stay_shown plan after stack place (put_at place (at top.slot false new) k) k
     (top_stands plan before after stack open_now n last (opened tracker count) new (opened_body tracker count top.plot)
-    (opened_keeps tracker count top.plot many none) shows)
+    (opened_keeps tracker count top.plot may none) shows)
     (stay_all place (at top.slot false new) k (open_reach plan before stack open_now)
     (subst (λ (x : Kid). AllStayPut x (at top.slot false new)) (sym top.is) (opened_stay top.slot tracker count top.plot)))

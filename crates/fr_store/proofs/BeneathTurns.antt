@@ -1,22 +1,23 @@
 -- The turns of the places that lie beneath the one at which a builder works, one after another.
-use Rattle.std.proofs.Common.{◌≡◌, ◌≢◌, ◌↔◌, ℕ, zero, suc, ◌≤◌, Bool, true, false, List, [], ◌∷◌, ◌++◌, append-nil, Option, Some, None, refl, sym, ◌∙◌, ap, ap₂, subst, arith}
-use Rattle.fr_store.specs.Common.{AllMarked, AreStoredAt, AtCursor, Contains, EachFailureHasItsPlace, Failure, FirstByWalkIs, FrameOwner, HasPlace, HasTurned, IsChecked, IsClosed, IsHeldUpHere, IsHere, IsKept, IsLackingAt, IsLast, IsOpen, IsPlaced, IsStoredAt, IsWalk, KeepsTheRest, Kid, Kids, LackingFails, Leads, MayTurn, Meanings, Node, NoneStored, PathStep, Place, Plan, Plot, Reaches, ReflectErrorKind, Slot, StayPutButBeneath, Suits, Table, Top, Tree, at, begun_plot, body_in, closed_at, cursor_in, deferred_column, first_by_walk, gone, heap_of, is_some, kid, kid_at, kid_at_append, kid_here, kid_nth, kid_on_top, leads_at, marked, no_kids, off_stored, open_reach, open_top, own_lack, put_append, put_at, put_nth, reach_place, root_shape, shape_in, slot_at, slot_here, so_top, steps_in, stored_here, stored_in, strict, there, tree_at, tree_here, tree_in_slots, tree_of, tree_of_at, tree_put_at, uses, uses_at, whole}
+use Rattle.std.proofs.Common.{◌≡◌, ◌≢◌, ◌↔◌, ℕ, zero, suc, ◌≤◌, true, false, List, [], ◌∷◌, ◌++◌, append-nil, Some, refl, sym, ◌∙◌, ap, ap₂, subst, arith}
+use Rattle.fr_store.specs.Common.{AllMarked, AreStoredAt, AtCursor, Contains, EachFailureHasItsPlace, Failure, FirstByWalkIs, FrameOwner, HasTurned, IsChecked, IsClosed, IsHeldUpHere, IsKept, IsLackingAt, IsLast, IsOpen, IsPlaced, IsStoredAt, IsWalk, KeepsTheRest, Kid, Kids, LackingFails, Leads, MayTurn, Meanings, Node, NoneStored, PathStep, Place, Plan, Reaches, ReflectErrorKind, Slot, StayPutButBeneath, Suits, Table, Top, Tree, at, begun_plot, body_in, closed_at, cursor_in, first_by_walk, heap_of, kid, kid_at, kid_here, kid_nth, kid_on_top, leads_at, marked, no_kids, off_stored, open_reach, open_top, own_lack, put_at, put_nth, reach_place, root_shape, shape_in, slot_at, slot_here, so_top, steps_in, stored_here, stored_in, strict, there, tree_at, tree_here, tree_in_slots, tree_of, tree_of_at, tree_put_at, uses, uses_at}
 use Rattle.fr_store.specs.MoveLaws.{top_node}
 use Rattle.fr_model.specs.Failing.{failures}
 use Rattle.fr_model.specs.FinishLaws.{Closes, ClosingKeepsFinish}
 use Rattle.fr_model.specs.Laws.{CompletesOrFails, CompletingFits}
 use Rattle.fr_store.specs.Beneath.{IsCompleteBeneath, completed_beneath, shape_here}
-use Rattle.fr_store.specs.ClosingLaws.{closes_with, shape_append, suits_at, suits_change, tree_append}
-use Rattle.fr_store.specs.OffLaws.{stored_beside, stored_still}
+use Rattle.fr_store.specs.ClosingLaws.{closes_with, shape_append, tree_append}
 use Rattle.fr_store.specs.TopLaws.{closed_by_marks}
 use Rattle.fr_store.specs.Turns.{CompletesAsBefore}
-use Rattle.fr_store.specs.WayLaws.{kid_put_at, put_at_twice}
+use Rattle.fr_store.specs.WayLaws.{put_at_twice}
 use Rattle.fr_store.proofs.BeneathMeant.{nothing_left, same_within}
 use Rattle.fr_store.proofs.FailLaws.{cause_is, fails_beneath, none_made}
-use Rattle.fr_store.proofs.HeadLaws.{Head, head_closed, head_of, one_place, walk_on}
+use Rattle.fr_store.proofs.DueLaws.{due, head as due_head, kid_next, left_next, only_here, part_next, same as due_same, stored as due_stored, suits_next}
+use Rattle.fr_store.proofs.HeadLaws.{Head}
 use Rattle.fr_store.proofs.HeldLaws.{closed_cursor, first_fails, no_marks}
 use Rattle.fr_store.proofs.OpenLaws.{open_stay}
-use Rattle.fr_store.proofs.PlaceLaws.{mark_at, place_of, placed_below}
+use Rattle.fr_store.proofs.PlaceLaws.{leads_here, mark_at}
+use Rattle.fr_store.proofs.WalkLaws.{placed_stored}
 use Rattle.fr_store.proofs.StayLaws.{stay_but_beneath}
 
 -- What lies at a place, put there, changes nothing.
@@ -43,22 +44,10 @@ module _ (plan : Plan) (slots : List Slot) (stack : List ℕ) (open_now : IsOpen
   pub once_on_top : (n : ℕ) → uses (kid_on_top slots stack) n ≤ 1
   once_on_top n = omega (arith, uses_at (cursor_in slots stack) (kid_here slots stack) n, open_now.stands.once n)
 
-  top_here : (x : Kid) → Leads [] x → IsHere x
-  top_here (at slot stored plot) leads = tt
-  top_here _ leads = absurd leads
-
   pub placed_on_top : IsPlaced (kid_here slots stack) (cursor_in slots stack)
-  placed_on_top = record { reaches = open_reach plan slots stack open_now; here = top_here (kid_on_top slots stack) leads_on_top }
-
-  -- a stored place beneath it
-  pub stored_beneath : (n : ℕ) (rel : Place) → IsStoredAt (kid_on_top slots stack) n rel
-      → IsStoredAt (kid_here slots stack) n (cursor_in slots stack ++ rel)
-  stored_beneath n rel stored = record {
-    plot = stored.plot;
-    reaches =
-        (placed_below (cursor_in slots stack) rel (kid_here slots stack) placed_on_top
-        (record { reaches = stored.reaches; here = subst IsHere (sym stored.is) tt })).reaches;
-    is = kid_at_append (cursor_in slots stack) rel (kid_here slots stack) ∙ stored.is;
+  placed_on_top = record {
+    reaches = open_reach plan slots stack open_now;
+    here = leads_here [] (kid_on_top slots stack) leads_on_top;
   }
 
 -- What became of it so far: the places of a walk over what lies beneath are left, and all else is as it was.
@@ -95,8 +84,11 @@ module _ (means : Meanings) (table : Table) (plan : Plan) (before : List Slot) (
     abbrev x : Kid
     x = kid_on_top now stack
 
-    head : Head (kid_on_top now stack) n rest walked.left.places
-    head = head_of (kid_on_top now stack) n rest walked.left
+    on : cursor_in now stack ≡ cursor_in now stack ++ []
+    on = sym (append-nil (cursor_in now stack))
+
+    abbrev head : Head (kid_on_top now stack) n rest walked.left.places
+    head = due_head now stack walked.still (cursor_in now stack) [] on n rest walked.left
 
     -- where it lies
     abbrev here : Place
@@ -106,81 +98,47 @@ module _ (means : Meanings) (table : Table) (plan : Plan) (before : List Slot) (
     leads = leads_on_top plan now stack walked.still
 
     stored : IsStoredAt (kid_here now stack) n here
-    stored = stored_beneath plan now stack walked.still n head.place head.stored
-
-    closed : IsClosed (body_in head.stored.plot)
-    closed = head_closed (kid_on_top now stack) n rest walked.left head [] leads
-
-    is_there : kid_at here (kid_here now stack) ≡ at n true head.stored.plot
-    is_there = kid_at_append (cursor_in now stack) head.place (kid_here now stack) ∙ head.stored.is
-
-    reach : Reaches here (kid_here now stack)
-    reach =
-        (placed_below (cursor_in now stack) head.place (kid_here now stack) (placed_on_top plan now stack walked.still)
-        (record { reaches = head.stored.reaches; here = subst IsHere (sym head.stored.is) tt })).reaches
+    stored = due_stored now stack walked.still (cursor_in now stack) [] on n rest walked.left
 
     -- it may have its turn
     pub beneath_due : MayTurn now stack n
-    beneath_due = record { place = here; plot = head.stored.plot; reaches = reach; is = is_there; closed = closed }
-
-    -- there is no other place in its slot
-    only_here : (place : Place) → IsStoredAt (kid_here now stack) n place → place ≡ here
-    only_here place other =
-        one_place place here (kid_here now stack) n true true other.plot head.stored.plot (walked.still.stands.once n)
-        other.reaches reach other.is is_there
+    beneath_due = due now stack walked.still (cursor_in now stack) [] on n rest walked.left
 
     -- it is stored
     pub beneath_marked : marked (heap_of now) n ≡ true
     beneath_marked =
-        let placed : IsPlaced (kid_here now stack) here = record { reaches = reach; here = subst IsHere (sym is_there) tt } in
-        let slot : slot_at (kid_here now stack) here ≡ n = ap slot_here is_there in
-        ap (marked (heap_of now)) (sym slot)
-        ∙ mark_at plan (heap_of now) plan.root FrameOwner.Root 0 here (kid_here now stack) walked.still.stands.holds placed
-        ∙ ap stored_here is_there
+        ap (marked (heap_of now)) (sym (ap slot_here stored.is))
+        ∙ mark_at plan (heap_of now) plan.root FrameOwner.Root 0 here (kid_here now stack) walked.still.stands.holds
+        (placed_stored (kid_here now stack) n here stored) ∙ ap stored_here stored.is
 
     -- it had its turn
     module _ (next : List Slot) (turned : HasTurned means table plan now stack next n) where
       same : turned.place ≡ here
-      same = only_here turned.place turned.stored
+      same = due_same now stack walked.still (cursor_in now stack) [] on n rest walked.left means table next turned
 
       new : Kid
       new = put_at head.place (there turned.value) (kid_on_top now stack)
 
-      kid_next : kid_here next stack ≡ put_at (cursor_in now stack) new (kid_here now stack)
-      unfolding new
-      kid_next =
-          turned.here ∙ ap (λ (p : Place). put_at p (there turned.value) (kid_here now stack)) same
-          ∙ put_append (cursor_in now stack) head.place (there turned.value) (kid_here now stack)
-
       top_next : kid_on_top next stack ≡ new
-      top_next =
-          ap (λ (p : Place). kid_at p (kid_here next stack)) turned.stands.cursor ∙ ap (kid_at (cursor_in now stack)) kid_next
-          ∙ kid_put_at (cursor_in now stack) new (kid_here now stack) (open_reach plan now stack walked.still)
-
-      left_next : IsWalk (kid_on_top next stack) rest
       unfolding new
-      left_next =
-          subst (λ (y : Kid). IsWalk y rest) (sym top_next)
-          (walk_on (kid_on_top now stack) n rest walked.left head [] leads (once_on_top plan now stack walked.still) turned.value).0
+      top_next =
+          ap (λ (p : Place). kid_at p (kid_here next stack)) turned.stands.cursor
+          ∙ part_next now stack walked.still (cursor_in now stack) [] on n rest walked.left means table next turned
+
+      left_top : IsWalk (kid_on_top next stack) rest
+      left_top =
+          subst (λ (p : Place). IsWalk (kid_at p (kid_here next stack)) rest) (sym turned.stands.cursor)
+          (left_next now stack walked.still (cursor_in now stack) [] on n rest walked.left means table next turned).0
 
       beside_next : kid_here next stack ≡ put_at (cursor_in before stack) (kid_on_top next stack) (kid_here before stack)
+      unfolding new
       beside_next =
-          kid_next ∙ ap (λ (p : Place). put_at p new (kid_here now stack)) walked.cursor
+          kid_next now stack walked.still (cursor_in now stack) [] on n rest walked.left means table next turned
+          ∙ ap (λ (p : Place). put_at p new (kid_here now stack)) walked.cursor
           ∙ ap (put_at (cursor_in before stack) new) walked.beside
           ∙ put_at_twice (cursor_in before stack) (kid_on_top now stack) new (kid_here before stack)
           (open_reach plan before stack open_first)
           ∙ ap (λ (y : Kid). put_at (cursor_in before stack) y (kid_here before stack)) (sym top_next)
-
-      has : HasPlace turned.place (tree_in_slots now stack)
-      has = reach_place turned.place (kid_here now stack) turned.stored.reaches
-
-      suits_on : CompletingFits → IsChecked table
-          → Suits table (root_shape plan) (closed_at turned.place turned.value (tree_in_slots now stack))
-      suits_on fitting checked =
-          suits_change table (root_shape plan) turned.place (whole turned.value) (tree_in_slots now stack) has walked.suits tt
-          (fitting deferred_column means table (shape_in table (root_shape plan) turned.place (tree_in_slots now stack))
-          (tree_at turned.place (tree_in_slots now stack)) turned.value checked
-          (suits_at table (root_shape plan) turned.place (tree_in_slots now stack) has walked.suits) turned.meant)
 
       -- the same is to come of what lies at the top
       meant_next : ClosingKeepsFinish → completed_beneath means table (shape_here table plan next stack) (tree_here next stack)
@@ -191,15 +149,18 @@ module _ (means : Meanings) (table : Table) (plan : Plan) (before : List Slot) (
           ∙ same_within means table closing (root_shape plan) (cursor_in now stack) head.place turned.value
           (tree_in_slots now stack) (λ e. off_stored [] head.place x n head.stored.plot leads head.stored.is [] (sym e ∙ sym (append-nil head.place)))
           (subst (λ (p : Place). Closes means table (root_shape plan) p turned.value (tree_in_slots now stack)) same
-          (closes_with means table (root_shape plan) turned.place turned.value (tree_in_slots now stack) has turned.meant))
+          (closes_with means table (root_shape plan) turned.place turned.value (tree_in_slots now stack)
+          (reach_place turned.place (kid_here now stack) turned.stored.reaches) turned.meant))
 
       pub beneath_goes_on : CompletingFits → IsChecked table → ClosingKeepsFinish → KeepsTheRest means table plan now stack next
           → WalkedBeneath means table plan before stack next rest
       beneath_goes_on fitting checked closing keeps = record {
         still = turned.stands.open_still;
         cursor = turned.stands.cursor ∙ walked.cursor;
-        suits = subst (Suits table (root_shape plan)) (sym turned.stands.built) (suits_on fitting checked);
-        left = left_next;
+        suits =
+            suits_next now stack walked.still (cursor_in now stack) [] on n rest walked.left means table next turned fitting checked
+            walked.suits;
+        left = left_top;
         beside = beside_next;
         here =
             let one : CompletesAsBefore means table (root_shape plan) (tree_in_slots now stack) (tree_in_slots next stack)
@@ -215,41 +176,13 @@ module _ (means : Meanings) (table : Table) (plan : Plan) (before : List Slot) (
       pub beneath_kept : (store store_next : List ℕ) → IsKept store now
           → ((m : ℕ) → Contains store_next m ↔ (Contains store m × (m ≢ n))) → IsKept store_next next
       beneath_kept store store_next kept less m = (
-        λ is. (less m).1 ((kept m).0 (turned.marks m is), λ e. freed (subst (λ (y : ℕ). marked (heap_of next) y ≡ true) e is)),
-        λ found. still_marked ((less m).0 found).1 ((kept m).1 ((less m).0 found).0),
+        λ is. let ne : m ≢ n = λ e. freed (subst (λ (y : ℕ). marked (heap_of next) y ≡ true) e is) in
+            (less m).1 ((kept m).0 (sym (turned.marks m ne) ∙ is), ne),
+        λ found. let both = (less m).0 found in turned.marks m both.1 ∙ (kept m).1 both.0,
       )
         where
           freed : marked (heap_of next) n ≡ true → ⊥
           freed is = let no : false ≡ true = sym (ap stored_in turned.free) ∙ is in cc
-
-          used : (found : Option Node) → stored_in found ≡ true → is_some found ≡ true
-          used (Some node) is = refl
-          used None is = absurd (cc)
-
-          plot_of : (y : Kid) → IsHere y → stored_here y ≡ true → (plot : Plot) × (y ≡ at (slot_here y) true plot)
-          plot_of (at slot mark plot) lies is = (plot, ap (λ (b : Bool). at slot b plot) is)
-          plot_of _ lies is = absurd lies
-
-          still_marked : m ≢ n → marked (heap_of now) m ≡ true → marked (heap_of next) m ≡ true
-          still_marked ne is =
-              let lies = place_of (kid_here now stack) m (walked.still.all m (used (heap_of now m) is)) in
-              let mark : stored_here (kid_at lies.0 (kid_here now stack)) ≡ true
-              = sym (mark_at plan (heap_of now) plan.root FrameOwner.Root 0 lies.0 (kid_here now stack)
-              walked.still.stands.holds lies.1) ∙ ap (marked (heap_of now)) lies.2 ∙ is in
-              let plot = plot_of (kid_at lies.0 (kid_here now stack)) lies.1.here mark in
-              let stored_m : IsStoredAt (kid_here now stack) m lies.0
-              = record { plot = plot.0; reaches = lies.1.reaches; is = plot.1 ∙ ap (λ (s : ℕ). at s true plot.0) lies.2 } in
-              let apart : lies.0 ≢ here = λ e. ne (sym lies.2 ∙ ap (slot_at (kid_here now stack)) e ∙ ap slot_here is_there) in
-              let after : IsStoredAt (put_at here (there turned.value) (kid_here now stack)) m lies.0
-              = stored_still here lies.0 (kid_here now stack) turned.value m reach
-              (stored_beside here lies.0 (kid_here now stack) n m head.stored.plot is_there closed stored_m apart) stored_m in
-              let stored_next : IsStoredAt (kid_here next stack) m lies.0 = subst (λ (y : Kid). IsStoredAt y m lies.0)
-              (sym (turned.here ∙ ap (λ (p : Place). put_at p (there turned.value) (kid_here now stack)) same)) after in
-              let placed : IsPlaced (kid_here next stack) lies.0
-              = record { reaches = stored_next.reaches; here = subst IsHere (sym stored_next.is) tt } in
-              ap (marked (heap_of next)) (sym (ap slot_here stored_next.is))
-              ∙ mark_at plan (heap_of next) plan.root FrameOwner.Root 0 lies.0 (kid_here next stack)
-              turned.stands.open_still.stands.holds placed ∙ ap stored_here stored_next.is
 
     -- it makes no value: it is the first place that fails
     pub beneath_held_up : EachFailureHasItsPlace → LackingFails → FirstByWalkIs → CompletesOrFails → (kind : ReflectErrorKind)
@@ -272,7 +205,8 @@ module _ (means : Meanings) (table : Table) (plan : Plan) (before : List Slot) (
             (tree_at here (tree_in_slots now stack)) ≡ Some kind
         lacks_here =
             subst (λ (p : Place). own_lack means table (shape_in table (root_shape plan) p (tree_in_slots now stack))
-            (tree_at p (tree_in_slots now stack)) ≡ Some kind) (only_here lacks.place lacks.stored) lacks.lacks
+            (tree_at p (tree_in_slots now stack)) ≡ Some kind) (only_here now stack walked.still (cursor_in now stack) [] on n rest walked.left lacks.place lacks.stored)
+            lacks.lacks
 
         lacks_beneath : own_lack means table
             (shape_in table (shape_here table plan now stack) head.place (tree_of (kid_on_top now stack)))

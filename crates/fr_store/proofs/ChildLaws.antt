@@ -1,6 +1,6 @@
 -- Laws of the children of the top, for proofs.
 use Rattle.std.proofs.Common.{◌≡◌, ℕ, suc, ◌+◌, ◌<◌, Bool, true, false, List, length, nat_eq, Some, refl, sym, ◌∙◌, ap, subst, arith}
-use Rattle.fr_store.specs.Common.{AllMarked, AllMarkedAmong, AllMarkedIn, FrameOwner, HasChild, HasTracker, Heap, Holds, HoldsAll, HoldsIn, IsStoredChild, IsUnplaced, Kid, Kids, MayHave, Node, Place, Plan, Plot, Stands, Top, Tracker, at, begun_body, begun_plot, body_in, cell_at, cell_of, cells_in, child_node, child_owner, count_in, count_kids, counts_if, entered_plot, gone, kid_at, kid_nth, marked_nth, may_have_all, node_along, option_and_then, owner_along, slot_of_cell, stored_in, there, top_uses, tree_in, uses, uses_among, uses_in, whole_plot}
+use Rattle.fr_store.specs.Common.{AllMarked, AllMarkedAmong, AllMarkedIn, FrameOwner, HasChild, HasTracker, Heap, Holds, HoldsAll, HoldsIn, IsStoredChild, IsUnplaced, Kid, Kids, MayHave, Node, Place, Plan, Plot, Stands, Top, Tracker, at, begun_body, begun_plot, body_in, cell_at, cell_of, cells_in, child_node, child_owner, count_in, count_kids, counts_if, gone, kid_at, kid_nth, marked_nth, may_have_all, node_along, option_and_then, owner_along, slot_of_cell, stored_in, there, top_uses, tree_in, uses, uses_among, uses_in}
 use Rattle.fr_store.specs.HoldLaws.{holds_nth}
 use Rattle.fr_store.specs.LeaveLaws.{cell_of_child}
 use Rattle.fr_store.specs.Stored.{child_slot}

@@ -1,9 +1,8 @@
 -- The children of one place, from the last in the order of their steps to the first.
-use Rattle.std.proofs.Common.{◌≡◌, ◌⊎◌, ℕ, zero, suc, ◌-◌, ◌*◌, ◌<◌, ◌≤◌, Bool, true, false, ltb, inl, inr, refl, ◌∙◌, ap, arith, Some, None, if◌then◌else◌}
-use Rattle.fr_store.specs.Common.{ContentKind, EntriesKind, ItemsKind, Less, MayHave, Ordering, PathStep, Tracker, as_content, as_elements, as_entries, as_fields, as_items, entry_of, from_last, is_key, is_map_tracker, ordering_then, step_as, step_order}
+use Rattle.std.proofs.Common.{◌≡◌, ◌⊎◌, ℕ, zero, suc, ◌-◌, ◌*◌, ◌<◌, ◌≤◌, Bool, true, false, ltb, inl, inr, refl, sym, ◌∙◌, ap, subst, arith, if◌then◌else◌}
+use Rattle.fr_store.specs.Common.{EntriesKind, Tracker, as_entries, entry_of, from_last, is_key, is_map_tracker}
 use Rattle.std.proofs.lemmas.Bool.{lt-ltb, le-ltb, ltb-true, ltb-false}
-use Rattle.fr_store.proofs.PathOrder.{number_less}
-use Rattle.fr_store.proofs.StepLaws.{field_less, index_less, key_less, value_less}
+use Rattle.fr_store.specs.Places.{IsAfter, IsLater}
 
 -- Keys and values.
 
@@ -82,77 +81,40 @@ from_last_onto true count c h = go (key_or_value c)
           value_first count (entry_of count - suc value.0) (omega (arith, inside)) ∙ omega (arith, value.1, inside),
         )
 
--- The order of their steps.
+-- Their order.
 
--- child i of a place that is begun so has a step of its own: it is no item of a set and no entry of a dynamic object, and isn't
--- the key or the value of an entry that the map had when it was begun
-abbrev pub HasOwnStep : Tracker → ℕ → Type 0
-HasOwnStep (as_items ItemsKind.Set) i = ⊥
-HasOwnStep (as_entries (EntriesKind.Map base)) i = base ≤ entry_of i
-HasOwnStep (as_entries (EntriesKind.Object keys)) i = ⊥
-HasOwnStep _ i = Unit {0}
+later_by : (a b : ℕ) (one other : Bool) → is_key a ≡ one → is_key b ≡ other → IsLater one other a b → IsLater (is_key a) (is_key b) a b
+later_by a b one other p q so =
+    subst (λ (x : Bool). IsLater x (is_key b) a b) (sym p) (subst (λ (x : Bool). IsLater one x a b) (sym q) so)
 
-keys_first : (i j : ℕ) → step_order (PathStep.MapKey i) (PathStep.MapValue j) ≡ Less
-keys_first i j = ap (λ (o : Ordering). ordering_then o (step_order (PathStep.Field i) (PathStep.Field j))) (number_less 6 7 (omega arith))
-
-step_of_key : (base m j : ℕ) → m ≡ 2 * j → step_as (as_entries (EntriesKind.Map base)) m ≡ PathStep.MapKey (j - base)
-step_of_key base m j e =
-    let is = key_at m j e in
-    ap (λ (b : Bool). if b then PathStep.MapKey (entry_of m - base) else PathStep.MapValue (entry_of m - base)) is.0
-    ∙ ap (λ (n : ℕ). PathStep.MapKey (n - base)) is.1
-
-step_of_value : (base m j : ℕ) → m ≡ suc (2 * j) → step_as (as_entries (EntriesKind.Map base)) m ≡ PathStep.MapValue (j - base)
-step_of_value base m j e =
-    let is = value_at m j e in
-    ap (λ (b : Bool). if b then PathStep.MapKey (entry_of m - base) else PathStep.MapValue (entry_of m - base)) is.0
-    ∙ ap (λ (n : ℕ). PathStep.MapValue (n - base)) is.1
-
-map_first : (base count j i : ℕ) → j < i → i < count → base ≤ entry_of (from_last true count i)
-    → step_order (step_as (as_entries (EntriesKind.Map base)) (from_last true count i)) (step_as (as_entries (EntriesKind.Map base)) (from_last true count j)) ≡ Less
-map_first base count j i later within own = go (ltb j (entry_of count)) (ltb i (entry_of count)) refl refl
+-- of a map the values come first, and then the keys
+map_after : (count j i : ℕ) → j < i → i < count
+    → IsLater (is_key (from_last true count j)) (is_key (from_last true count i)) (from_last true count j) (from_last true count i)
+map_after count j i later within = go (ltb j (entry_of count)) (ltb i (entry_of count)) refl refl
   where
-    both : (x y : PathStep) → step_as (as_entries (EntriesKind.Map base)) (from_last true count i) ≡ x
-        → step_as (as_entries (EntriesKind.Map base)) (from_last true count j) ≡ y → step_order x y ≡ Less
-        → step_order (step_as (as_entries (EntriesKind.Map base)) (from_last true count i)) (step_as (as_entries (EntriesKind.Map base)) (from_last true count j)) ≡ Less
-    both x y one other less =
-        ap (λ (s : PathStep). step_order s (step_as (as_entries (EntriesKind.Map base)) (from_last true count j))) one
-        ∙ ap (step_order x) other ∙ less
-
-    go : (a b : Bool) → ltb j (entry_of count) ≡ a → ltb i (entry_of count) ≡ b
-        → step_order (step_as (as_entries (EntriesKind.Map base)) (from_last true count i)) (step_as (as_entries (EntriesKind.Map base)) (from_last true count j)) ≡ Less
+    go : (x y : Bool) → ltb j (entry_of count) ≡ x → ltb i (entry_of count) ≡ y
+        → IsLater (is_key (from_last true count j)) (is_key (from_last true count i)) (from_last true count j) (from_last true count i)
     go true true e f =
-        let first = ltb-true j (entry_of count) e in
-        let second = ltb-true i (entry_of count) f in
-        let past = (value_at (from_last true count i) (entry_of count - suc i) (value_first count i second)).1 in
-        both (PathStep.MapValue (entry_of count - suc i - base)) (PathStep.MapValue (entry_of count - suc j - base))
-        (step_of_value base (from_last true count i) (entry_of count - suc i) (value_first count i second))
-        (step_of_value base (from_last true count j) (entry_of count - suc j) (value_first count j first))
-        (value_less (entry_of count - suc i - base) (entry_of count - suc j - base)
-        (omega (arith, later, own, past, first, second)))
+        let first = value_first count j (ltb-true j (entry_of count) e) in
+        let less = ltb-true i (entry_of count) f in
+        let second = value_first count i less in
+        later_by (from_last true count j) (from_last true count i) false false
+        (value_at (from_last true count j) (entry_of count - suc j) first).0
+        (value_at (from_last true count i) (entry_of count - suc i) second).0 (omega (arith, first, second, later, less))
     go true false e f =
-        let first = ltb-true j (entry_of count) e in
-        let second = ltb-false i (entry_of count) f in
-        both (PathStep.MapKey (count - suc i - base)) (PathStep.MapValue (entry_of count - suc j - base))
-        (step_of_key base (from_last true count i) (count - suc i) (key_last count i second))
-        (step_of_value base (from_last true count j) (entry_of count - suc j) (value_first count j first))
-        (keys_first (count - suc i - base) (entry_of count - suc j - base))
+        later_by (from_last true count j) (from_last true count i) false true
+        (value_at (from_last true count j) (entry_of count - suc j) (value_first count j (ltb-true j (entry_of count) e))).0
+        (key_at (from_last true count i) (count - suc i) (key_last count i (ltb-false i (entry_of count) f))).0 tt
     go false true e f = absurd (omega (arith, ltb-false j (entry_of count) e, ltb-true i (entry_of count) f, later))
     go false false e f =
-        let first = ltb-false j (entry_of count) e in
-        let second = ltb-false i (entry_of count) f in
-        let past = (key_at (from_last true count i) (count - suc i) (key_last count i second)).1 in
-        both (PathStep.MapKey (count - suc i - base)) (PathStep.MapKey (count - suc j - base))
-        (step_of_key base (from_last true count i) (count - suc i) (key_last count i second))
-        (step_of_key base (from_last true count j) (count - suc j) (key_last count j first))
-        (key_less (count - suc i - base) (count - suc j - base) (omega (arith, later, own, past, within)))
+        let first = key_last count j (ltb-false j (entry_of count) e) in
+        let second = key_last count i (ltb-false i (entry_of count) f) in
+        later_by (from_last true count j) (from_last true count i) true true
+        (key_at (from_last true count j) (count - suc j) first).0 (key_at (from_last true count i) (count - suc i) second).0
+        (omega (arith, first, second, later, within))
 
--- what comes as the i-th is before what came as the j-th
-pub listed_order : (tracker : Tracker) (count j i : ℕ) → j < i → i < count → MayHave tracker count
-    → HasOwnStep tracker (from_last (is_map_tracker tracker) count i)
-    → step_order (step_as tracker (from_last (is_map_tracker tracker) count i)) (step_as tracker (from_last (is_map_tracker tracker) count j)) ≡ Less
-listed_order (as_fields selected) count j i later within may own = field_less (count - suc i) (count - suc j) (omega arith)
-listed_order (as_content kind) count j i later within may own = absurd (omega arith)
-listed_order (as_items ItemsKind.Set) count j i later within may own = absurd own
-listed_order (as_entries (EntriesKind.Map base)) count j i later within may own = map_first base count j i later within own
-listed_order (as_entries (EntriesKind.Object keys)) count j i later within may own = absurd own
-listed_order _ count j i later within may own = index_less (count - suc i) (count - suc j) (omega arith)
+-- what comes as the j-th is after what comes later
+pub listed_after : (tracker : Tracker) (count j i : ℕ) → j < i → i < count
+    → IsAfter tracker (from_last (is_map_tracker tracker) count j) (from_last (is_map_tracker tracker) count i)
+listed_after (as_entries (EntriesKind.Map base)) count j i later within = map_after count j i later within
+listed_after _ count j i later within = omega arith

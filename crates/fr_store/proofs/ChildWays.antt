@@ -1,16 +1,17 @@
 -- An open builder goes on to a child, by each of the ways to one: what is asked of the place on top, and what comes of it.
-use Rattle.std.proofs.Common.{◌≡◌, ℕ, ◌<◌, true, false, List, [], ◌∷◌, ◌++◌, length, Option, Some, None, IsSomeAnd, refl, sym, ◌∙◌, ap, subst}
-use Rattle.fr_store.specs.Common.{AllStayPut, Def, EntriesKind, HasTracker, IfInUse, IsKept, IsLast, IsOpen, IsOpenAt, Node, NodeId, Plan, SameMarks, SameTokens, Shows, Slot, StoresNoMore, Tracker, Tree, as_entries, begun, changed_here, child_node, child_owner, cursor_in, depth_below, depth_limit, heap_of, kid_here, node_here, so_top, stored_in, tree_here, with_entered}
+use Rattle.std.proofs.Common.{◌≡◌, ℕ, ◌<◌, false, List, [], ◌∷◌, ◌++◌, Option, Some, None, IsSomeAnd, sym, ◌∙◌, ap, refl}
+use Rattle.fr_store.specs.Common.{AllStayPut, Def, EntriesKind, HasTracker, IfInUse, IsKept, IsLast, IsOpen, IsOpenAt, Node, NodeId, Plan, SameMarks, SameTokens, Shows, Slot, Tracker, Tree, as_entries, begun, changed_here, child_node, child_owner, cursor_in, depth_below, depth_limit, heap_of, kid_here, node_here, so_top, stored_in, tree_here, with_entered, Body, gone}
 use Rattle.fr_frame.specs.declared.places.ChildWay.{ChildWay}
 use Rattle.fr_frame.specs.Growing.{MayEnter as MayBeEntered, number_by, widened}
+use Rattle.fr_frame.specs.Bodies.{added, added_entry, IsGrowing, IsMapBody}
 use Rattle.fr_frame.specs.Heap.{with_mark}
-use Rattle.fr_store.specs.Moves.{MayEnter, child_number, entered_by, node_by, tracker_in}
+use Rattle.fr_store.specs.Moves.{MayEnter, child_number, entered_by, node_by, tracker_in, with_item_of, with_key_of}
 use Rattle.fr_store.specs.Stored.{IsStoredBy}
 use Rattle.fr_store.specs.TopLaws.{marked_entered}
 use Rattle.fr_store.proofs.AgainLaws.{open_again}
 use Rattle.fr_store.proofs.EnteringLaws.{open_entered}
 use Rattle.fr_store.proofs.EntryLaws.{entry_entered, entry_marks, entry_stay, object_here, object_tracker}
-use Rattle.fr_store.proofs.ItemLaws.{item_entered, item_marks, item_stay, key_entered, key_marks, key_stay, map_tracker, takes_item, takes_key}
+use Rattle.fr_store.proofs.ItemLaws.{child_enters, entries_grow, formed, formed_here, items_grow, kids_and_last, map_tracker}
 
 -- what a begun place is begun as
 tracker_is : (tree : Tree) (tracker : Tracker) → HasTracker tracker tree → tracker_in tree ≡ tracker
@@ -27,8 +28,11 @@ module _ (plan : Plan) (before : List Slot) (stack : List ℕ) (open_now : IsOpe
       → IfInUse before p (λ (found : Node). MayBeEntered way found.body)
   may_be_entered (ChildWay.Child i) may = so_top plan before stack open_now p last (λ (found : Node). Unit {0}) tt
   may_be_entered ChildWay.Item may =
-      takes_item plan before stack open_now p last (tracker_in (tree_here before stack)) may.0 may.1
-  may_be_entered ChildWay.Key may = takes_key plan before stack open_now p last may
+      formed_here plan before stack open_now p last (tracker_in (tree_here before stack)) may.0 (λ (body : Body). IsGrowing body) may.1
+  may_be_entered ChildWay.Key may =
+      let made = map_tracker (tree_here before stack) may in
+      formed_here plan before stack open_now p last (as_entries (EntriesKind.Map made.0)) made.1 (λ (body : Body). IsMapBody body)
+      (made.0, refl)
   may_be_entered (ChildWay.Entry key) may = object_here plan before stack open_now p last may.0 may.1
 
   module _ (after : List Slot) (next : List ℕ) (def : Def) (n : ℕ) (node : NodeId) (vacant : heap_of before n ≡ None)
@@ -48,28 +52,22 @@ module _ (plan : Plan) (before : List Slot) (stack : List ℕ) (open_now : IsOpe
     enters (ChildWay.Child i) may is none shows limit =
         let shown : Shows after (with_entered def (heap_of before) node (child_owner p i) n) = whatever (heap_of before p) shows in (
           open_entered plan before stack open_now p last after next (tracker_in (tree_here before stack)) i def n node may.0 may.1 is
-              none vacant shown (whatever (heap_of before p) limit) tokens along,
+              none vacant shown (whatever (heap_of before p) limit) along,
           λ m. ap stored_in (shown m) ∙ marked_entered def (heap_of before) node (child_owner p i) n m vacant,
         )
     enters ChildWay.Item may is none shows limit =
-        let tracker = tracker_in (tree_here before stack) in (
-          (
-            item_entered plan before stack open_now p last tracker may.0 may.1 after next def n node is vacant shows limit tokens along,
-            item_stay plan before stack open_now p last tracker may.0 may.1 after next def n node is vacant shows limit tokens along,
-          ),
-          item_marks plan before stack open_now p last tracker may.0 may.1 after next def n node is vacant shows limit tokens along,
-        )
+        let tracker = tracker_in (tree_here before stack) in
+        let its = (formed plan before stack open_now p last tracker may.0).0 in
+        child_enters plan before stack open_now p last tracker may.0 (kids_and_last its gone) added with_item_of
+        (items_grow tracker its may.1) after next def n node is vacant shows limit tokens along
     enters ChildWay.Key may is none shows limit =
         let made = map_tracker (tree_here before stack) may in
-        let its : node ≡ child_node plan (node_here plan before stack) (as_entries (EntriesKind.Map made.0)) (child_number ChildWay.Key (tree_here before stack))
-        = is ∙ ap (λ (tracker : Tracker). child_node plan (node_here plan before stack) tracker (child_number ChildWay.Key (tree_here before stack)))
-        (tracker_is (tree_here before stack) (as_entries (EntriesKind.Map made.0)) made.1) in (
-          (
-            key_entered plan before stack open_now p last may after next def n node its vacant shows limit tokens along,
-            key_stay plan before stack open_now p last may after next def n node its vacant shows limit tokens along,
-          ),
-          key_marks plan before stack open_now p last may after next def n node its vacant shows limit tokens along,
-        )
+        let map : Tracker = as_entries (EntriesKind.Map made.0) in
+        let its = (formed plan before stack open_now p last map made.1).0 in
+        child_enters plan before stack open_now p last map made.1 (kids_and_last (kids_and_last its gone) gone) added_entry with_key_of
+        (entries_grow made.0 its) after next def n node (is ∙ ap (λ (tracker : Tracker).
+        child_node plan (node_here plan before stack) tracker (child_number ChildWay.Key (tree_here before stack)))
+        (tracker_is (tree_here before stack) map made.1)) vacant shows limit tokens along
     enters (ChildWay.Entry key) may is none shows limit =
         let made = object_tracker (tree_here before stack) may.0 in
         let its : node ≡ node_here plan before stack

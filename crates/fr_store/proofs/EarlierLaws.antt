@@ -1,11 +1,11 @@
 -- The order of ways by their length and, among ways of one length, from the last to the first; and the order of the walk.
-use Rattle.std.proofs.Common.{◌≡◌, ◌≢◌, ℕ, suc, List, [], ◌∷◌, ◌++◌, length, length-append, get_or, inl, inr, refl, ◌∙◌, ap, arith}
-use Rattle.fr_store.specs.Common.{All, AreInWalkOrder, ComesBefore, ComesEarlier, FrameOwner, Heap, IsPlaced, Kid, Ordering, Pairs, Place, Plan, Stands, at, begun_plot, kid_at, kid_below, ordering_then, slice_cmp, step_order, steps_in, tree_of}
-use Rattle.std.proofs.lemmas.List.Elements.{All-head, All-tail}
+use Rattle.std.proofs.Common.{◌≡◌, ◌≢◌, ℕ, suc, List, [], ◌∷◌, ◌++◌, length, length-append, inl, inr, refl, ◌∙◌, ap, arith}
+use Rattle.fr_store.specs.Common.{All, AreInWalkOrder, AreLeftRightly, ComesBefore, ComesEarlier, FrameOwner, Heap, Holds, IsPlaced, Kid, NodeId, Ordering, Pairs, Place, Plan, at, begun_plot, kid_at, kid_below, ordering_then, slice_cmp, step_order, steps_in, tree_of}
 use Rattle.fr_store.specs.Places.{IsAbove, IsAfterBelow}
 use Rattle.fr_store.proofs.HeadLaws.{steps_count}
+use Rattle.fr_store.proofs.PairLaws.{pairs_weaker}
 use Rattle.fr_store.proofs.PathOrder.{number_less, number_equal}
-use Rattle.fr_store.proofs.StepLaws.{after_differs, steps_less}
+use Rattle.fr_store.proofs.StepLaws.{IsByTheWay, after_differs, steps_less}
 
 after_below_differs : (k : Kid) (i j : ℕ) → IsAfterBelow k i j → i ≢ j
 after_below_differs (at slot stored (begun_plot tracker kids)) i j after e = after_differs tracker i j after e
@@ -49,8 +49,9 @@ root_earlier k p i = inl (omega (arith, one_longer p i))
 
 -- Paths.
 
-module _ (plan : Plan) (heap : Heap) (stack : List ℕ) (cursor : Place) (k : Kid) (stands : Stands plan heap stack cursor k) where
-  pub before_earlier : (p q : Place) → IsPlaced k p → IsPlaced k q → ComesEarlier k p q → ComesBefore (tree_of k) q p
+module _ (plan : Plan) (heap : Heap) (node : NodeId) (owner : FrameOwner) (depth : ℕ) (k : Kid)
+    (holds : Holds plan heap node owner depth k) (left : AreLeftRightly k) (by : IsByTheWay k) where
+  before_earlier : (p q : Place) → IsPlaced k p → IsPlaced k q → ComesEarlier k p q → ComesBefore (tree_of k) q p
   before_earlier p q one other (inl shorter) =
       ap (λ (o : Ordering). ordering_then o (slice_cmp step_order (steps_in q (tree_of k)) (steps_in p (tree_of k))))
       (number_less (length (steps_in p (tree_of k))) (length (steps_in q (tree_of k)))
@@ -59,14 +60,10 @@ module _ (plan : Plan) (heap : Heap) (stack : List ℕ) (cursor : Place) (k : Ki
       ap (λ (o : Ordering). ordering_then o (slice_cmp step_order (steps_in q (tree_of k)) (steps_in p (tree_of k))))
       (number_equal (length (steps_in p (tree_of k))) (length (steps_in q (tree_of k)))
       (omega (arith, steps_count p (tree_of k), steps_count q (tree_of k), above.0)))
-      ∙ steps_less plan heap plan.root FrameOwner.Root 0 p q k stands.holds stands.left (inl (cursor, stands.leads)) one.reaches
-      one.here other.reaches other.here above.1
+      ∙ steps_less plan heap node owner depth p q k holds left by one.reaches one.here other.reaches other.here above.1
 
   pub in_walk_order : (places : List Place) → All (IsPlaced k) places → Pairs (λ p q. ComesEarlier k q p) places
       → AreInWalkOrder (tree_of k) places
-  in_walk_order [] placed order = tt
-  in_walk_order (p ∷ places) placed order =
-      let later = All-tail (IsPlaced k) p places placed in (
-        λ i d h. before_earlier (get_or places i d) p (later i d h) (All-head (IsPlaced k) p places placed) (order.0 i d h),
-        in_walk_order places later order.1,
-      )
+  in_walk_order places placed order =
+      pairs_weaker (λ p q. ComesEarlier k q p) (ComesBefore (tree_of k)) (IsPlaced k)
+      (λ p q one other earlier. before_earlier q p other one earlier) places placed order

@@ -1,16 +1,17 @@
 -- Laws of entering, for proofs: a child of the top gets a slot, and is on top then.
 use Rattle.std.proofs.Common.{◌≡◌, ◌≢◌, ◌⊎◌, ℕ, suc, ◌+◌, ◌<◌, ◌≤◌, Bool, true, false, List, [], ◌∷◌, ◌++◌, append-nil, append_assoc, length, nat_eq, Option, Some, None, inl, inr, refl, sym, ◌∙◌, ap, subst, arith, if◌then◌else◌}
-use Rattle.fr_store.specs.Common.{AllServe, AllStayPut, AreLeftAll, AreLeftIn, AreLeftRightly, Body, Def, FrameOwner, HasChild, Heap, Holds, IsClosed, IsKept, IsLast, IsOpen, IsOpenAt, IsSome, IsStoredChild, IsThere, IsUnplaced, Kid, Kids, Leads, MayHave, MayHaveIts, Node, NodeId, Place, Plan, Plot, Reaches, Replaces, SameTokens, Shows, Slot, Stands, Top, Tracker, Tree, Trees, at, at_for_at, begun, begun_body, begun_plot, body_here, body_in, body_other, cell_of, cells_in, change_at, change_child, child_node, child_owner, child_tree, closed_marked, closed_uses, count_kids, counts_if, counts_other, counts_same, cursor_in, depth_below, depth_limit, enter, entered_plot, fresh_plot, fresh_tree, gone, heap_of, holds_put_nth, hole, is_map, is_map_tracker, kid_at, kid_here, kid_nth, kid_occurs, kid_shown, kids_occur, leads_reach, left_as, left_put_nth, marked, node_along, node_here, nth_put, occurs_put_at, open_at_from, open_top, owner_along, plot_occurs, put_at, put_nth, same_or_other, slot_other, slots_above, slots_along, stands_change, stored_in, there, tokens_kept, top_held, top_slot, tree_at, tree_change_at, tree_here, tree_in, tree_in_slots, tree_of, tree_of_at, tree_of_nth, tree_put_nth, trees_in, uses, uses_among, uses_at, uses_in, uses_nth, uses_put_nth, whole_plot, with_entered}
+use Rattle.fr_store.specs.Common.{AllServe, AllStayPut, AreLeftAll, AreLeftIn, AreLeftRightly, Body, Def, FrameOwner, HasChild, Heap, Holds, IsClosed, IsLast, IsOpen, IsOpenAt, IsSome, IsStoredChild, IsThere, IsUnplaced, Kid, Kids, Leads, MayHave, MayHaveIts, Node, NodeId, Place, Plan, Plot, Reaches, Replaces, Shows, Slot, Stands, Top, Tracker, Tree, Trees, at, at_for_at, begun, begun_body, begun_plot, body_here, body_in, body_other, cell_of, cells_in, change_at, change_child, child_node, child_owner, child_tree, closed_marked, closed_uses, count_kids, counts_if, counts_other, counts_same, cursor_in, depth_below, depth_limit, enter, entered_plot, fresh_plot, fresh_tree, gone, heap_of, holds_put_nth, hole, is_map, is_map_tracker, kid_at, kid_here, kid_nth, kid_shown, leads_reach, left_as, left_put_nth, node_along, node_here, nth_put, open_top, put_at, put_nth, same_or_other, slot_other, slots_above, slots_along, stands_change, there, top_held, top_slot, tree_at, tree_change_at, tree_here, tree_in, tree_in_slots, tree_of, tree_of_at, tree_of_nth, tree_put_nth, trees_in, uses, uses_among, uses_at, uses_in, uses_nth, uses_put_nth, whole_plot, with_entered}
 use Rattle.fr_shape.specs.Fills.{is_empty_struct}
 use Rattle.fr_shape.specs.Val.{product, no_vals}
 use Rattle.fr_frame.specs.Bodies.{taken_over, linked, linked_by}
 use Rattle.fr_frame.specs.Heap.{entered_node, links, held_by, depth_above}
-use Rattle.fr_store.specs.EnterLaws.{fresh_closed, fresh_same, fresh_tokens}
+use Rattle.fr_store.specs.EnterLaws.{fresh_closed, fresh_same}
 use Rattle.fr_store.specs.HoldLaws.{unused}
 use Rattle.fr_store.specs.LeaveLaws.{cell_of_child, with_child}
+use Rattle.fr_store.specs.MoveLaws.{open_at_held}
 use Rattle.fr_store.specs.StandLaws.{all_changed}
-use Rattle.fr_store.specs.TopLaws.{slot_here, closed_holds, marked_entered, not_beside, used_entered}
-use Rattle.fr_store.specs.WayLaws.{occurs_put_nth, stored_but}
+use Rattle.fr_store.specs.TopLaws.{slot_here, closed_holds, not_beside, used_entered, open_node}
+use Rattle.fr_store.specs.WayLaws.{stored_but}
 use Rattle.fr_store.proofs.ChildLaws.{child_cell, kids_held, kids_may_have, kids_stored, not_parent, parent_is, part_uses, plot_has, unplaced_child}
 use Rattle.fr_store.proofs.StayLaws.{stay_all, stay_shown, stay_unplaced}
 
@@ -35,11 +36,6 @@ child_tree_is def (at slot stored plot) u = absurd u
 child_closed : (def : Def) (k : Kid) → IsClosed (body_in (child_plot def k))
 child_closed def gone = fresh_closed def
 child_closed def _ = tt
-
-child_tokens : (def : Def) (k : Kid) (t : ℕ) → IsUnplaced (cell_of k) → plot_occurs (child_plot def k) t ≡ kid_occurs k t
-child_tokens def gone t u = fresh_tokens def t
-child_tokens def (there v) t u = refl
-child_tokens def (at slot stored plot) t u = absurd u
 
 -- it has no children yet
 child_may_have : (def : Def) (k : Kid) → MayHaveIts (body_in (child_plot def k))
@@ -81,6 +77,12 @@ hole_not_there : (k : Kid) → tree_of k ≡ hole → IsThere k → ⊥
 hole_not_there (there v) e is = cc
 hole_not_there _ e is = is
 
+-- what stands then has it on top, serves in each slot in use, and has the place where it lay
+pub record IsEntered (plan : Plan) (heap other : Heap) (stack : List ℕ) (n : ℕ) (place : Place) (i : ℕ) (k new : Kid) : Type 0 where
+  pub stands : Stands plan other (stack ++ n ∷ []) (place ++ i ∷ []) new
+  pub all : AllServe heap k → AllServe other new
+  pub stay : AllStayPut k new
+
 -- Child i of the top, which is in no slot, is entered into slot n, which was free.
 module _ (plan : Plan) (heap other : Heap) (stack : List ℕ) (place : Place) (k : Kid)
     (stands : Stands plan heap stack place k) (top : Top plan heap stack place k) (tracker : Tracker) (kids : Kids)
@@ -98,62 +100,37 @@ module _ (plan : Plan) (heap other : Heap) (stack : List ℕ) (place : Place) (k
   apart : top.slot ≢ n
   apart e = let is = sym top.here ∙ ap heap e ∙ free in cc
 
-  parent_now : other top.slot ≡ Some (record {
-    node = node_along plan plan.root place k;
-    owner = owner_along FrameOwner.Root place k;
-    stored = false;
-    depth = length place;
-    body = begun_body tracker (cells_in entered_kids);
-  })
+  parent_now : other top.slot ≡ Some (open_node plan place k (begun_body tracker (cells_in entered_kids)))
   parent_now =
       shows top.slot ∙ slot_other (links (child_owner top.slot i) n heap) n
       (Some (entered_node def heap (child_node plan (node_along plan plan.root place k) tracker i) (child_owner top.slot i)))
       top.slot apart
-      ∙ body_here heap top.slot (linked n i) (record {
-        node = node_along plan plan.root place k;
-        owner = owner_along FrameOwner.Root place k;
-        stored = false;
-        depth = length place;
-        body = begun_body tracker (cells_in kids);
-      }) (parent_is plan heap stack place k stands top tracker kids begun_now i within)
-      ∙ ap (λ (b : Body). Some (record {
-        node = node_along plan plan.root place k;
-        owner = owner_along FrameOwner.Root place k;
-        stored = false;
-        depth = length place;
-        body = b;
-      })) (linked_child tracker i n kids (child_plot def (kid_nth i kids))
+      ∙ body_here heap top.slot (linked n i) (open_node plan place k (begun_body tracker (cells_in kids)))
+      (parent_is plan heap stack place k stands top tracker kids begun_now i within)
+      ∙ ap (λ (b : Body). Some (open_node plan place k b)) (linked_child tracker i n kids (child_plot def (kid_nth i kids))
       (kids_may_have plan heap stack place k stands top tracker kids begun_now i within) within unplaced)
 
   depth_is : depth_below heap (child_owner top.slot i) ≡ suc (length place)
   depth_is = ap depth_above top.here
 
-  child_now : other n ≡ Some (record {
+  -- what is known of the child at this depth, at which this was put
+  abbrev child_found : ℕ → Body → Node
+  child_found depth body = record {
     node = child_node plan (node_along plan plan.root place k) tracker i;
     owner = child_owner top.slot i;
     stored = false;
-    depth = suc (length place);
-    body = body_in (child_plot def (kid_nth i kids));
-  })
+    depth = depth;
+    body = body;
+  }
+
+  child_now : other n ≡ Some (child_found (suc (length place)) (body_in (child_plot def (kid_nth i kids))))
   child_now =
       let held : held_by heap (child_owner top.slot i) ≡ Some (cell_of (kid_nth i kids))
       = child_cell plan heap stack place k stands top tracker kids begun_now i within in
       shows n ∙ slot_here (links (child_owner top.slot i) n heap) n
       (Some (entered_node def heap (child_node plan (node_along plan plan.root place k) tracker i) (child_owner top.slot i)))
-      ∙ ap (λ (d : ℕ). Some (record {
-        node = child_node plan (node_along plan plan.root place k) tracker i;
-        owner = child_owner top.slot i;
-        stored = false;
-        depth = d;
-        body = taken_over def (held_by heap (child_owner top.slot i));
-      })) depth_is
-      ∙ ap (λ (b : Body). Some (record {
-        node = child_node plan (node_along plan plan.root place k) tracker i;
-        owner = child_owner top.slot i;
-        stored = false;
-        depth = suc (length place);
-        body = b;
-      })) (ap (taken_over def) held ∙ sym (child_body def (kid_nth i kids) unplaced))
+      ∙ ap (λ (d : ℕ). Some (child_found d (taken_over def (held_by heap (child_owner top.slot i))))) depth_is
+      ∙ ap (λ (b : Body). Some (child_found (suc (length place)) b)) (ap (taken_over def) held ∙ sym (child_body def (kid_nth i kids) unplaced))
 
   part : (m : ℕ) → uses (kid_at place k) m ≡ counts_if (nat_eq top.slot m) + uses_among kids m
   part m = part_uses plan heap stack place k stands top tracker kids begun_now i within m
@@ -207,7 +184,7 @@ module _ (plan : Plan) (heap other : Heap) (stack : List ℕ) (place : Place) (k
       )
 
   -- each slot in use is that of a place
-  pub all_entered : AllServe heap k → AllServe other (put_at place entered_kid k)
+  all_entered : AllServe heap k → AllServe other (put_at place entered_kid k)
   all_entered all =
       let reach : Reaches place k
       = leads_reach place [] k (subst (λ (p : Place). Leads p k) (sym (append-nil place)) stands.leads) in
@@ -231,7 +208,7 @@ module _ (plan : Plan) (heap other : Heap) (stack : List ℕ) (place : Place) (k
           i n m (subst (λ (o : Option Node). IsSome o) (shows m) used))
 
   -- no place leaves its slot
-  pub stay_entered : AllStayPut k (put_at place entered_kid k)
+  stay_entered : AllStayPut k (put_at place entered_kid k)
   stay_entered =
       let reach : Reaches place k
       = leads_reach place [] k (subst (λ (p : Place). Leads p k) (sym (append-nil place)) stands.leads) in
@@ -249,7 +226,7 @@ module _ (plan : Plan) (heap other : Heap) (stack : List ℕ) (place : Place) (k
       (left_as tracker i (kid_nth i kids) (at n false (child_plot def (kid_nth i kids))) (λ h. refl)
       (λ h there. absurd (vacant h there))) (child_left def (kid_nth i kids)) among
 
-  pub stands_entered : Stands plan other (stack ++ n ∷ []) (place ++ i ∷ []) (put_at place entered_kid k)
+  stands_entered : Stands plan other (stack ++ n ∷ []) (place ++ i ∷ []) (put_at place entered_kid k)
   stands_entered =
       let longer : Stands plan heap stack (place ++ []) k
       = subst (λ (p : Place). Stands plan heap stack p k) (sym (append-nil place)) stands in
@@ -273,14 +250,8 @@ module _ (plan : Plan) (heap other : Heap) (stack : List ℕ) (place : Place) (k
       (child_tree_is def (kid_nth i kids) unplaced ∙ ap (enter def) (tree_of_nth i kids)))
       ∙ ap (change_child i (enter def)) (sym before))
 
-  pub tokens_entered : (t : ℕ) → kid_occurs (put_at place entered_kid k) t ≡ kid_occurs k t
-  tokens_entered t =
-      let was : kid_occurs (kid_at place k) t ≡ kids_occur kids t
-      = ap (λ (x : Kid). kid_occurs x t) top.is ∙ ap (λ (p : Plot). plot_occurs p t) begun_now in
-      let now = occurs_put_nth i (at n false (child_plot def (kid_nth i kids))) kids t within in
-      let reach : Reaches place k
-      = leads_reach place [] k (subst (λ (p : Place). Leads p k) (sym (append-nil place)) stands.leads) in
-      omega (arith, was, now, occurs_put_at place entered_kid k t reach, child_tokens def (kid_nth i kids) t unplaced)
+  pub entered_so : IsEntered plan heap other stack n place i k (put_at place entered_kid k)
+  entered_so = record { stands = stands_entered; all = all_entered; stay = stay_entered }
 
 -- A child of an open builder's top that isn't stored is entered.
 module _ (plan : Plan) (before : List Slot) (stack : List ℕ) (open_now : IsOpen plan before stack) (p : ℕ)
@@ -291,11 +262,11 @@ module _ (plan : Plan) (before : List Slot) (stack : List ℕ) (open_now : IsOpe
       → node ≡ child_node plan (node_here plan before stack) tracker i
       → ((child : ℕ) → IsStoredChild (heap_of before) p i child → ⊥) → heap_of before n ≡ None
       → Shows after (with_entered def (heap_of before) node (child_owner p i) n)
-      → depth_below (heap_of before) (child_owner p i) < depth_limit → SameTokens before after → next ≡ stack ++ n ∷ []
+      → depth_below (heap_of before) (child_owner p i) < depth_limit → next ≡ stack ++ n ∷ []
       → IsOpenAt plan after next (cursor_in before stack ++ i ∷ [])
       (change_at (cursor_in before stack) (change_child i (enter def)) (tree_in_slots before stack))
       × AllStayPut (kid_here before stack) (kid_here after next)
-  open_entered after next tracker i def n node has map_hole is none free shows limit tokens along =
+  open_entered after next tracker i def n node has map_hole is none free shows limit along =
       let place : Place = cursor_in before stack in
       let k : Kid = kid_shown (heap_of before) stack in
       let top = open_top plan before stack open_now in
@@ -322,25 +293,14 @@ module _ (plan : Plan) (before : List Slot) (stack : List ℕ) (open_now : IsOpe
       let now : Kid = put_at place
       (entered_kid plan (heap_of before) (heap_of after) stack place k open_now.stands top tracker found.0 found.1 i
       found.2 unplaced vacant def n free shown deep) k in
-      let stands : Stands plan (heap_of after) (stack ++ n ∷ []) (place ++ i ∷ []) now
-      = stands_entered plan (heap_of before) (heap_of after) stack place k open_now.stands top tracker found.0 found.1 i
-      found.2 unplaced vacant def n free shown deep in
-      let same_tokens : (t : ℕ) → kid_occurs now t ≡ kid_occurs k t
-      = tokens_entered plan (heap_of before) (heap_of after) stack place k open_now.stands top tracker found.0 found.1 i
-      found.2 unplaced vacant def n free shown deep in
-      let all : AllServe (heap_of after) now
-      = all_entered plan (heap_of before) (heap_of after) stack place k open_now.stands top tracker found.0 found.1 i
-      found.2 unplaced vacant def n free shown deep open_now.all in
-      let tree : tree_of now ≡ change_at place (change_child i (enter def)) (tree_of k)
-      = tree_entered plan (heap_of before) (heap_of after) stack place k open_now.stands top tracker found.0 found.1 i
-      found.2 unplaced vacant def n free shown deep in
-      let stay : AllStayPut k now
-      = stay_entered plan (heap_of before) (heap_of after) stack place k open_now.stands top tracker found.0 found.1 i
+      let so : IsEntered plan (heap_of before) (heap_of after) stack n place i k now
+      = entered_so plan (heap_of before) (heap_of after) stack place k open_now.stands top tracker found.0 found.1 i
       found.2 unplaced vacant def n free shown deep in
       subst (λ (s : List ℕ). IsOpenAt plan after s (place ++ i ∷ [])
       (change_at place (change_child i (enter def)) (tree_of k)) × AllStayPut k (kid_here after s)) (sym along) (
-        open_at_from plan after (stack ++ n ∷ []) (place ++ i ∷ []) now
-            (change_at place (change_child i (enter def)) (tree_of k)) stands
-            (tokens_kept before after k now tokens open_now.tokens same_tokens) all tree,
-        stay_shown plan after (stack ++ n ∷ []) (place ++ i ∷ []) now k stands stay,
+        open_at_held plan after (stack ++ n ∷ []) (place ++ i ∷ []) now
+            (change_at place (change_child i (enter def)) (tree_of k)) so.stands (so.all open_now.all)
+            (tree_entered plan (heap_of before) (heap_of after) stack place k open_now.stands top tracker found.0 found.1 i
+            found.2 unplaced vacant def n free shown deep),
+        stay_shown plan after (stack ++ n ∷ []) (place ++ i ∷ []) now k so.stands so.stay,
       )

@@ -1,7 +1,7 @@
 -- Laws of entries, for proofs: the entry of a key of the dynamic object on top gets a slot, and is on top then. It is one that is there,
 -- or a new one behind the others, so that the object has one more key.
 use Rattle.std.proofs.Common.{◌≡◌, ℕ, zero, suc, ◌<◌, true, false, Bool, List, [], ◌∷◌, ◌++◌, length, option_map, Option, Some, None, refl, sym, ◌∙◌, ap, subst, arith, if◌then◌else◌}
-use Rattle.fr_store.specs.Common.{AllMarkedAmong, AllMarkedIn, AllStayPut, AreLeftAll, AreLeftIn, AreLeftRightly, AreUnplaced, ContentKind, Def, EntriesKind, HasTracker, Heap, HoldsAll, IfInUse, IsLast, IsOpen, IsOpenAt, IsUnplaced, ItemsKind, Kid, Kids, Node, NodeId, Plan, Plot, SameMarks, SameTokens, Shows, Slot, Tracker, Tree, and_last, as_content, as_elements, as_entries, as_fields, as_items, at, begun, begun_body, begun_plot, cell_of, cells_count, cells_in, change_at, child_owner, count_here, count_kids, cursor_in, depth_below, depth_limit, enter, fresh_plot, fresh_tree, gone, heap_of, keeps_same, kid, kid_here, kid_nth, left_at, no_kids, node_here, open_top, there, tree_here, tree_in_slots, tree_of_nth, tree_put_nth, trees_in, with_body, with_entered}
+use Rattle.fr_store.specs.Common.{AllMarkedAmong, AllMarkedIn, AllStayPut, AreLeftAll, AreLeftIn, AreLeftRightly, AreUnplaced, Def, EntriesKind, HasTracker, Heap, HoldsAll, IfInUse, IsLast, IsOpen, IsOpenAt, IsUnplaced, Kid, Kids, Node, NodeId, Plan, Plot, SameMarks, SameTokens, Shows, Slot, Tracker, Tree, and_last, as_entries, at, begun, begun_body, begun_plot, cell_of, cells_count, cells_in, change_at, child_owner, count_here, count_kids, cursor_in, depth_below, depth_limit, enter, fresh_plot, fresh_tree, gone, heap_of, keeps_same, kid, kid_here, kid_nth, left_at, no_kids, node_here, open_top, there, tree_here, tree_in_slots, tree_of_nth, tree_put_nth, trees_in, with_body, with_entered}
 use Rattle.std.specs.Str.{bytes_eq}
 use Rattle.fr_model.specs.DynamicPlaces.{entry_found, is_begun_object, is_object_tracker, keys_here, number_or_last}
 use Rattle.fr_model.specs.Dynamics.{keys_apart}

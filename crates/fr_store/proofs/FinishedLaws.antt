@@ -1,15 +1,18 @@
 -- Laws of the end of deferred mode, for proofs: all stored places had their turn, nothing is stored, and the place at which the
 -- builder works is finished.
-use Rattle.std.proofs.Common.{◌≡◌, ◌≢◌, ◌⊎◌, ℕ, zero, suc, ◌<◌, false, List, [], ◌∷◌, ◌++◌, append-nil, nat_eq, option_map, Option, Some, None, inl, inr, refl, sym, ◌∙◌, ap, subst, arith}
-use Rattle.fr_store.specs.Common.{AllMarkedAmong, AllMarkedIn, AreInWalkOrder, AreStoredAt, Contains, FinishesOrRefuses, FrameOwner, HasPlace, Heap, Holds, HoldsAll, HoldsIn, IsHeldUp, IsOpen, IsOpenAt, Kid, Kids, LacksHere, Leads, Meanings, Node, NodeId, NoneStored, NothingStored, PathStep, Place, Plan, Plot, ReflectErrorKind, Slot, StoppedByTurns, Table, Tracker, Tree, Walked, at, begun_plot, change_at, child_node, child_owner, counts_if, counts_other, cursor_in, entered_plot, failures_off, gone, heap_of, hole, is_some, kid, kid_at, leads_at, leads_reach, marked, no_kids, own_lack, reach_place, root_shape, same_or_other, shape_in, steps_in, stored_in, strict, there, tree_at, tree_in_slots, tree_of, tree_of_at, uses, uses_among, uses_in, whole_plot}
+use Rattle.std.proofs.Common.{◌≡◌, ◌≢◌, ℕ, ◌<◌, false, List, [], ◌∷◌, ◌++◌, append-nil, option_map, Option, Some, None, refl, sym, ◌∙◌, ap, subst, arith}
+use Rattle.fr_store.specs.Common.{AreInWalkOrder, AreStoredAt, Contains, FinishesOrRefuses, FrameOwner, HasPlace, Heap, Holds, IsHeldUp, IsOpen, IsOpenAt, Kid, LacksHere, Leads, Meanings, Node, NodeId, NoneStored, NothingStored, PathStep, Place, Plan, ReflectErrorKind, Slot, StoppedByTurns, Table, Tree, Walked, at, begun_plot, change_at, cursor_in, entered_plot, failures_off, gone, heap_of, hole, is_some, kid_at, leads_at, leads_reach, marked, own_lack, reach_place, root_shape, shape_in, steps_in, stored_here, stored_in, strict, there, tree_at, tree_in_slots, tree_of, tree_of_at, uses, whole_plot}
 use Rattle.fr_model.specs.FailingLaws.{FinishOfDone, NothingFailsOfDone}
 use Rattle.fr_model.specs.Finish.{finished_here}
 use Rattle.fr_model.specs.Well.{Leads as LeadsIn}
+use Rattle.fr_store.specs.WayLaws.{marked_at}
 use Rattle.fr_store.specs.Turning.{CameByTurns, FinishedHere, kid_here, next_place}
 use Rattle.fr_store.specs.Turns.{IsFinished, KeepThoseLeft}
 use Rattle.fr_store.proofs.FailLaws.{fails_itself, none_here, same_lack}
 use Rattle.fr_store.proofs.HeldLaws.{held_by_last, leads_deferred, leads_strict, no_marks}
-use Rattle.fr_store.proofs.WalkedLaws.{stored_among}
+use Rattle.fr_store.proofs.HeadLaws.{stored_among}
+use Rattle.fr_store.proofs.WalkedLaws.{stopped_at}
+use Rattle.fr_store.proofs.PlaceLaws.{mark_at, place_of}
 
 -- Walks.
 
@@ -19,38 +22,17 @@ no_places k (place ∷ places) stored = absurd stored
 
 -- Where no place is stored, no slot that serves is marked.
 
-mutual
-  unmarked : (plan : Plan) (heap : Heap) (node : NodeId) (owner : FrameOwner) (depth : ℕ) (k : Kid) (n : ℕ)
-      → Holds plan heap node owner depth k → NoneStored k → 0 < uses k n → marked heap n ≡ false
-  unmarked plan heap node owner depth gone n holds none h = absurd (omega arith)
-  unmarked plan heap node owner depth (there v) n holds none h = absurd (omega arith)
-  unmarked plan heap node owner depth (at slot stored plot) n holds none h =
-      go (same_or_other slot n) (λ more. unmarked_in plan heap node slot (suc depth) plot n holds.2 none.1 more)
-    where
-      go : (slot ≡ n) ⊎ (slot ≢ n) → (0 < uses_in plot n → marked heap n ≡ false) → marked heap n ≡ false
-      go (inl e) below = ap (marked heap) (sym e) ∙ ap stored_in holds.0 ∙ none.0
-      go (inr ne) below =
-          let other : counts_if (nat_eq slot n) ≡ 0 = counts_other slot n ne in
-          below (omega arith)
-
-  unmarked_in : (plan : Plan) (heap : Heap) (node : NodeId) (slot depth : ℕ) (plot : Plot) (n : ℕ)
-      → HoldsIn plan heap node slot depth plot → AllMarkedIn false plot → 0 < uses_in plot n → marked heap n ≡ false
-  unmarked_in plan heap node slot depth (begun_plot tracker kids) n holds none h =
-      unmarked_among plan heap node slot tracker 0 depth kids n holds none h
-  unmarked_in plan heap node slot depth _ n holds none h = absurd (omega arith)
-
-  unmarked_among : (plan : Plan) (heap : Heap) (node : NodeId) (slot : ℕ) (tracker : Tracker) (i depth : ℕ) (ks : Kids) (n : ℕ)
-      → HoldsAll plan heap node slot tracker i depth ks → AllMarkedAmong false ks → 0 < uses_among ks n → marked heap n ≡ false
-  unmarked_among plan heap node slot tracker i depth no_kids n holds none h = absurd (omega arith)
-  unmarked_among plan heap node slot tracker i depth (kid k ks) n holds none h =
-      go (uses k n) refl
-      (λ here. unmarked plan heap (child_node plan node tracker i) (child_owner slot i) depth k n holds.0 none.0 here)
-      (λ later. unmarked_among plan heap node slot tracker (suc i) depth ks n holds.1 none.1 later)
-    where
-      go : (count : ℕ) → uses k n ≡ count → (0 < uses k n → marked heap n ≡ false)
-          → (0 < uses_among ks n → marked heap n ≡ false) → marked heap n ≡ false
-      go zero e here later = later (omega (arith, e))
-      go (suc count) e here later = here (omega (arith, e))
+unmarked : (plan : Plan) (heap : Heap) (node : NodeId) (owner : FrameOwner) (depth : ℕ) (k : Kid) (n : ℕ)
+    → Holds plan heap node owner depth k → NoneStored k → 0 < uses k n → marked heap n ≡ false
+unmarked plan heap node owner depth k n holds none used =
+    let lies = place_of k n used in
+    ap (marked heap) (sym lies.2) ∙ mark_at plan heap node owner depth lies.0 k holds lies.1
+    ∙ not_stored (kid_at lies.0 k) (marked_at false lies.0 k none)
+  where
+    not_stored : (x : Kid) → NoneStored x → stored_here x ≡ false
+    not_stored (at slot stored plot) all = all.0
+    not_stored gone all = refl
+    not_stored (there v) all = refl
 
 -- what stands at the end of the way is no hole
 leads_there : (place : Place) (k : Kid) → Leads place k → tree_at place (tree_of k) ≢ hole
@@ -196,18 +178,8 @@ module _ (means : Meanings) (table : Table) (plan : Plan) (before : List Slot) (
 
     -- there it stopped
     pub stopped_here : StoppedByTurns means table plan before stack kind
-    stopped_here = record {
-      done = walked.done;
-      left = walked.left.places;
-      order = subst (AreInWalkOrder (tree_in_slots before stack)) walked.split walked.first.order;
-      all = λ slot place stored. subst (λ (l : List Place). Contains l place) walked.split (walked.first.all slot place stored);
-      each = λ place found. stored_among (kid_here before stack) walk walked.first.places place walked.first.stored
-          (subst (λ (l : List Place). Contains l place) (sym walked.split) found);
-      tree = tree_in_slots now stack;
-      turned = walked.turned;
-      kept = walked.kept;
-      lacks =
-          subst (λ (p : Place). own_lack means table (shape_in table (root_shape plan) p (tree_in_slots now stack))
-          (tree_at p (tree_in_slots now stack)) ≡ Some kind)
-          (sym (ap (λ (l : List Place). next_place l (cursor_in before stack)) none_left)) lacks_now;
-    }
+    stopped_here =
+        stopped_at means table plan before stack walked kind
+        (subst (λ (p : Place). own_lack means table (shape_in table (root_shape plan) p (tree_in_slots now stack))
+        (tree_at p (tree_in_slots now stack)) ≡ Some kind)
+        (sym (ap (λ (l : List Place). next_place l (cursor_in before stack)) none_left)) lacks_now)

@@ -1,35 +1,13 @@
 -- Laws of the first place of a walk, for proofs: nothing beneath it is in a slot, and once it had its turn the others are a walk.
-use Rattle.std.proofs.Common.{◌≡◌, ◌≢◌, ◌⊎◌, ℕ, zero, suc, ◌+◌, ◌<◌, ◌≤◌, Bool, true, List, [], ◌∷◌, ◌++◌, length, length-append, nat_eq, inl, inr, refl, sym, ◌∙◌, ap, subst, arith}
+use Rattle.std.proofs.Common.{◌≡◌, ◌≢◌, ◌⊎◌, ℕ, zero, suc, ◌+◌, ◌<◌, ◌≤◌, Bool, true, List, [], ◌∷◌, ◌++◌, length, length-append, get_or, inl, inr, refl, sym, ◌∙◌, ap, subst, arith}
 use Rattle.std.proofs.lemmas.Grind.{common_steps}
-use Rattle.std.proofs.lemmas.List.Elements.{All-contains}
-use Rattle.std.specs.Prelude.{slice_index_or}
-use Rattle.fr_store.specs.Common.{All, AllMarked, AllMarkedAmong, AllMarkedIn, AreInWalkOrder, AreStoredAt, AreUnplaced, ComesBefore, Contains, HasPlace, IsClosed, IsStoredAt, IsWalk, Kid, Kids, Leads, Ordering, PathStep, Place, Plot, Reaches, Tracker, Tree, Val, at, begun_plot, body_in, cells_in, child_tree, count_kids, counts_if, counts_same, entered_plot, gone, kid, kid_at, kid_at_append, kid_nth, no_kids, off_stored, ordering_then, put_at, reach_place, same_or_other, steps_in, there, tree_of, tree_put_at, uses, uses_among, uses_at, uses_in, uses_nth, walk_order, whole_plot}
+use Rattle.std.proofs.lemmas.List.Elements.{All-contains, All-head, All-tail, Contains-get_or}
+use Rattle.fr_store.specs.Common.{All, AllMarked, AllMarkedAmong, AllMarkedIn, AreInWalkOrder, AreStoredAt, AreUnplaced, ComesBefore, Contains, HasPlace, IsClosed, IsStoredAt, IsWalk, Kid, Kids, Leads, Ordering, PathStep, Place, Plot, Reaches, Tracker, Tree, Val, at, begun_plot, body_in, cells_in, child_tree, count_kids, gone, kid, kid_at, kid_at_append, kid_nth, no_kids, off_stored, ordering_then, put_at, reach_place, steps_in, there, tree_of, tree_put_at, uses, uses_among, uses_nth, walk_order}
 use Rattle.std.specs.Ordering.{nat_cmp}
 use Rattle.fr_path.specs.OrderLaws.{walk_itself}
-use Rattle.fr_store.specs.ClosingLaws.{steps_kept}
+use Rattle.fr_store.specs.ClosingLaws.{stays}
+use Rattle.fr_store.proofs.PairLaws.{in_cases, pairs_weaker}
 use Rattle.fr_store.specs.OffLaws.{marked_off, stored_before, stored_beside, stored_no_more, stored_still}
-
--- Lists.
-
-pub contains_cases : {X : Type 0} (x : X) (xs : List X) (y : X) → Contains (x ∷ xs) y → (x ≡ y) ⊎ Contains xs y
-contains_cases x xs y found = go found.0 found.1 found.2
-  where
-    go : (k : ℕ) → k < length (x ∷ xs) → slice_index_or (x ∷ xs) k y ≡ y → (x ≡ y) ⊎ Contains xs y
-    go zero h e = inl e
-    go (suc k) h e = inr (k, omega arith, e)
-
-all_first : {X : Type 0} (P : X → Type 0) (x : X) (xs : List X) → All P (x ∷ xs) → P x
-all_first P x xs all = all 0 x (omega arith)
-
-all_rest : {X : Type 0} (P : X → Type 0) (x : X) (xs : List X) → All P (x ∷ xs) → All P xs
-all_rest P x xs all k d h = all (suc k) d (omega arith)
-
-all_none : {X : Type 0} (P : X → Type 0) → All P []
-all_none P k d h = absurd (omega arith)
-
-all_more : {X : Type 0} (P : X → Type 0) (x : X) (xs : List X) → P x → All P xs → All P (x ∷ xs)
-all_more P x xs here all zero d h = here
-all_more P x xs here all (suc k) d h = all k d (omega arith)
 
 -- The order of the walk.
 
@@ -58,8 +36,7 @@ before_itself tree place before =
     let tied = walk_itself (steps_in place tree) (steps_in place tree) refl in
     cc
 
--- A slot serves once, so that a place in it lies at one way only.
-
+-- two children use what all of them do
 pub two_nth : (i j : ℕ) (ks : Kids) (n : ℕ) → i ≢ j → uses (kid_nth i ks) n + uses (kid_nth j ks) n ≤ uses_among ks n
 two_nth i j no_kids n ne = omega arith
 two_nth zero zero (kid k ks) n ne = absurd (ne refl)
@@ -69,38 +46,19 @@ two_nth (suc i) (suc j) (kid k ks) n ne =
     let rest : uses (kid_nth i ks) n + uses (kid_nth j ks) n ≤ uses_among ks n = two_nth i j ks n (λ e. ne (ap suc e)) in
     omega arith
 
-used : (place : Place) (k : Kid) (n : ℕ) (mark : Bool) (plot : Plot) → kid_at place k ≡ at n mark plot → 1 ≤ uses k n
-used place k n mark plot is =
-    let here : uses (kid_at place k) n ≡ counts_if (nat_eq n n) + uses_in plot n = ap (λ (x : Kid). uses x n) is in
-    omega (arith, here, counts_same n, uses_at place k n)
-
-pub one_place : (first second : Place) (k : Kid) (n : ℕ) (mark other : Bool) (plot below : Plot) → uses k n ≤ 1
-    → Reaches first k → Reaches second k → kid_at first k ≡ at n mark plot → kid_at second k ≡ at n other below → first ≡ second
-one_place [] [] k n mark other plot below once a b e f = refl
-one_place [] (j ∷ second) gone n mark other plot below once a b e f = absurd b
-one_place [] (j ∷ second) (there v) n mark other plot below once a b e f = absurd b
-one_place [] (j ∷ second) (at slot s entered_plot) n mark other plot below once a b e f = absurd b
-one_place [] (j ∷ second) (at slot s (whole_plot v)) n mark other plot below once a b e f = absurd b
-one_place [] (j ∷ second) (at slot s (begun_plot tracker kids)) n mark other plot below once a b e f =
-    let same : slot ≡ n = cc in
-    let one : counts_if (nat_eq slot n) ≡ 1 = ap (λ (m : ℕ). counts_if (nat_eq m n)) same ∙ counts_same n in
-    absurd (omega (arith, one, once, used second (kid_nth j kids) n other below f, uses_nth j kids n))
-one_place (i ∷ first) [] (at slot s (begun_plot tracker kids)) n mark other plot below once a b e f =
-    let same : slot ≡ n = cc in
-    let one : counts_if (nat_eq slot n) ≡ 1 = ap (λ (m : ℕ). counts_if (nat_eq m n)) same ∙ counts_same n in
-    absurd (omega (arith, one, once, used first (kid_nth i kids) n mark plot e, uses_nth i kids n))
-one_place (i ∷ first) (j ∷ second) (at slot s (begun_plot tracker kids)) n mark other plot below once a b e f =
-    go (same_or_other i j) (λ same.
-    one_place first second (kid_nth i kids) n mark other plot below (omega (arith, once, uses_nth i kids n)) a.1
-    (subst (λ (m : ℕ). Reaches second (kid_nth m kids)) (sym same) b.1) e
-    (ap (λ (m : ℕ). kid_at second (kid_nth m kids)) same ∙ f))
+-- each place of a walk is stored
+pub stored_among : (k : Kid) (slots : List ℕ) (places : List Place) (place : Place) → AreStoredAt k slots places
+    → Contains places place → (slot : ℕ) × IsStoredAt k slot place
+stored_among k [] [] place stored found = absurd (omega (arith, found.1))
+stored_among k [] (first ∷ places) place stored found = absurd stored
+stored_among k (slot ∷ slots) [] place stored found = absurd stored
+stored_among k (slot ∷ slots) (first ∷ places) place stored found =
+    go (in_cases first place places found) (λ later. stored_among k slots places place stored.1 later)
   where
-    go : (i ≡ j) ⊎ (i ≢ j) → (i ≡ j → first ≡ second) → i ∷ first ≡ j ∷ second
-    go (inl same) rest = ap (λ (m : ℕ). m ∷ first) same ∙ ap (λ (p : Place). j ∷ p) (rest same)
-    go (inr ne) rest =
-        absurd (omega
-        (arith, once, two_nth i j kids n ne, used first (kid_nth i kids) n mark plot e, used second (kid_nth j kids) n other below f))
-one_place (i ∷ first) second _ n mark other plot below once a b e f = absurd a
+    go : (first ≡ place) ⊎ Contains places place → (Contains places place → (slot : ℕ) × IsStoredAt k slot place)
+        → (slot : ℕ) × IsStoredAt k slot place
+    go (inl e) rest = (slot, subst (IsStoredAt k slot) e stored.0)
+    go (inr later) rest = rest later
 
 -- The first place.
 
@@ -149,7 +107,7 @@ reaches_child (i ∷ place) _ n mark tracker kids j reach is h = absurd reach
 module _ (k : Kid) (n : ℕ) (rest : List ℕ) (walk : IsWalk k (n ∷ rest)) (head : Head k n rest walk.places) where
   pub later : (slot : ℕ) (place : Place) → IsStoredAt k slot place → (head.place ≡ place) ⊎ Contains head.places place
   later slot place stored =
-      contains_cases head.place head.places place
+      in_cases head.place place head.places
       (subst (λ (ps : List Place). Contains ps place) head.is (walk.all slot place stored))
 
   -- no child of it is in a slot: it would come before
@@ -209,51 +167,29 @@ module _ (k : Kid) (n : ℕ) (rest : List ℕ) (walk : IsWalk k (n ∷ rest)) (h
       each [] (place ∷ places) before stored = absurd stored
       each (slot ∷ slots) [] before stored = absurd stored
       each (slot ∷ slots) (place ∷ places) before stored = (
-        still slot place (all_first (λ (other : Place). ComesBefore (tree_of k) head.place other) place places before) stored.0,
-        each slots places (all_rest (λ (other : Place). ComesBefore (tree_of k) head.place other) place places before) stored.1,
+        still slot place (All-head (λ (other : Place). ComesBefore (tree_of k) head.place other) place places before) stored.0,
+        each slots places (All-tail (λ (other : Place). ComesBefore (tree_of k) head.place other) place places before) stored.1,
       )
 
       stored_on : AreStoredAt (put_at head.place (there v) k) rest head.places
       stored_on = each rest head.places head.before head.others
 
       -- the same steps lead to each of them
-      steps_on : (m : ℕ) (place : Place) → IsStoredAt (put_at head.place (there v) k) m place
-          → steps_in place (tree_of (put_at head.place (there v) k)) ≡ steps_in place (tree_of k)
-      steps_on m place stored =
+      steps_on : All (λ (q : Place). steps_in q (tree_of (put_at head.place (there v) k)) ≡ steps_in q (tree_of k)) head.places
+      steps_on i d h =
+          let place : Place = get_or head.places i d in
+          let lies = stored_among (put_at head.place (there v) k) rest head.places place stored_on (Contains-get_or head.places i d h) in
           ap (steps_in place) (tree_put_at head.place (there v) k)
-          ∙ steps_kept head.place place v (tree_of k) (reach_place head.place k head.stored.reaches)
+          ∙ (stays head.place place v (tree_of k) (reach_place head.place k head.stored.reaches)
           (subst (λ (t : Tree). HasPlace place t) (tree_put_at head.place (there v) k)
-          (reach_place place (put_at head.place (there v) k) stored.reaches))
-
-      later_on : (place : Place)
-          → steps_in place (tree_of (put_at head.place (there v) k)) ≡ steps_in place (tree_of k) → (slots : List ℕ)
-          (places : List Place) → AreStoredAt (put_at head.place (there v) k) slots places
-          → All (λ (other : Place). ComesBefore (tree_of k) place other) places
-          → All (λ (other : Place). ComesBefore (tree_of (put_at head.place (there v) k)) place other) places
-      later_on place same [] [] stored before =
-          all_none (λ (other : Place). ComesBefore (tree_of (put_at head.place (there v) k)) place other)
-      later_on place same [] (q ∷ places) stored before = absurd stored
-      later_on place same (slot ∷ slots) [] stored before = absurd stored
-      later_on place same (slot ∷ slots) (q ∷ places) stored before =
-          all_more (λ (other : Place). ComesBefore (tree_of (put_at head.place (there v) k)) place other) q places
-          (ap (λ (steps : List PathStep). walk_order steps (steps_in q (tree_of (put_at head.place (there v) k)))) same
-          ∙ ap (walk_order (steps_in place (tree_of k))) (steps_on slot q stored.0)
-          ∙ all_first (λ (other : Place). ComesBefore (tree_of k) place other) q places before)
-          (later_on place same slots places stored.1
-          (all_rest (λ (other : Place). ComesBefore (tree_of k) place other) q places before))
-
-      ordered : (slots : List ℕ) (places : List Place) → AreStoredAt (put_at head.place (there v) k) slots places
-          → AreInWalkOrder (tree_of k) places → AreInWalkOrder (tree_of (put_at head.place (there v) k)) places
-      ordered [] [] stored order = tt
-      ordered [] (q ∷ places) stored order = absurd stored
-      ordered (slot ∷ slots) [] stored order = absurd stored
-      ordered (slot ∷ slots) (q ∷ places) stored order = (
-        later_on q (steps_on slot q stored.0) slots places stored.1 order.0,
-        ordered slots places stored.1 order.1,
-      )
+          (reach_place place (put_at head.place (there v) k) lies.1.reaches))).steps
 
       order_on : AreInWalkOrder (tree_of (put_at head.place (there v) k)) head.places
-      order_on = ordered rest head.places stored_on head.order
+      order_on =
+          pairs_weaker (ComesBefore (tree_of k)) (ComesBefore (tree_of (put_at head.place (there v) k)))
+          (λ (q : Place). steps_in q (tree_of (put_at head.place (there v) k)) ≡ steps_in q (tree_of k)) (λ p q one other before.
+          ap (λ (steps : List PathStep). walk_order steps (steps_in q (tree_of (put_at head.place (there v) k)))) one
+          ∙ ap (walk_order (steps_in p (tree_of k))) other ∙ before) head.places steps_on head.order
 
       all_on : (slot : ℕ) (place : Place) → IsStoredAt (put_at head.place (there v) k) slot place → Contains head.places place
       all_on slot place stored = go (later slot place (stored_before head.place place k v slot head.stored.reaches stored))

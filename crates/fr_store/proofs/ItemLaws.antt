@@ -1,17 +1,17 @@
 -- Laws of items, for proofs: the top has one more child behind the others, which gets a slot and is on top then.
 use Rattle.std.proofs.Common.{◌≡◌, ◌≢◌, ℕ, zero, suc, ◌+◌, ◌<◌, true, false, List, [], ◌∷◌, ◌++◌, Option, Some, None, refl, sym, ◌∙◌, ap, subst, arith}
-use Rattle.fr_store.specs.Common.{AllMarkedAmong, AllServe, AllStayPut, AreLeftAll, Body, Cell, ContentKind, Def, EntriesKind, FrameOwner, HasTracker, Heap, HoldsAll, IfInUse, IsLast, IsOpen, IsOpenAt, IsPlaced, IsThere, IsUnplaced, ItemsKind, KeepsChildren, Kid, Kids, MayHave, Node, NodeId, Place, Plan, Plot, Reaches, SameMarks, SameTokens, Shows, Slot, Stands, Top, Tracker, Tree, Trees, absent, all_kept, and_last, as_content, as_elements, as_entries, as_fields, as_items, at, begun, begun_body, begun_plot, body_here, body_in, body_other, branch, cell_of, cells_count, cells_in, change_at, child_node, child_owner, count_here, count_in, count_kids, cursor_in, depth_below, depth_limit, fresh_plot, fresh_tree, gone, heap_of, hole, is_map, is_map_tracker, kid, kid_at, kid_here, kid_nth, kid_occurs, kids_occur, marked_body, no_kids, node_along, node_here, occurs_put_at, open_at_from, open_reach, open_top, put_at, put_nth, slot_here, so_top, stored_in, tokens_kept, top_found, top_of, top_slot, tree_at, tree_change_at, tree_here, tree_in, tree_in_slots, tree_of, tree_of_at, trees_in, used_mapped, uses, uses_among, with_body, with_entered}
+use Rattle.fr_store.specs.Common.{AllMarkedAmong, AllServe, AllStayPut, AreLeftAll, Body, Cell, Def, EntriesKind, FrameOwner, HasTracker, Heap, HoldsAll, IfInUse, IsLast, IsOpen, IsOpenAt, IsPlaced, IsThere, IsUnplaced, ItemsKind, KeepsChildren, Kid, Kids, MayHave, Node, NodeId, Place, Plan, Plot, Reaches, SameMarks, SameTokens, Shows, Slot, Stands, Top, Tracker, Tree, Trees, absent, all_kept, and_last, as_entries, as_items, at, begun, begun_body, begun_plot, body_here, body_in, body_other, branch, cell_of, cells_count, cells_in, change_at, child_node, child_owner, count_here, count_in, count_kids, cursor_in, depth_below, depth_limit, fresh_plot, fresh_tree, gone, heap_of, hole, is_map, is_map_tracker, kid, kid_at, kid_here, kid_nth, kid_occurs, kids_occur, marked_body, no_kids, node_along, node_here, open_reach, open_top, put_at, put_nth, slot_here, so_top, stored_in, top_found, top_of, top_slot, tree_change_at, tree_here, tree_in, tree_in_slots, tree_of, tree_of_at, trees_in, used_mapped, uses, uses_among, with_body, with_entered}
 use Rattle.fr_store.specs.MoveLaws.{top_node}
 use Rattle.fr_model.specs.Tree.{count_below}
-use Rattle.fr_frame.specs.Bodies.{added, added_entry, IsGrowing, IsMapBody, TakesItems}
+use Rattle.fr_frame.specs.Bodies.{added, added_entry, TakesItems}
 use Rattle.fr_frame.specs.Heap.{depth_above, item_owner}
 use Rattle.fr_store.specs.LeftLaws.{entry_next, left_past}
-use Rattle.fr_store.specs.MoveLaws.{top_so, top_stands_in}
+use Rattle.fr_store.specs.MoveLaws.{open_at_held, top_so, top_stands_in}
 use Rattle.fr_store.specs.Moves.{with_item_of, with_key_of}
 use Rattle.fr_store.specs.TopLaws.{marked_entered}
 use Rattle.fr_store.specs.WayLaws.{kid_put_at, put_at_twice}
 use Rattle.fr_store.proofs.ChildLaws.{plot_formed}
-use Rattle.fr_store.proofs.EnteringLaws.{all_entered, child_plot, entered_kid, stands_entered, stay_entered, tokens_entered}
+use Rattle.fr_store.proofs.EnteringLaws.{IsEntered, child_plot, entered_kid, entered_so}
 use Rattle.fr_store.proofs.StayLaws.{stay_all, stay_shown}
 
 -- One child more.
@@ -127,7 +127,7 @@ pub tree_vacant : (tracker : Tracker) (i : ℕ) (ks : Kids) (n : ℕ) (def : Def
 tree_vacant tracker i ks n def e = ap (λ (x : Kid). begun tracker (trees_in (put_nth i (at n false (child_plot def x)) ks))) e
 
 -- one item
-items_grow : (tracker : Tracker) (kids : Kids) → TakesItems tracker
+pub items_grow : (tracker : Tracker) (kids : Kids) → TakesItems tracker
     → Grows tracker tracker kids (kids_and_last kids gone) (count_kids kids) added with_item_of
 items_grow tracker kids takes = record {
   body = ap (begun_body tracker) (cells_and_last kids);
@@ -165,7 +165,7 @@ nth_key : (kids : Kids) → kid_nth (count_kids kids) (kids_and_last (kids_and_l
 nth_key kids =
     nth_before (count_kids kids) (kids_and_last kids gone) gone (omega (arith, count_and_last kids gone)) ∙ nth_last kids gone
 
-entries_grow : (base : ℕ) (kids : Kids)
+pub entries_grow : (base : ℕ) (kids : Kids)
     → Grows (as_entries (EntriesKind.Map base)) (as_entries (EntriesKind.Map base)) kids (kids_and_last (kids_and_last kids gone) gone) (count_kids kids) added_entry with_key_of
 entries_grow base kids = record {
   body = ap (begun_body (as_entries (EntriesKind.Map base))) (two_cells kids);
@@ -218,6 +218,9 @@ module _ (plan : Plan) (before : List Slot) (stack : List ℕ) (open_now : IsOpe
   reach : Reaches place k
   reach = open_reach plan before stack open_now
 
+  was : kid_at place k ≡ at top.slot false (begun_plot tracker kids)
+  was = top.is ∙ ap (λ (plot : Plot). at top.slot false plot) begun_now
+
   grown_body : begun_body made (cells_in more) ≡ change (body_in top.plot)
   grown_body = grows.body ∙ ap (λ (plot : Plot). change (body_in plot)) (sym begun_now)
 
@@ -228,24 +231,15 @@ module _ (plan : Plan) (before : List Slot) (stack : List ℕ) (open_now : IsOpe
 
   stay_grown : AllStayPut k first
   stay_grown =
-      stay_all place new k reach
-      (subst (λ (x : Kid). AllStayPut x new) (sym (top.is ∙ ap (λ (plot : Plot). at top.slot false plot) begun_now))
-      (grows.stay top.slot))
+      stay_all place new k reach (subst (λ (x : Kid). AllStayPut x new) (sym was) (grows.stay top.slot))
 
   -- each slot in use is still that of a place
   all_grown : AllServe grown first
   all_grown =
       all_kept (heap_of before) grown place new k reach open_now.all
       (λ m used. used_mapped (heap_of before) p (λ (x : Node). record x { body = change x.body }) m used) (λ m.
-      let was : uses (kid_at place k) m ≡ uses (at top.slot false (begun_plot tracker kids)) m
-      = ap (λ (x : Kid). uses x m) (top.is ∙ ap (λ (plot : Plot). at top.slot false plot) begun_now) in
-      omega (arith, was, grows.used m))
-
-  occurs_grown : (t : ℕ) → kid_occurs first t ≡ kid_occurs k t
-  occurs_grown t =
-      let was : kid_occurs (kid_at place k) t ≡ kids_occur kids t
-      = ap (λ (x : Kid). kid_occurs x t) (top.is ∙ ap (λ (plot : Plot). at top.slot false plot) begun_now) in
-      omega (arith, occurs_put_at place new k t reach, was, grows.occurs t)
+      let same : uses (kid_at place k) m ≡ uses (at top.slot false (begun_plot tracker kids)) m = ap (λ (x : Kid). uses x m) was in
+      omega (arith, same, grows.used m))
 
   -- what is on top of that
   abbrev now : Top plan grown stack place first
@@ -322,33 +316,20 @@ module _ (plan : Plan) (before : List Slot) (stack : List ℕ) (open_now : IsOpe
     abbrev second : Kid
     second = put_at place item first
 
-    tree_second : tree_of second ≡ change_at place (with_new def) (tree_of k)
-    tree_second =
-        let was : tree_at place (tree_of k) ≡ begun tracker (trees_in kids)
-        = sym (tree_of_at place k) ∙ ap tree_of top.is ∙ ap tree_in begun_now in
-        ap tree_of (put_at_twice place new item k reach) ∙ tree_change_at place (with_new def) item k
-        (grows.tree n def ∙ ap (with_new def) (sym was))
-
-    stands_second : Stands plan (heap_of after) (stack ++ n ∷ []) (place ++ i ∷ []) second
-    stands_second =
-        stands_entered plan grown (heap_of after) stack place first stands_grown now made more plot_same i grows.within
+    so : IsEntered plan grown (heap_of after) stack n place i first second
+    so =
+        entered_so plan grown (heap_of after) stack place first stands_grown now made more plot_same i grows.within
         grows.unplaced grows.vacant def n free shown deep
 
-    occurs_second : (t : ℕ) → kid_occurs second t ≡ kid_occurs k t
-    occurs_second t =
-        tokens_entered plan grown (heap_of after) stack place first stands_grown now made more plot_same i grows.within
-        grows.unplaced grows.vacant def n free shown deep t ∙ occurs_grown t
-
-    all_second : AllServe (heap_of after) second
-    all_second =
-        all_entered plan grown (heap_of after) stack place first stands_grown now made more plot_same i grows.within
-        grows.unplaced grows.vacant def n free shown deep all_grown
+    tree_second : tree_of second ≡ change_at place (with_new def) (tree_of k)
+    tree_second =
+        ap tree_of (put_at_twice place new item k reach) ∙ tree_change_at place (with_new def) item k
+        (grows.tree n def ∙ ap (with_new def) (ap tree_of (sym was) ∙ tree_of_at place k))
 
     stay_second : AllStayPut k second
     stay_second way placed =
         let one = stay_grown way placed in
-        let two = stay_entered plan grown (heap_of after) stack place first stands_grown now made more plot_same i
-        grows.within grows.unplaced grows.vacant def n free shown deep way one.0 in
+        let two = so.stay way one.0 in
         (two.0, two.1 ∙ one.1)
 
     pub open_item : IsOpenAt plan after next (place ++ i ∷ []) (change_at place (with_new def) (tree_of k))
@@ -356,10 +337,9 @@ module _ (plan : Plan) (before : List Slot) (stack : List ℕ) (open_now : IsOpe
     open_item =
         subst (λ (s : List ℕ). IsOpenAt plan after s (place ++ i ∷ []) (change_at place (with_new def) (tree_of k))
         × AllStayPut k (kid_here after s)) (sym along) (
-          open_at_from plan after (stack ++ n ∷ []) (place ++ i ∷ []) second
-              (change_at place (with_new def) (tree_of k)) stands_second
-              (tokens_kept before after k second tokens open_now.tokens occurs_second) all_second tree_second,
-          stay_shown plan after (stack ++ n ∷ []) (place ++ i ∷ []) second k stands_second stay_second,
+          open_at_held plan after (stack ++ n ∷ []) (place ++ i ∷ []) second
+              (change_at place (with_new def) (tree_of k)) so.stands (so.all all_grown) tree_second,
+          stay_shown plan after (stack ++ n ∷ []) (place ++ i ∷ []) second k so.stands stay_second,
         )
 
     pub marks_item : SameMarks before after
@@ -401,63 +381,21 @@ module _ (plan : Plan) (before : List Slot) (stack : List ℕ) (open_now : IsOpe
     numbered : node ≡ child_node plan (node_here plan before stack) tracker (count_kids formed.0)
     numbered = is ∙ ap (child_node plan (node_here plan before stack) tracker) counted
 
-    both : IsOpenAt plan after next (cursor_in before stack ++ count_kids formed.0 ∷ [])
+    -- the new child is on top, no place leaves its slot, and none is stored that wasn't, nor taken out of the store
+    pub child_enters : (IsOpenAt plan after next (cursor_in before stack ++ count_here before stack ∷ [])
         (change_at (cursor_in before stack) (with_new def) (tree_in_slots before stack))
-        × AllStayPut (kid_here before stack) (kid_here after next)
-    both =
-        open_item plan before stack open_now p last tracker tracker formed.0 more (count_kids formed.0) formed.1 change with_new grows
-        (item_owner p) owner_is after next def n node numbered vacant shows limit tokens along
+        × AllStayPut (kid_here before stack) (kid_here after next)) × SameMarks before after
+    child_enters = (
+      subst (λ (count : ℕ). IsOpenAt plan after next (cursor_in before stack ++ count ∷ [])
+          (change_at (cursor_in before stack) (with_new def) (tree_in_slots before stack))
+          × AllStayPut (kid_here before stack) (kid_here after next)) (sym counted)
+          (open_item plan before stack open_now p last tracker tracker formed.0 more (count_kids formed.0) formed.1 change with_new
+          grows (item_owner p) owner_is after next def n node numbered vacant shows limit tokens along),
+      marks_item plan before stack open_now p last tracker tracker formed.0 more (count_kids formed.0) formed.1 change with_new grows
+          (item_owner p) owner_is after next def n node numbered vacant shows limit tokens along,
+    )
 
-    -- the new child is on top
-    pub child_entered : IsOpenAt plan after next (cursor_in before stack ++ count_here before stack ∷ [])
-        (change_at (cursor_in before stack) (with_new def) (tree_in_slots before stack))
-    child_entered =
-        subst (λ (count : ℕ). IsOpenAt plan after next (cursor_in before stack ++ count ∷ [])
-        (change_at (cursor_in before stack) (with_new def) (tree_in_slots before stack))) (sym counted) both.0
-
-    -- no place leaves its slot
-    pub child_stay : AllStayPut (kid_here before stack) (kid_here after next)
-    child_stay = both.1
-
-    -- and none is stored that wasn't, nor taken out of the store
-    pub child_marks : SameMarks before after
-    child_marks =
-        marks_item plan before stack open_now p last tracker tracker formed.0 more (count_kids formed.0) formed.1 change with_new grows
-        (item_owner p) owner_is after next def n node numbered vacant shows limit tokens along
-
--- An item.
-module _ (plan : Plan) (before : List Slot) (stack : List ℕ) (open_now : IsOpen plan before stack) (p : ℕ) (last : IsLast stack p)
-    (tracker : Tracker) (has : HasTracker tracker (tree_here before stack)) (takes : TakesItems tracker) where
-  pub takes_item : IfInUse before p (λ (found : Node). IsGrowing found.body)
-  takes_item = formed_here plan before stack open_now p last tracker has (λ (body : Body). IsGrowing body) takes
-
-  module _ (after : List Slot) (next : List ℕ) (def : Def) (n : ℕ) (node : NodeId)
-      (is : node ≡ child_node plan (node_here plan before stack) tracker (count_here before stack)) (vacant : heap_of before n ≡ None)
-      (shows : IfInUse before p (λ (found : Node). Shows after
-      (with_entered def (with_body (heap_of before) p added) node (item_owner p found.body) n)))
-      (limit : IfInUse before p (λ (found : Node). depth_below (heap_of before) (item_owner p found.body) < depth_limit))
-      (tokens : SameTokens before after) (along : next ≡ stack ++ n ∷ []) where
-    abbrev its : Kids
-    its = (formed plan before stack open_now p last tracker has).0
-
-    pub item_entered : IsOpenAt plan after next (cursor_in before stack ++ count_here before stack ∷ [])
-        (change_at (cursor_in before stack) (with_item_of def) (tree_in_slots before stack))
-    item_entered =
-        child_entered plan before stack open_now p last tracker has (kids_and_last its gone) added with_item_of
-        (items_grow tracker its takes) after next def n node is vacant shows limit tokens along
-
-    pub item_stay : AllStayPut (kid_here before stack) (kid_here after next)
-    item_stay =
-        child_stay plan before stack open_now p last tracker has (kids_and_last its gone) added with_item_of
-        (items_grow tracker its takes) after next def n node is vacant shows limit tokens along
-
-    pub item_marks : SameMarks before after
-    item_marks =
-        child_marks plan before stack open_now p last tracker has (kids_and_last its gone) added with_item_of
-        (items_grow tracker its takes) after next def n node is vacant shows limit tokens along
-
--- A key.
-
+-- a map is begun over as many entries as it had
 pub map_tracker : (t : Tree) → is_map t ≡ true → (base : ℕ) × HasTracker (as_entries (EntriesKind.Map base)) t
 map_tracker (begun tracker ts) of_map = go tracker of_map
   where
@@ -466,39 +404,3 @@ map_tracker (begun tracker ts) of_map = go tracker of_map
     go (as_entries (EntriesKind.Object keys)) of_map = absurd (cc)
     go _ of_map = absurd (cc)
 map_tracker _ of_map = absurd (cc)
-
-module _ (plan : Plan) (before : List Slot) (stack : List ℕ) (open_now : IsOpen plan before stack) (p : ℕ) (last : IsLast stack p)
-    (of_map : is_map (tree_here before stack) ≡ true) where
-  abbrev base : ℕ
-  base = (map_tracker (tree_here before stack) of_map).0
-
-  has_map : HasTracker (as_entries (EntriesKind.Map base)) (tree_here before stack)
-  has_map = (map_tracker (tree_here before stack) of_map).1
-
-  pub takes_key : IfInUse before p (λ (found : Node). IsMapBody found.body)
-  takes_key = formed_here plan before stack open_now p last (as_entries (EntriesKind.Map base)) has_map (λ (body : Body). IsMapBody body) (base, refl)
-
-  module _ (after : List Slot) (next : List ℕ) (def : Def) (n : ℕ) (node : NodeId)
-      (is : node ≡ child_node plan (node_here plan before stack) (as_entries (EntriesKind.Map base)) (count_here before stack)) (vacant : heap_of before n ≡ None)
-      (shows : IfInUse before p (λ (found : Node). Shows after
-      (with_entered def (with_body (heap_of before) p added_entry) node (item_owner p found.body) n)))
-      (limit : IfInUse before p (λ (found : Node). depth_below (heap_of before) (item_owner p found.body) < depth_limit))
-      (tokens : SameTokens before after) (along : next ≡ stack ++ n ∷ []) where
-    abbrev its_kids : Kids
-    its_kids = (formed plan before stack open_now p last (as_entries (EntriesKind.Map base)) has_map).0
-
-    pub key_entered : IsOpenAt plan after next (cursor_in before stack ++ count_here before stack ∷ [])
-        (change_at (cursor_in before stack) (with_key_of def) (tree_in_slots before stack))
-    key_entered =
-        child_entered plan before stack open_now p last (as_entries (EntriesKind.Map base)) has_map (kids_and_last (kids_and_last its_kids gone) gone)
-        added_entry with_key_of (entries_grow base its_kids) after next def n node is vacant shows limit tokens along
-
-    pub key_stay : AllStayPut (kid_here before stack) (kid_here after next)
-    key_stay =
-        child_stay plan before stack open_now p last (as_entries (EntriesKind.Map base)) has_map (kids_and_last (kids_and_last its_kids gone) gone)
-        added_entry with_key_of (entries_grow base its_kids) after next def n node is vacant shows limit tokens along
-
-    pub key_marks : SameMarks before after
-    key_marks =
-        child_marks plan before stack open_now p last (as_entries (EntriesKind.Map base)) has_map (kids_and_last (kids_and_last its_kids gone) gone)
-        added_entry with_key_of (entries_grow base its_kids) after next def n node is vacant shows limit tokens along

@@ -1,7 +1,6 @@
 -- How many children a place has is told without what the children of a list are.
 use Rattle.std.proofs.Common.{◌≡◌, length, Option, Some, None, option_map, refl, sym, ◌∙◌, ap}
-use Rattle.fr_store.specs.Common.{Body, Node, begun_body, cells_found, cells_in_body, whole_body}
-use Rattle.fr_frame.specs.Bodies.{entered_body}
+use Rattle.fr_store.specs.Common.{Body, Node, begun_body, cells_found, cells_in_body}
 use Rattle.fr_frame.specs.OutlineLaws.{outline_count}
 use Rattle.fr_frame.specs.Outlines.{outline, outlined}
 

@@ -85,18 +85,6 @@ module _ {X Y : Type 0} (f : X → Y) where
       ap (map f) (reverse-append (x ∷ []) xs) ∙ map-append f (reverse xs) (x ∷ [])
       ∙ ap (λ (ys : List Y). ys ++ f x ∷ []) (map_reverse xs) ∙ sym (reverse-append (f x ∷ []) (map f xs))
 
-  -- what passes of the changed list is the changed list of what passes
-  pub map_filter : (p : Y → Bool) (q : X → Bool) (xs : List X) → All (λ x. p (f x) ≡ q x) xs
-      → filter p (map f xs) ≡ map f (filter q xs)
-  map_filter p q [] same = refl
-  map_filter p q (x ∷ xs) same =
-      ap (λ (b : Bool). cond b (f x ∷ filter p (map f xs)) (filter p (map f xs))) (All-head (λ y. p (f y) ≡ q y) x xs same)
-      ∙ ap (λ (l : List Y). cond (q x) (f x ∷ l) l) (map_filter p q xs (All-tail (λ y. p (f y) ≡ q y) x xs same)) ∙ go (q x)
-    where
-      go : (b : Bool) → cond b (f x ∷ map f (filter q xs)) (map f (filter q xs)) ≡ map f (cond b (x ∷ filter q xs) (filter q xs))
-      go true = refl
-      go false = refl
-
 module _ {X : Type 0} (So : X → X → Type 0) where
   pub pairs_append : (xs ys : List X) → Pairs So xs → Pairs So ys → All (λ x. All (So x) ys) xs → Pairs So (xs ++ ys)
   pairs_append [] ys p q cross = q
@@ -146,22 +134,10 @@ pairs_reverse {X} So (x ∷ xs) h =
 
 -- Counts.
 
-pub counts_append : (n : ℕ) (xs ys : List ℕ) → counts_in n (xs ++ ys) ≡ counts_in n xs + counts_in n ys
-counts_append n [] ys = omega arith
-counts_append n (x ∷ xs) ys = omega (arith, counts_append n xs ys)
-
 pub none_counted : (n : ℕ) (xs : List ℕ) → All (λ x. x ≢ n) xs → counts_in n xs ≡ 0
 none_counted n [] none = refl
 none_counted n (x ∷ xs) none =
     omega (arith, counts_other x n (All-head (λ y. y ≢ n) x xs none), none_counted n xs (All-tail (λ y. y ≢ n) x xs none))
-
-pub counted_in : (n : ℕ) (xs : List ℕ) → 0 < counts_in n xs → Contains xs n
-counted_in n [] h = absurd (omega arith)
-counted_in n (x ∷ xs) h = go (same_or_other x n) (counted_in n xs)
-  where
-    go : (x ≡ n) ⊎ (x ≢ n) → (0 < counts_in n xs → Contains xs n) → Contains (x ∷ xs) n
-    go (inl e) rest = (0, omega arith, e)
-    go (inr ne) rest = later_in x n xs (rest (omega (arith, counts_other x n ne)))
 
 pub in_counted : (n : ℕ) (xs : List ℕ) → Contains xs n → 0 < counts_in n xs
 in_counted n [] at = absurd (none_in n at)

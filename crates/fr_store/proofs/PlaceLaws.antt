@@ -1,6 +1,6 @@
 -- Places in slots, and the ways to them.
 use Rattle.std.proofs.Common.{◌≡◌, ◌≢◌, ◌⊎◌, ℕ, zero, suc, ◌+◌, ◌<◌, ◌≤◌, Bool, true, false, List, [], ◌∷◌, ◌++◌, length, length-append, get_or, map, nat_eq, inl, inr, refl, sym, ◌∙◌, ap, subst, arith}
-use Rattle.fr_store.specs.Common.{All, AllMarked, AreOnce, FrameOwner, Heap, Holds, IsHere, IsPlaced, IsStoredHere, Kid, Kids, Leads, NodeId, Pairs, Place, Plan, Plot, Reaches, StoredBut, at, begun_plot, count_kids, counts_if, counts_in, counts_other, counts_same, entered_plot, gone, holds_at, kid, kid_at, kid_at_append, kid_nth, leads_at, leads_reach, marked, marked_nth, no_kids, node_along, owner_along, same_or_other, slot_at, slot_here, slots_above, slots_along, stored_here, stored_in, there, uses, uses_among, uses_at, uses_in, uses_nth, whole_plot}
+use Rattle.fr_store.specs.Common.{All, AllMarked, AreOnce, FrameOwner, Heap, Holds, IsHere, IsPlaced, IsStoredHere, Kid, Kids, Leads, NodeId, Pairs, Place, Plan, Plot, Reaches, StoredBut, at, begun_plot, count_kids, counts_if, counts_in, counts_other, counts_same, gone, holds_at, kid, kid_at, kid_at_append, kid_nth, leads_at, leads_reach, marked, marked_nth, no_kids, node_along, owner_along, same_or_other, slot_at, slot_here, slots_above, slots_along, stored_here, stored_in, there, uses, uses_among, uses_at, uses_in, uses_nth}
 use Rattle.std.proofs.lemmas.List.{append-nil}
 use Rattle.std.proofs.lemmas.List.Elements.{All-contains, All-head, All-tail, Contains-get_or}
 use Rattle.fr_store.specs.Ways.{kid_in_plot}
@@ -92,10 +92,7 @@ same_way (i ∷ first) (j ∷ second) (at slot stored (begun_plot tracker kids))
         = ap (uses (kid_nth j kids)) e in
         absurd (omega
         (arith, once n, two_nth i j kids n ne, used_at first (kid_nth i kids) here, used_at second (kid_nth j kids) also))
-same_way (i ∷ first) second (at slot stored entered_plot) once one here two also e = absurd one
-same_way (i ∷ first) second (at slot stored (whole_plot v)) once one here two also e = absurd one
-same_way (i ∷ first) second gone once one here two also e = absurd one
-same_way (i ∷ first) second (there v) once one here two also e = absurd one
+same_way (i ∷ first) second _ once one here two also e = absurd one
 same_way [] (j ∷ second) _ once one here two also e = absurd two
 
 pub same_place : (first second : Place) (k : Kid) → ((n : ℕ) → uses k n ≤ 1) → IsPlaced k first → IsPlaced k second

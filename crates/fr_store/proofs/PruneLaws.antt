@@ -1,6 +1,6 @@
 -- Laws of pruning, for proofs: what lies beneath a place, and what is left of it once the first so many children are released.
-use Rattle.std.proofs.Common.{◌≡◌, ℕ, zero, suc, ◌+◌, ◌<◌, ◌≤◌, Bool, true, List, [], ◌∷◌, length, map, set, nat_eq, slice_get, Option, Some, None, refl, sym, ◌∙◌, ap, subst, arith, if◌then◌else◌}
-use Rattle.fr_store.specs.Common.{AllMarkedAmong, AllMarkedIn, AreUnplaced, Body, Cell, FrameOwner, Heap, Holds, HoldsAll, HoldsIn, IsClosed, IsKept, IsPruned, IsRooted, Kid, Kids, MayHave, Node, NodeId, Plan, Plot, RoseBy, Slot, StoresNoMore, Tracker, absent, at, begun_body, begun_plot, beneath, body_in, body_occurs, cell_at, cell_of, cells_in, cells_in_body, child_node, child_owner, depth_limit, entered_plot, given, gone, heap_of, kid, kid_nth, kids_occur, no_kids, option_and_then, plot_occurs, pruned, slot_of_cell, slots_occur, slotted_occur, there, unlinked, uses, uses_among, uses_in, whole_body, whole_plot}
+use Rattle.std.proofs.Common.{◌≡◌, ℕ, zero, suc, ◌+◌, ◌<◌, ◌≤◌, Bool, true, List, [], ◌∷◌, length, map, set, nat_eq, slice_get, Option, Some, None, refl, sym, ◌∙◌, ap, arith, if◌then◌else◌}
+use Rattle.fr_store.specs.Common.{AllMarkedAmong, AllMarkedIn, AreUnplaced, Body, Cell, FrameOwner, Heap, Holds, HoldsAll, HoldsIn, IsClosed, IsKept, IsPruned, IsRooted, Kid, Kids, MayHave, Node, NodeId, Plan, Plot, RoseBy, Slot, StoresNoMore, Tracker, absent, at, begun_body, begun_plot, beneath, body_in, body_occurs, cell_at, cell_of, cells_in, cells_in_body, child_node, child_owner, depth_limit, entered_plot, given, gone, heap_of, kid, kid_nth, kids_occur, no_kids, option_and_then, plot_occurs, pruned, slot_of_cell, slots_occur, slotted_occur, there, unlinked, uses, uses_among, uses_in, whole_body}
 use Rattle.std.proofs.lemmas.Grind.{common_steps}
 use Rattle.std.proofs.lemmas.Bool.Decides.{nat_tests}
 use Rattle.fr_frame.specs.Bodies.{entered_body, with_cell, unlinked_by}
@@ -274,13 +274,3 @@ slotless_tokens i no_kids t is = refl
 slotless_tokens zero (kid (at slot stored plot) ks) t is = absurd (cc)
 slotless_tokens zero _ t is = refl
 slotless_tokens (suc i) (kid k ks) t is = slotless_tokens i ks t is
-
-pub held_nth : (plan : Plan) (heap : Heap) (node : NodeId) (slot : ℕ) (tracker : Tracker) (first depth : ℕ) (ks : Kids) (i m : ℕ)
-    → m ≡ first + i → HoldsAll plan heap node slot tracker first depth ks
-    → Holds plan heap (child_node plan node tracker m) (child_owner slot m) depth (kid_nth i ks)
-held_nth plan heap node slot tracker first depth no_kids i m e holds = tt
-held_nth plan heap node slot tracker first depth (kid k ks) zero m e holds =
-    let same : first ≡ m = omega arith in
-    subst (λ (j : ℕ). Holds plan heap (child_node plan node tracker j) (child_owner slot j) depth k) same holds.0
-held_nth plan heap node slot tracker first depth (kid k ks) (suc i) m e holds =
-    held_nth plan heap node slot tracker (suc first) depth ks i m (omega arith) holds.1

@@ -3,19 +3,19 @@ use Rattle.std.proofs.Common.{◌≡◌, ◌≢◌, ◌⊎◌, ℕ, zero, suc, �
 use Rattle.fr_store.specs.Common.{AllMarked, AllMarkedAmong, Body, Cell, Heap, Holds, HoldsIn, IsPruned, IsRooted, Kid, Kids, MayHave, Node, Plot, Room, Room_fewer, Room_risen, RoseBy, Tracker, at, begun_body, begun_plot, beneath, body_here, body_in, body_occurs, body_other, both, cells_found, cells_in, cells_in_body, child_node, child_owner, count_kids, counts_if, counts_other, counts_same, depth_limit, entered_plot, kid, kid_nth, marked, marked_nth, may_have_all, no_kids, pruned, same_or_other, slot_other, slotted_occur, stored_in, unlinked, uses, uses_among, uses_in, whole_plot, with_slot, without}
 use Rattle.fr_shape.specs.TokenLaws.{Room_left}
 use Rattle.fr_frame.specs.Cells.{slot_at}
-use Rattle.fr_store.specs.HoldLaws.{AgreeOn, holds_frame}
+use Rattle.fr_store.specs.HoldLaws.{AgreeOn, holds_frame, holds_nth}
 use Rattle.fr_store.specs.Prunes.{kids_in_plot, slotted_occurs}
 use Rattle.fr_store.specs.TopLaws.{slot_here}
-use Rattle.fr_store.proofs.PruneLaws.{pruned_first, first_kids, depth_found, beneath_is, plot_uses, plot_marked, plot_cells, plot_tokens, first_uses, uses_first, tokens_first, pruned_slot, unlinked_first, kid_in_slot, cell_in_slot, held_nth}
+use Rattle.fr_store.proofs.PruneLaws.{pruned_first, first_kids, depth_found, beneath_is, plot_uses, plot_marked, plot_cells, plot_tokens, first_uses, uses_first, tokens_first, pruned_slot, unlinked_first, kid_in_slot, cell_in_slot}
 
 -- What lies beneath the place.
 
-module _ (heap : Heap) (n : ℕ) (rooted : IsRooted heap n) where
-  pub beneath_uses : (m : ℕ) → uses_among (beneath heap n) m ≡ uses_in rooted.plot m
-  beneath_uses m = ap (λ (ks : Kids). uses_among ks m) (beneath_is heap n rooted) ∙ sym (plot_uses rooted.plot m)
+pub beneath_uses : (heap : Heap) (n : ℕ) (rooted : IsRooted heap n) (m : ℕ) → uses_among (beneath heap n) m ≡ uses_in rooted.plot m
+beneath_uses heap n rooted m = ap (λ (ks : Kids). uses_among ks m) (beneath_is heap n rooted) ∙ sym (plot_uses rooted.plot m)
 
+module _ {heap : Heap} {n : ℕ} (rooted : IsRooted heap n) where
   pub beneath_once : (m : ℕ) → counts_if (nat_eq n m) + uses_among (beneath heap n) m ≤ 1
-  beneath_once m = omega (arith, rooted.once m, beneath_uses m)
+  beneath_once m = omega (arith, rooted.once m, beneath_uses heap n rooted m)
 
   pub beneath_stored : AllMarkedAmong true (beneath heap n)
   beneath_stored =
@@ -47,9 +47,9 @@ nth_within i m no_kids plot is = absurd (cc)
 nth_within zero m (kid k ks) plot is = omega arith
 nth_within (suc i) m (kid k ks) plot is = let rest = nth_within i m ks plot is in omega arith
 
-child_held : (heap : Heap) (n : ℕ) (rooted : IsRooted heap n) (i m : ℕ) (below : Plot)
+child_held : {heap : Heap} {n : ℕ} (rooted : IsRooted heap n) (i m : ℕ) (below : Plot)
     → kid_nth i (beneath heap n) ≡ at m true below → ChildHeld heap n rooted i m below
-child_held heap n rooted i m below is = go rooted.plot rooted.body rooted.holds (beneath_is heap n rooted)
+child_held {heap} {n} rooted i m below is = go rooted.plot rooted.body rooted.holds (beneath_is heap n rooted)
   where
     go : (plot : Plot) → rooted.found.body ≡ body_in plot
         → HoldsIn rooted.plan heap rooted.found.node n (suc rooted.found.depth) plot → beneath heap n ≡ kids_in_plot plot
@@ -66,7 +66,8 @@ child_held heap n rooted i m below is = go rooted.plot rooted.body rooted.holds 
           holds = subst
               (λ (k : Kid). Holds rooted.plan heap (child_node rooted.plan rooted.found.node tracker i) (child_owner n i)
               (suc rooted.found.depth) k) here
-              (held_nth rooted.plan heap rooted.found.node n tracker 0 (suc rooted.found.depth) kids i i (omega arith) holds);
+              (holds_nth rooted.plan heap rooted.found.node n tracker 0 (suc rooted.found.depth) kids i i (omega arith)
+              (nth_within i m kids below here) holds);
         }
 
 -- So many children were released, and one more is in a slot.
@@ -81,7 +82,7 @@ pub record Child (before mid : Heap) (n : ℕ) (rooted : IsRooted before n) (i m
   pub stored : below.found.stored ≡ true
   pub deeper : below.found.depth ≡ suc rooted.found.depth
 
-module _ (before mid : Heap) (n : ℕ) (rooted : IsRooted before n) (i : ℕ)
+module _ {before mid : Heap} {n : ℕ} (rooted : IsRooted before n) (i : ℕ)
     (so_far : IsPruned before mid n (pruned_first i) (first_kids i (beneath before n))) where
   -- the place is there still
   pub still_here : mid n ≡ Some (record rooted.found { body = pruned_first i rooted.found.body })
@@ -90,21 +91,21 @@ module _ (before mid : Heap) (n : ℕ) (rooted : IsRooted before n) (i : ℕ)
   pub slot_is : slot_at (cells_found (mid n)) i ≡ slot_at (cells_in (beneath before n)) i
   slot_is =
       ap (λ (o : Option Node). slot_at (cells_found o) i) still_here ∙ pruned_slot i rooted.found.body
-      ∙ ap (λ (cs : List Cell). slot_at cs i) (beneath_cells before n rooted)
+      ∙ ap (λ (cs : List Cell). slot_at cs i) (beneath_cells rooted)
 
   pub child_of : (m : ℕ) → slot_at (cells_found (mid n)) i ≡ Some m → Child before mid n rooted i m
   child_of m found =
-      let one = kid_in_slot i m (beneath before n) (sym slot_is ∙ found) (beneath_stored before n rooted) in
-      let held = child_held before n rooted i m one.0 one.1 in
+      let one = kid_in_slot i m (beneath before n) (sym slot_is ∙ found) (beneath_stored rooted) in
+      let held = child_held rooted i m one.0 one.1 in
       let all : (x : ℕ) → uses (kid_nth i (beneath before n)) x ≡ counts_if (nat_eq m x) + uses_in one.0 x
       = λ x. ap (λ (k : Kid). uses k x) one.1 in
       let agree : AgreeOn before mid (at m true one.0) = λ x h. so_far.rest x
-      (beneath_apart before n rooted x (omega (arith, all x, uses_first i (beneath before n) x)))
-      (omega (arith, all x, uses_first i (beneath before n) x, beneath_once before n rooted x)) in
+      (beneath_apart rooted x (omega (arith, all x, uses_first i (beneath before n) x)))
+      (omega (arith, all x, uses_first i (beneath before n) x, beneath_once rooted x)) in
       let now = holds_frame rooted.plan before mid (child_node rooted.plan rooted.found.node held.tracker i)
       (child_owner n i) (suc rooted.found.depth) (at m true one.0) held.holds agree in
       let marked : AllMarked true (at m true one.0)
-      = subst (λ (k : Kid). AllMarked true k) one.1 (marked_nth true i (beneath before n) (beneath_stored before n rooted)) in
+      = subst (λ (k : Kid). AllMarked true k) one.1 (marked_nth true i (beneath before n) (beneath_stored rooted)) in
       record {
         below = record {
           plan = rooted.plan;
@@ -120,7 +121,7 @@ module _ (before mid : Heap) (n : ℕ) (rooted : IsRooted before n) (i : ℕ)
           body = refl;
           limit = now.1;
           holds = now.2;
-          once = λ x. omega (arith, all x, uses_first i (beneath before n) x, beneath_once before n rooted x);
+          once = λ x. omega (arith, all x, uses_first i (beneath before n) x, beneath_once rooted x);
           stored = marked.1;
         };
         is = one.1;
@@ -132,7 +133,7 @@ module _ (before mid : Heap) (n : ℕ) (rooted : IsRooted before n) (i : ℕ)
         deeper = refl;
       }
 
-  module _ (m : ℕ) (child : Child before mid n rooted i m) where
+  module _ {m : ℕ} (child : Child before mid n rooted i m) where
     -- the depths that are left fall
     pub child_falls : depth_limit - depth_found (mid m) < depth_limit - depth_found (before n)
     child_falls =
@@ -168,14 +169,14 @@ module _ (before mid : Heap) (n : ℕ) (rooted : IsRooted before n) (i : ℕ)
       below_room = Room_left (slotted_occur (beneath mid m)) (body_occurs child.below.found.body) now child_room
 
     -- What lies beneath the child is released.
-    module _ (late : Heap) (later : IsPruned mid late m pruned (beneath mid m)) where
+    module _ {late : Heap} (later : IsPruned mid late m pruned (beneath mid m)) where
       pub child_here : late m ≡ Some (record child.below.found { body = pruned child.below.found.body })
       child_here = later.here ∙ body_here mid m pruned child.below.found child.below.here
 
       above_here : late n ≡ Some (record rooted.found { body = pruned_first i rooted.found.body })
       above_here =
-          later.rest n (λ e. beneath_apart before n rooted m child_used (sym e))
-          (omega (arith, child_uses n, uses_first i (beneath before n) n, beneath_once before n rooted n, counts_same n))
+          later.rest n (λ e. beneath_apart rooted m child_used (sym e))
+          (omega (arith, child_uses n, uses_first i (beneath before n) n, beneath_once rooted n, counts_same n))
           ∙ still_here
 
       -- the child leaves its slot
@@ -185,14 +186,14 @@ module _ (before mid : Heap) (n : ℕ) (rooted : IsRooted before n) (i : ℕ)
 
         after_free : after m ≡ None
         after_free =
-            left m ∙ body_other (with_slot late m None) n (unlinked m i) m (beneath_apart before n rooted m child_used)
+            left m ∙ body_other (with_slot late m None) n (unlinked m i) m (beneath_apart rooted m child_used)
             ∙ slot_here late m None
 
         after_here : after n ≡ Some (record rooted.found { body = pruned_first (suc i) rooted.found.body })
         after_here =
             left n ∙ body_here (with_slot late m None) n (unlinked m i)
             (record rooted.found { body = pruned_first i rooted.found.body })
-            (slot_other late m None n (λ e. beneath_apart before n rooted m child_used (sym e)) ∙ above_here)
+            (slot_other late m None n (λ e. beneath_apart rooted m child_used (sym e)) ∙ above_here)
             ∙ ap (λ (b : Body). Some (record rooted.found { body = b }))
             (ap (λ (b : Body). unlinked m i (pruned_first i b)) child.body
             ∙ unlinked_first child.tracker i m (count_kids (beneath before n)) (cells_in (beneath before n)) child.may_have
@@ -205,7 +206,7 @@ module _ (before mid : Heap) (n : ℕ) (rooted : IsRooted before n) (i : ℕ)
 
         first_apart : (x : ℕ) → 0 < uses_among (first_kids (suc i) (beneath before n)) x → x ≢ n
         first_apart x h =
-            beneath_apart before n rooted x (omega (arith, first_now x, child_uses x, uses_first i (beneath before n) x))
+            beneath_apart rooted x (omega (arith, first_now x, child_uses x, uses_first i (beneath before n) x))
 
         pub child_left : IsPruned before after n (pruned_first (suc i)) (first_kids (suc i) (beneath before n))
         child_left = record {

@@ -79,13 +79,13 @@ pruning_same i n j store other start slots others ledger now then_now a b c d is
     (subst (λ (s : List Slot). Pruning i n store start s ledger then_now) (sym c)
     (subst (λ (l : List ℕ). Pruning i n store start slots ledger l) (sym d) is)))
 
-module _ (n : ℕ) (start : List Slot) (rooted : IsRooted (heap_of start) n) (ledger : List ℕ) (i : ℕ) (store : List ℕ)
-    (mid : List Slot) (now : List ℕ) (so_far : Pruning i n store start mid ledger now) where
+module _ {i n : ℕ} {store : List ℕ} {start mid : List Slot} {ledger now : List ℕ} (so_far : Pruning i n store start mid ledger now)
+    (rooted : IsRooted (heap_of start) n) where
   -- a child that is in no slot
   pub pruning_skips : slot_at (cells_found (heap_of mid n)) i ≡ None → Pruning (suc i) n store start mid ledger now
   pruning_skips none =
       let slotless : slot_at (cells_in (beneath (heap_of start) n)) i ≡ None
-      = sym (slot_is (heap_of start) (heap_of mid) n rooted i so_far.heap) ∙ none in
+      = sym (slot_is rooted i so_far.heap) ∙ none in
       let same_uses : (m : ℕ) → uses_among (first_kids (suc i) (beneath (heap_of start) n)) m
       ≡ uses_among (first_kids i (beneath (heap_of start) n)) m
       = λ m. omega (arith, first_uses i (beneath (heap_of start) n) m, slotless_uses i (beneath (heap_of start) n) m slotless) in
@@ -97,7 +97,7 @@ module _ (n : ℕ) (start : List Slot) (rooted : IsRooted (heap_of start) n) (le
         heap = record {
           here = so_far.heap.here ∙ body_here (heap_of start) n (pruned_first i) rooted.found rooted.here
               ∙ ap (λ (b : Body). Some (record rooted.found { body = b })) (sym (pruned_kept i rooted.found.body
-              (ap (λ (cs : List Cell). slot_at cs i) (beneath_cells (heap_of start) n rooted) ∙ slotless)))
+              (ap (λ (cs : List Cell). slot_at cs i) (beneath_cells rooted) ∙ slotless)))
               ∙ sym (body_here (heap_of start) n (pruned_first (suc i)) rooted.found rooted.here);
           free = λ m h. so_far.heap.free m (omega (arith, same_uses m));
           rest = λ m a h. so_far.heap.rest m a (omega (arith, same_uses m));
@@ -112,41 +112,41 @@ module _ (n : ℕ) (start : List Slot) (rooted : IsRooted (heap_of start) n) (le
   -- one that is in a slot
   module _ (m : ℕ) (found : slot_at (cells_found (heap_of mid n)) i ≡ Some m) where
     next : Child (heap_of start) (heap_of mid) n rooted i m
-    next = child_of (heap_of start) (heap_of mid) n rooted i so_far.heap m found
+    next = child_of rooted i so_far.heap m found
 
     pub next_falls : depth_limit - depth_found (heap_of mid m) < depth_limit - depth_found (heap_of start n)
-    next_falls = child_falls (heap_of start) (heap_of mid) n rooted i so_far.heap m next
+    next_falls = child_falls rooted i so_far.heap next
 
     pub next_rooted : IsRooted (heap_of mid) m
     next_rooted = next.below
 
-    module _ (room : Room (slotted_occur (beneath (heap_of start) n)) ledger) where
-      pub next_room : Room (slotted_occur (beneath (heap_of mid) m)) now
-      next_room = below_room (heap_of start) (heap_of mid) n rooted i so_far.heap m next ledger now room so_far.released
+    pub next_room : Room (slotted_occur (beneath (heap_of start) n)) ledger → Room (slotted_occur (beneath (heap_of mid) m)) now
+    next_room room = below_room rooted i so_far.heap next ledger now room so_far.released
 
-      -- what lies beneath it is released
-      module _ (held : List ℕ) (late : List Slot) (lately : List ℕ)
-          (later : IsPruned (heap_of mid) (heap_of late) m pruned (beneath (heap_of mid) m))
-          (rose : RoseBy (slotted_occur (beneath (heap_of mid) m)) now lately)
+    -- what lies beneath it is released
+    module _ (late : List Slot) (later : IsPruned (heap_of mid) (heap_of late) m pruned (beneath (heap_of mid) m)) where
+      here : heap_of late m ≡ Some (record next.below.found { body = pruned next.below.found.body })
+      here = child_here rooted i so_far.heap next later
+
+      pub next_in_use : IsInUse late m
+      next_in_use = ap is_some here
+
+      pub next_stored : (held : List ℕ) → IsKept held late → Contains held m
+      next_stored held kept = (kept m).0 (ap stored_in here ∙ next.stored)
+
+      pub frame_room : Room (slotted_occur (beneath (heap_of start) n)) ledger → (lately : List ℕ)
+          → RoseBy (slotted_occur (beneath (heap_of mid) m)) now lately
+          → IfInUse late m (λ (it : Node). Room (body_occurs it.body) lately)
+      frame_room room lately rose =
+          subst (λ (o : Option Node). IsSomeAnd o (λ (it : Node). Room (body_occurs it.body) lately)) (sym here)
+          (Room_same (body_occurs next.below.found.body) (body_occurs (pruned next.below.found.body)) lately
+          (λ t. sym (pruned_tokens next.below.found.body t))
+          (Room_risen (slotted_occur (beneath (heap_of mid) m)) (body_occurs next.below.found.body) now lately
+          (child_room rooted i so_far.heap next ledger now room so_far.released) rose))
+
+      module _ (held lately : List ℕ) (rose : RoseBy (slotted_occur (beneath (heap_of mid) m)) now lately)
           (tokens : (t : ℕ) → slots_occur mid t ≡ slots_occur late t + slotted_occur (beneath (heap_of mid) m) t)
           (kept : IsKept held late) (marks : StoresNoMore mid late) where
-        here : heap_of late m ≡ Some (record next.below.found { body = pruned next.below.found.body })
-        here = child_here (heap_of start) (heap_of mid) n rooted i so_far.heap m next (heap_of late) later
-
-        pub next_in_use : IsInUse late m
-        next_in_use = ap is_some here
-
-        pub next_stored : Contains held m
-        next_stored = (kept m).0 (ap stored_in here ∙ next.stored)
-
-        pub frame_room : IfInUse late m (λ (it : Node). Room (body_occurs it.body) lately)
-        frame_room =
-            subst (λ (o : Option Node). IsSomeAnd o (λ (it : Node). Room (body_occurs it.body) lately)) (sym here)
-            (Room_same (body_occurs next.below.found.body) (body_occurs (pruned next.below.found.body)) lately
-            (λ t. sym (pruned_tokens next.below.found.body t))
-            (Room_risen (slotted_occur (beneath (heap_of mid) m)) (body_occurs next.below.found.body) now lately
-            (child_room (heap_of start) (heap_of mid) n rooted i so_far.heap m next ledger now room so_far.released) rose))
-
         -- and it leaves its slot
         module _ (kept_now : List ℕ) (after : List Slot) (at_last : List ℕ)
             (removed : (x : ℕ) → Contains kept_now x ↔ (Contains held x × (x ≢ m)))
@@ -167,16 +167,16 @@ module _ (n : ℕ) (start : List Slot) (rooted : IsRooted (heap_of start) n) (le
               + (slotted_occur (beneath (heap_of mid) m) t + body_occurs (pruned next.below.found.body) t)
           more_tokens t =
               omega
-              (arith, first_tokens i (beneath (heap_of start) n) t, child_tokens (heap_of start) (heap_of mid) n rooted i so_far.heap m next t, pruned_tokens next.below.found.body t)
+              (arith, first_tokens i (beneath (heap_of start) n) t, child_tokens rooted i so_far.heap next t, pruned_tokens next.below.found.body t)
 
           marked_other : (x : ℕ) → x ≢ m → marked (heap_of after) x ≡ marked (heap_of late) x
           marked_other =
-              after_marked (heap_of start) (heap_of mid) n rooted i so_far.heap m next (heap_of late) later (heap_of after)
+              after_marked rooted i so_far.heap next later (heap_of after)
               gone_now
 
           unmarked : marked (heap_of after) m ≡ false
           unmarked =
-              after_unmarked (heap_of start) (heap_of mid) n rooted i so_far.heap m next (heap_of late) later (heap_of after)
+              after_unmarked rooted i so_far.heap next later (heap_of after)
               gone_now
 
           kept_after : IsKept kept_now after
@@ -198,7 +198,7 @@ module _ (n : ℕ) (start : List Slot) (rooted : IsRooted (heap_of start) n) (le
 
           pub pruning_child : Pruning (suc i) n kept_now start after ledger at_last
           pruning_child = record {
-            heap = child_left (heap_of start) (heap_of mid) n rooted i so_far.heap m next (heap_of late) later
+            heap = child_left rooted i so_far.heap next later
                 (heap_of after) gone_now;
             released = RoseBy_same (both (slotted_occur (first_kids i (beneath (heap_of start) n)))
                 (both (slotted_occur (beneath (heap_of mid) m)) (body_occurs (pruned next.below.found.body))))
@@ -224,7 +224,7 @@ module _ (n : ℕ) (start : List Slot) (rooted : IsRooted (heap_of start) n) (le
     whole_first : first_kids i (beneath (heap_of start) n) ≡ beneath (heap_of start) n
     whole_first =
         ap (λ (c : ℕ). first_kids c (beneath (heap_of start) n))
-        (count ∙ ap (λ (cs : List Cell). length cs) (beneath_cells (heap_of start) n rooted))
+        (count ∙ ap (λ (cs : List Cell). length cs) (beneath_cells rooted))
         ∙ first_all (beneath (heap_of start) n)
 
     pub pruned_now : IsPruned (heap_of start) (heap_of mid) n pruned (beneath (heap_of start) n)

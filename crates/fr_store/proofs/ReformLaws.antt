@@ -1,7 +1,8 @@
 -- Laws of pointers to slices, for proofs: the top, an open one, is closed, or a closed one opened.
 use Rattle.std.proofs.Common.{◌≡◌, ◌≤◌, ℕ, suc, false, List, [], ◌∷◌, refl, sym, ◌∙◌, ap, subst, arith}
-use Rattle.fr_store.specs.Common.{AllStayPut, AreLeftAll, Heap, Holds, HoldsAll, IsLast, IsLeftRightly, IsOpen, IsOpenAt, ItemsKind, KeepsChildren, Kid, Kids, LosesNone, MayHave, NodeId, Place, Plan, Plot, SameMarks, SameTokens, Shows, Slot, Tracker, Tree, as_items, at, base_of_tracker, begun_plot, body_in, change_at, child_node, child_owner, cursor_in, entered_plot, entry_of, heap_of, kid, kid_here, marked_body, no_kids, open_reach, open_top, plot_occurs, put_at, stored_in, top_changed, top_stands, tree_change_at, tree_here, tree_in, tree_in_slots, tree_of, tree_of_at, tree_put_at, whole_plot, with_body}
+use Rattle.fr_store.specs.Common.{AllStayPut, AreLeftAll, Heap, Holds, HoldsAll, IsLast, IsLeftRightly, IsOpen, IsOpenAt, ItemsKind, KeepsChildren, Kid, Kids, LosesNone, MayHave, NodeId, Place, Plan, Plot, SameMarks, Shows, Slot, Top, Tracker, Tree, as_items, at, base_of_tracker, begun_plot, body_in, change_at, child_node, child_owner, cursor_in, entered_plot, entry_of, heap_of, kid, kid_here, marked_body, no_kids, open_reach, open_top, put_at, stored_in, top_stands, tree_change_at, tree_here, tree_in, tree_in_slots, tree_of, tree_of_at, tree_put_at, whole_plot, with_body}
 use Rattle.fr_frame.specs.Bodies.{reformed}
+use Rattle.fr_store.specs.MoveLaws.{top_changed_held}
 use Rattle.fr_store.specs.Moves.{IsBegunSlice, IsSlice, begun_as}
 use Rattle.fr_store.proofs.StayLaws.{stay_all, stay_shown}
 
@@ -17,10 +18,6 @@ reformed_body tracker _ = refl
 reformed_tree : (tracker : Tracker) (plot : Plot) → tree_in (reformed_plot tracker plot) ≡ begun_as tracker (tree_in plot)
 reformed_tree tracker entered_plot = refl
 reformed_tree tracker _ = refl
-
-reformed_tokens : (tracker : Tracker) (plot : Plot) (t : ℕ) → plot_occurs (reformed_plot tracker plot) t ≡ plot_occurs plot t
-reformed_tokens tracker entered_plot t = refl
-reformed_tokens tracker _ t = refl
 
 reformed_loses : (tracker : Tracker) (plot : Plot) → LosesNone plot (reformed_plot tracker plot)
 reformed_loses tracker entered_plot n = omega arith
@@ -82,39 +79,33 @@ reformed_keeps tracker _ is was = absurd was
 module _ (plan : Plan) (before after : List Slot) (stack : List ℕ) (open_now : IsOpen plan before stack) (n : ℕ)
     (last : IsLast stack n) (tracker : Tracker) (is : IsSlice tracker) (begun_now : IsBegunSlice (tree_here before stack))
     (shows : Shows after (with_body (heap_of before) n (reformed tracker))) where
-  plot : Plot
-  plot = (open_top plan before stack open_now).plot
+  abbrev place : Place
+  place = cursor_in before stack
 
-  keeps : KeepsChildren plot (reformed_plot tracker plot)
-  unfolding plot
-  keeps =
-      let top = open_top plan before stack open_now in
-      reformed_keeps tracker top.plot is
-      (subst IsBegunSlice (sym (tree_of_at (cursor_in before stack) (kid_here before stack)) ∙ ap tree_of top.is) begun_now)
+  abbrev k : Kid
+  k = kid_here before stack
 
-  pub open_reformed : SameTokens before after → IsOpenAt plan after stack (cursor_in before stack)
-      (change_at (cursor_in before stack) (begun_as tracker) (tree_in_slots before stack))
-  unfolding plot
-  open_reformed tokens =
-      let place : Place = cursor_in before stack in
-      let k : Kid = kid_here before stack in
-      let top = open_top plan before stack open_now in
-      let new : Plot = reformed_plot tracker top.plot in
+  abbrev top : Top plan (heap_of before) stack place k
+  top = open_top plan before stack open_now
+
+  abbrev new : Plot
+  new = reformed_plot tracker top.plot
+
+  keeps : KeepsChildren top.plot new
+  keeps = reformed_keeps tracker top.plot is (subst IsBegunSlice (sym (tree_of_at place k) ∙ ap tree_of top.is) begun_now)
+
+  pub open_reformed : IsOpenAt plan after stack place (change_at place (begun_as tracker) (tree_in_slots before stack))
+  open_reformed =
       let same : change_at place (λ old. tree_in new) (tree_of k) ≡ change_at place (begun_as tracker) (tree_of k)
       = sym (tree_put_at place (at top.slot false new) k) ∙ tree_change_at place (begun_as tracker) (at top.slot false new) k
       (reformed_tree tracker top.plot ∙ ap (begun_as tracker) (ap tree_of (sym top.is) ∙ tree_of_at place k)) in
       subst (λ (t : Tree). IsOpenAt plan after stack place t) same
-      (top_changed plan before after stack open_now n last (reformed tracker) new (reformed_body tracker top.plot) keeps
-      (reformed_loses tracker top.plot) shows (λ t. omega (arith, tokens t, reformed_tokens tracker top.plot t)))
+      (top_changed_held plan before after stack open_now n last (reformed tracker) new (reformed_body tracker top.plot) keeps
+      (reformed_loses tracker top.plot) shows)
 
   -- no place leaves its slot
-  pub stay_reformed : AllStayPut (kid_here before stack) (kid_here after stack)
-  unfolding plot
+  pub stay_reformed : AllStayPut k (kid_here after stack)
   stay_reformed =
-      let place : Place = cursor_in before stack in
-      let k : Kid = kid_here before stack in
-      let top = open_top plan before stack open_now in
-      let new : Plot = reformed_plot tracker top.plot in
       stay_shown plan after stack place (put_at place (at top.slot false new) k) k
       (top_stands plan before after stack open_now n last (reformed tracker) new (reformed_body tracker top.plot) keeps shows)
       (stay_all place (at top.slot false new) k (open_reach plan before stack open_now)

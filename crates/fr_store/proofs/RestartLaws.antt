@@ -1,19 +1,12 @@
 -- The top is begun anew, after all that is stored beneath it was released.
-use Rattle.std.proofs.Common.{◌≡◌, ℕ, zero, suc, ◌+◌, List, length, Option, Some, None, refl, sym, ◌∙◌, ap, subst, arith}
-use Rattle.fr_store.specs.Common.{Cell, IfInUse, IsKept, IsLast, IsOpen, IsOpenAt, IsPruned, IsSomeAnd, MayHave, MayHaveIts, Node, Plan, Plot, Shows, Slot, StayPutButBeneath, StoresNoMore, Tracker, Trees, base_of_tracker, begun, begun_body, begun_plot, beneath, body_in, body_occurs, cells_in, change_at, cursor_in, heap_of, holes, kid_here, plot_occurs, pruned, slots_occur, slotted_occur, tree_in_slots, with_body}
+use Rattle.std.proofs.Common.{◌≡◌, ℕ, ◌+◌, List, Option, Some, None, sym, ◌∙◌, ap, subst, arith}
+use Rattle.fr_store.specs.Common.{Cell, IfInUse, IsKept, IsLast, IsOpen, IsOpenAt, IsPruned, IsSomeAnd, MayHave, Node, Plan, Plot, Shows, Slot, StayPutButBeneath, StoresNoMore, Tracker, Trees, base_of_tracker, begun, begun_body, begun_plot, beneath, body_in, body_occurs, change_at, cursor_in, heap_of, holes, kid_here, plot_occurs, pruned, slots_occur, slotted_occur, tree_in_slots, with_body}
 use Rattle.fr_frame.specs.Bodies.{restarted}
-use Rattle.fr_store.proofs.BeginLaws.{gones, gones_cells, gones_left, gones_tokens, gones_trees, gones_unplaced}
+use Rattle.fr_store.proofs.BeginLaws.{gones, gones_cells, gones_left, gones_may, gones_tokens, gones_trees, gones_unplaced}
 use Rattle.fr_store.proofs.SetLaws.{set_kept, set_marks, set_open, set_stay}
-
-gones_count : (count : ℕ) → length (cells_in (gones count)) ≡ count
-gones_count zero = refl
-gones_count (suc count) = ap suc (gones_count count)
 
 abbrev anew : Tracker → ℕ → Plot
 anew tracker count = begun_plot tracker (gones count)
-
-anew_may_have : (tracker : Tracker) (count : ℕ) → MayHave tracker count → MayHaveIts (body_in (anew tracker count))
-anew_may_have tracker count may = subst (λ (n : ℕ). MayHave tracker n) (sym (gones_count count)) may
 
 module _ (plan : Plan) (slots : List Slot) (stack : List ℕ) (open_now : IsOpen plan slots stack) (n : ℕ)
     (last : IsLast stack n) (mid : List Slot)
@@ -31,7 +24,7 @@ module _ (plan : Plan) (slots : List Slot) (stack : List ℕ) (open_now : IsOpen
   restart_open fell put =
       subst (λ (ts : Trees). IsOpenAt plan after stack (cursor_in slots stack)
       (change_at (cursor_in slots stack) (λ old. begun tracker ts) (tree_in_slots slots stack))) (gones_trees count)
-      (set_open plan slots stack open_now n last mid is after (anew tracker count) (anew_may_have tracker count may)
+      (set_open plan slots stack open_now n last mid is after (anew tracker count) (gones_may tracker count may)
       (gones_unplaced count) (gones_left tracker 0 count none) puts fell (more (heap_of mid n) put))
     where
       more : (found : Option Node)
@@ -43,15 +36,15 @@ module _ (plan : Plan) (slots : List Slot) (stack : List ℕ) (open_now : IsOpen
 
   pub restart_stay : StayPutButBeneath (cursor_in slots stack) (kid_here slots stack) (kid_here after stack)
   restart_stay =
-      set_stay plan slots stack open_now n last mid is after (anew tracker count) (anew_may_have tracker count may)
+      set_stay plan slots stack open_now n last mid is after (anew tracker count) (gones_may tracker count may)
       (gones_unplaced count) (gones_left tracker 0 count none) puts
 
   pub restart_kept : (store : List ℕ) → IsKept store mid → IsKept store after
   restart_kept =
-      set_kept plan slots stack open_now n last mid is after (anew tracker count) (anew_may_have tracker count may)
+      set_kept plan slots stack open_now n last mid is after (anew tracker count) (gones_may tracker count may)
       (gones_unplaced count) (gones_left tracker 0 count none) puts
 
   pub restart_marks : StoresNoMore slots mid → StoresNoMore slots after
   restart_marks =
-      set_marks plan slots stack open_now n last mid is after (anew tracker count) (anew_may_have tracker count may)
+      set_marks plan slots stack open_now n last mid is after (anew tracker count) (gones_may tracker count may)
       (gones_unplaced count) (gones_left tracker 0 count none) puts

@@ -1,11 +1,11 @@
 -- Laws of the children of a set, for proofs: one of them goes, and a value comes behind the others unless it is there.
-use Rattle.std.proofs.Common.{◌≡◌, ◌≢◌, ℕ, zero, suc, Bool, true, false, ◌||◌, List, [], ◌∷◌, ◌++◌, refl, sym, ◌∙◌, ap, arith, if◌then◌else◌}
-use Rattle.fr_store.specs.Common.{AllMarkedAmong, AreLeftAll, AreUnplaced, Cell, IsPlaced, ItemsKind, Kid, Kids, Place, StoredBut, Tracker, Trees, Val, and_last, as_items, at, branch, cell_of, cells_in, given, gone, kid, kid_nth, no_kids, put_nth, there, tree_of, trees_in, whole}
+use Rattle.std.proofs.Common.{◌≡◌, ◌≢◌, ◌⊎◌, ℕ, zero, suc, Bool, true, false, ◌||◌, List, [], ◌∷◌, ◌++◌, inl, inr, refl, sym, ◌∙◌, ap, subst, arith, if◌then◌else◌}
+use Rattle.fr_store.specs.Common.{AllMarkedAmong, AreLeftAll, AreUnplaced, Cell, IsClosed, IsPlaced, ItemsKind, Kid, Kids, Place, Plot, StoredBut, Tracker, Trees, Val, and_last, as_items, at, body_in, branch, cell_of, cells_in, given, gone, kid, kid_nth, no_kids, put_nth, same_or_other, there, tree_of, trees_in, whole}
 use Rattle.fr_shape.specs.Same.{same}
 use Rattle.fr_model.specs.Collections.{and_item, has_same, is_set_tracker, without_nth}
 use Rattle.fr_frame.specs.Bodies.{and_item_cell, has_same_cell, without_cell}
-use Rattle.fr_store.proofs.ItemLaws.{kids_and_last}
-use Rattle.fr_store.proofs.StayLaws.{none_below}
+use Rattle.fr_store.proofs.ItemLaws.{kids_and_last, trees_and_last}
+use Rattle.fr_store.proofs.StayLaws.{closed_below, none_below, not_placed}
 
 -- Children: one goes, and a value comes unless it is there.
 
@@ -33,10 +33,6 @@ cells_and_value : (ks : Kids) (v : Val) → cells_in (kids_and_last ks (there v)
 cells_and_value no_kids v = refl
 cells_and_value (kid k ks) v = ap (λ (cs : List Cell). cell_of k ∷ cs) (cells_and_value ks v)
 
-trees_and_value : (ks : Kids) (v : Val) → trees_in (kids_and_last ks (there v)) ≡ and_last (trees_in ks) (whole v)
-trees_and_value no_kids v = refl
-trees_and_value (kid k ks) v = ap (λ (ts : Trees). branch (tree_of k) ts) (trees_and_value ks v)
-
 pub cells_item : (ks : Kids) (v : Val) → cells_in (kids_and_item ks v) ≡ and_item_cell (cells_in ks) v
 cells_item ks v = go (has_same_cell v (cells_in ks))
   where
@@ -59,7 +55,7 @@ trees_item ks v closed =
     go : (is : Bool) → trees_in (if is then ks else kids_and_last ks (there v))
         ≡ (if is then trees_in ks else and_last (trees_in ks) (whole v))
     go true = refl
-    go false = trees_and_value ks v
+    go false = trees_and_last ks (there v)
 
 -- none of them is in a slot
 pub unplaced_without : (i : ℕ) (ks : Kids) → AreUnplaced (cells_in (put_nth i gone ks)) → AreUnplaced (cells_in (kids_without i ks))
@@ -109,12 +105,23 @@ pub set_tracker : (tracker : Tracker) → is_set_tracker tracker ≡ true → tr
 set_tracker (as_items ItemsKind.Set) of_set = refl
 set_tracker _ of_set = absurd (cc)
 
-pub beside_unplaced : (i j : ℕ) (ks : Kids) (way : Place) → i ≢ j → AreUnplaced (cells_in (put_nth i gone ks))
+beside_unplaced : (i j : ℕ) (ks : Kids) (way : Place) → i ≢ j → AreUnplaced (cells_in (put_nth i gone ks))
     → IsPlaced (kid_nth j ks) way → ⊥
-beside_unplaced i j no_kids [] unlike closed lies = lies.here
-beside_unplaced i j no_kids (m ∷ way) unlike closed lies = lies.reaches
+beside_unplaced i j no_kids way unlike closed lies = not_placed gone way tt lies
 beside_unplaced zero zero (kid k ks) way unlike closed lies = unlike refl
 beside_unplaced zero (suc j) (kid k ks) way unlike closed lies = none_below j ks way closed.1 lies
-beside_unplaced (suc i) zero (kid k ks) way unlike closed lies = none_below zero (kid k no_kids) way (closed.0, tt) lies
+beside_unplaced (suc i) zero (kid k ks) way unlike closed lies = not_placed k way closed.0 lies
 beside_unplaced (suc i) (suc j) (kid k ks) way unlike closed lies =
     beside_unplaced i j ks way (λ e. unlike (ap suc e)) closed.1 lies
+
+-- of all places beneath the set only this one is, where none of its children is in a slot
+pub only_placed : (i j : ℕ) (ks : Kids) (way : Place) → AreUnplaced (cells_in (put_nth i gone ks)) → (slot : ℕ) (stored : Bool) (plot : Plot)
+    → kid_nth i ks ≡ at slot stored plot → IsClosed (body_in plot) → IsPlaced (kid_nth j ks) way → j ∷ way ≡ i ∷ []
+only_placed i j ks way closed slot stored plot is shut lies = go (same_or_other i j) way lies
+  where
+    go : (i ≡ j) ⊎ (i ≢ j) → (way : Place) → IsPlaced (kid_nth j ks) way → j ∷ way ≡ i ∷ []
+    go (inl e) [] lies = ap (λ (m : ℕ). m ∷ []) (sym e)
+    go (inl e) (m ∷ way) lies =
+        absurd (closed_below (kid_nth i ks) slot stored plot is shut m way
+        (subst (λ (x : ℕ). IsPlaced (kid_nth x ks) (m ∷ way)) (sym e) lies))
+    go (inr unlike) way lies = absurd (beside_unplaced i j ks way unlike closed lies)

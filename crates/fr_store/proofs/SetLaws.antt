@@ -1,6 +1,6 @@
 -- A whole value at the top, or another place that has no child in a slot, after all that is stored beneath it was released.
 use Rattle.std.proofs.Common.{◌≡◌, ◌≢◌, ◌⊎◌, ℕ, zero, suc, ◌<◌, ◌+◌, ◌≤◌, true, false, List, [], ◌∷◌, ◌++◌, append-nil, length, nat_eq, Option, Some, inl, inr, refl, sym, ◌∙◌, ap, subst, arith}
-use Rattle.fr_store.specs.Common.{AgreeBeside, AllServe, AreLeftIn, Holds, HoldsIn, IfInUse, IsClosed, IsInUse, IsKept, IsLast, IsOpen, IsOpenAt, IsPruned, IsRooted, IsSome, IsSomeAnd, Kid, Kids, Leads, MayHaveIts, Node, Place, Plan, Plot, Reaches, Replaces, Room, Room_fewer, Room_risen, Room_same, RoseBy, RoseBy_same, Shows, Slot, Stands, StayPutButBeneath, StoresNoMore, Tree, at, at_for_at, beneath, body_here, body_in, body_occurs, body_other, both, cell_of, change_at, closed_marked, closed_uses, counts_if, counts_same, cursor_in, heap_of, is_some, kid_at, kid_here, kid_is, kid_occurs, kid_shown, leads_reach, marked, node_along, occurs_put_at, open_at_from, open_reach, open_top, plot_occurs, pruned, put_at, same_or_other, slots_above, slots_occur, slotted_occur, stands_change, stored_in, tokens_here, top_found, top_held, top_slot, top_uses, tree_in, tree_in_slots, tree_of, tree_of_at, tree_put_at, uses, uses_among, uses_at, uses_in, with_body}
+use Rattle.fr_store.specs.Common.{AgreeBeside, AllServe, AreLeftIn, Holds, HoldsIn, IfInUse, IsClosed, IsInUse, IsKept, IsLast, IsOpen, IsOpenAt, IsPruned, IsRooted, IsSome, IsSomeAnd, Kid, Kids, MayHaveIts, Node, Place, Plan, Plot, Replaces, Room, Room_fewer, Room_risen, Room_same, RoseBy, RoseBy_same, Shows, Slot, Stands, StayPutButBeneath, StoresNoMore, Tree, at, at_for_at, beneath, body_here, body_in, body_occurs, body_other, both, cell_of, change_at, closed_marked, closed_uses, counts_if, counts_same, cursor_in, heap_of, is_some, kid_at, kid_here, kid_is, kid_occurs, marked, marked_body, node_along, occurs_put_at, open_at_from, open_reach, open_top, plot_occurs, pruned, put_at, same_or_other, slots_above, slots_occur, slotted_occur, stands_change, stored_in, tokens_here, top_found, top_held, top_slot, top_uses, tree_in, tree_in_slots, tree_of, tree_of_at, tree_put_at, uses, uses_among, uses_at, uses_in, with_body}
 use Rattle.fr_store.specs.MoveLaws.{top_node}
 use Rattle.fr_shape.specs.TokenLaws.{RoseBy_both}
 use Rattle.fr_model.specs.Tree.{tree_occurs}
@@ -13,6 +13,19 @@ use Rattle.fr_store.proofs.StayLaws.{stay_but_beneath}
 
 module _ (plan : Plan) (slots : List Slot) (stack : List ℕ) (open_now : IsOpen plan slots stack) (n : ℕ)
     (last : IsLast stack n) where
+  abbrev place : Place
+  place = cursor_in slots stack
+
+  abbrev k : Kid
+  k = kid_here slots stack
+
+  -- what is in the top's slot, and what is in slots beneath it
+  abbrev was : Node
+  was = top_node plan slots stack open_now n last
+
+  abbrev below : Kids
+  below = beneath (heap_of slots) n
+
   -- what is at the top can be pruned
   pub top_rooted : IsRooted (heap_of slots) n
   unfolding top_node
@@ -21,105 +34,81 @@ module _ (plan : Plan) (slots : List Slot) (stack : List ℕ) (open_now : IsOpen
       let same = top_slot plan slots stack open_now n last in
       record {
         plan = plan;
-        found = top_node plan slots stack open_now n last;
+        found = was;
         plot = top.plot;
         here = top_found plan slots stack open_now n last;
         body = refl;
         limit = top.limit;
         holds = subst (λ (m : ℕ). HoldsIn plan (heap_of slots)
-            (node_along plan plan.root (cursor_in slots stack) (kid_shown (heap_of slots) stack)) m
-            (suc (length (cursor_in slots stack))) top.plot) same top.children;
+            (node_along plan plan.root place k) m
+            (suc (length place)) top.plot) same top.children;
         once = λ m.
             let here : counts_if (nat_eq top.slot m) ≡ counts_if (nat_eq n m) = ap (λ (x : ℕ). counts_if (nat_eq x m)) same in
-            let all = top_uses plan (heap_of slots) stack (cursor_in slots stack) (kid_shown (heap_of slots) stack)
+            let all = top_uses plan (heap_of slots) stack place k
             open_now.stands top m in
-            omega (arith, here, all, uses_at (cursor_in slots stack) (kid_shown (heap_of slots) stack) m, open_now.stands.once m);
+            omega (arith, here, all, uses_at place k m, open_now.stands.once m);
         stored = top.stored;
       }
 
   -- the tokens that stand there are those in slots beneath it and its own
   pub tokens_both : (t : ℕ) → tokens_here slots stack t
-      ≡ slotted_occur (beneath (heap_of slots) n) t + body_occurs (top_node plan slots stack open_now n last).body t
+      ≡ slotted_occur below t + body_occurs was.body t
   unfolding top_node top_rooted
   tokens_both t =
       let top = open_top plan slots stack open_now in
-      sym (ap (λ (tree : Tree). tree_occurs tree t) (tree_of_at (cursor_in slots stack) (kid_shown (heap_of slots) stack)))
-      ∙ sym (tree_tokens (kid_at (cursor_in slots stack) (kid_shown (heap_of slots) stack)) t)
+      sym (ap (λ (tree : Tree). tree_occurs tree t) (tree_of_at place k))
+      ∙ sym (tree_tokens (kid_at place k) t)
       ∙ ap (λ (x : Kid). kid_occurs x t) top.is ∙ plot_tokens top.plot t
       ∙ ap (λ (ks : Kids). slotted_occur ks t + body_occurs (body_in top.plot) t) (sym (beneath_is (heap_of slots) n top_rooted))
 
   module _ (ledger : List ℕ) (room : Room (tokens_here slots stack) ledger) where
-    both_room : Room
-        (both (slotted_occur (beneath (heap_of slots) n)) (body_occurs (top_node plan slots stack open_now n last).body)) ledger
+    both_room : Room (both (slotted_occur below) (body_occurs was.body)) ledger
     both_room =
-        Room_same (tokens_here slots stack)
-        (both (slotted_occur (beneath (heap_of slots) n)) (body_occurs (top_node plan slots stack open_now n last).body))
-        ledger tokens_both room
+        Room_same (tokens_here slots stack) (both (slotted_occur below) (body_occurs was.body)) ledger tokens_both room
 
-    pub prune_room : Room (slotted_occur (beneath (heap_of slots) n)) ledger
+    pub prune_room : Room (slotted_occur below) ledger
     prune_room =
-        Room_fewer (slotted_occur (beneath (heap_of slots) n))
-        (both (slotted_occur (beneath (heap_of slots) n)) (body_occurs (top_node plan slots stack open_now n last).body))
-        ledger (λ t. omega arith) both_room
+        Room_fewer (slotted_occur below) (both (slotted_occur below) (body_occurs was.body)) ledger (λ t. omega arith) both_room
 
   -- Pruned.
-  module _ (mid : List Slot) (is : IsPruned (heap_of slots) (heap_of mid) n pruned (beneath (heap_of slots) n)) where
-    pruned_here : heap_of mid n
-        ≡ Some (record (top_node plan slots stack open_now n last) {
-          body = pruned (top_node plan slots stack open_now n last).body;
-        })
-    pruned_here =
-        is.here ∙ body_here (heap_of slots) n pruned (top_node plan slots stack open_now n last)
-        (top_found plan slots stack open_now n last)
+  module _ (mid : List Slot) (is : IsPruned (heap_of slots) (heap_of mid) n pruned below) where
+    pruned_here : heap_of mid n ≡ Some (record was { body = pruned was.body })
+    pruned_here = is.here ∙ body_here (heap_of slots) n pruned was (top_found plan slots stack open_now n last)
 
     pub pruned_in_use : IsInUse mid n
     pruned_in_use = ap is_some pruned_here
 
     pub put_room : (ledger now : List ℕ) → Room (tokens_here slots stack) ledger
-        → RoseBy (slotted_occur (beneath (heap_of slots) n)) ledger now
+        → RoseBy (slotted_occur below) ledger now
         → IfInUse mid n (λ (found : Node). Room (body_occurs found.body) now)
     put_room ledger now room rose =
         subst (λ (o : Option Node). IsSomeAnd o (λ (found : Node). Room (body_occurs found.body) now)) (sym pruned_here)
-        (Room_same (body_occurs (top_node plan slots stack open_now n last).body)
-        (body_occurs (pruned (top_node plan slots stack open_now n last).body)) now
-        (λ t. sym (pruned_tokens (top_node plan slots stack open_now n last).body t))
-        (Room_risen (slotted_occur (beneath (heap_of slots) n))
-        (body_occurs (top_node plan slots stack open_now n last).body) ledger now (both_room ledger room) rose))
+        (Room_same (body_occurs was.body) (body_occurs (pruned was.body)) now (λ t. sym (pruned_tokens was.body t))
+        (Room_risen (slotted_occur below) (body_occurs was.body) ledger now (both_room ledger room) rose))
 
-    pub set_rose : (ledger now after : List ℕ) → RoseBy (slotted_occur (beneath (heap_of slots) n)) ledger now
+    pub set_rose : (ledger now after : List ℕ) → RoseBy (slotted_occur below) ledger now
         → IfInUse mid n (λ (found : Node). RoseBy (body_occurs found.body) now after)
         → RoseBy (tokens_here slots stack) ledger after
     set_rose ledger now after rose last_rose =
-        let so : RoseBy (body_occurs (pruned (top_node plan slots stack open_now n last).body)) now after
+        let so : RoseBy (body_occurs (pruned was.body)) now after
         = subst (λ (o : Option Node). IsSomeAnd o (λ (found : Node). RoseBy (body_occurs found.body) now after))
         pruned_here last_rose in
-        RoseBy_same (both (slotted_occur (beneath (heap_of slots) n))
-        (body_occurs (pruned (top_node plan slots stack open_now n last).body))) (tokens_here slots stack) ledger after
-        (λ t. omega (arith, tokens_both t, pruned_tokens (top_node plan slots stack open_now n last).body t))
-        (RoseBy_both (slotted_occur (beneath (heap_of slots) n))
-        (body_occurs (pruned (top_node plan slots stack open_now n last).body)) ledger now after rose so)
+        RoseBy_same (both (slotted_occur below) (body_occurs (pruned was.body))) (tokens_here slots stack) ledger after
+        (λ t. omega (arith, tokens_both t, pruned_tokens was.body t))
+        (RoseBy_both (slotted_occur below) (body_occurs (pruned was.body)) ledger now after rose so)
 
     -- Something is put that has no child in a slot.
     module _ (after : List Slot) (new : Plot) (may : MayHaveIts (body_in new)) (closed : IsClosed (body_in new))
         (left : AreLeftIn new) (puts : Shows after (with_body (heap_of mid) n (λ old. body_in new))) where
-      set_here : heap_of after n ≡ Some (record (top_node plan slots stack open_now n last) { body = body_in new })
+      set_here : heap_of after n ≡ Some (record was { body = body_in new })
       set_here =
-          puts n ∙ body_here (heap_of mid) n (λ old. body_in new)
-          (record (top_node plan slots stack open_now n last) { body = pruned (top_node plan slots stack open_now n last).body })
-          pruned_here
+          puts n ∙ body_here (heap_of mid) n (λ old. body_in new) (record was { body = pruned was.body }) pruned_here
 
       set_other : (m : ℕ) → m ≢ n → heap_of after m ≡ heap_of mid m
       set_other m ne = puts m ∙ body_other (heap_of mid) n (λ old. body_in new) m ne
 
-      -- marks
       set_marked : (m : ℕ) → marked (heap_of after) m ≡ marked (heap_of mid) m
-      set_marked m = go (same_or_other m n)
-        where
-          go : (m ≡ n) ⊎ (m ≢ n) → marked (heap_of after) m ≡ marked (heap_of mid) m
-          go (inl e) =
-              ap (marked (heap_of after)) e ∙ ap stored_in set_here ∙ sym (ap stored_in pruned_here)
-              ∙ ap (marked (heap_of mid)) (sym e)
-          go (inr ne) = ap stored_in (set_other m ne)
+      set_marked m = ap stored_in (puts m) ∙ marked_body (heap_of mid) n (λ old. body_in new) m
 
       pub set_kept : (store : List ℕ) → IsKept store mid → IsKept store after
       set_kept store kept m = (λ h. (kept m).0 (sym (set_marked m) ∙ h), λ h. set_marked m ∙ (kept m).1 h)
@@ -128,13 +117,11 @@ module _ (plan : Plan) (slots : List Slot) (stack : List ℕ) (open_now : IsOpen
       set_marks marks m h = set_marked m ∙ marks m h
 
       -- what stands
-      set_stands : Stands plan (heap_of after) stack (cursor_in slots stack)
-          (put_at (cursor_in slots stack) (at n false new) (kid_shown (heap_of slots) stack))
+      set_stands : Stands plan (heap_of after) stack place
+          (put_at place (at n false new) k)
       unfolding top_node top_rooted
       set_stands =
           let top = open_top plan slots stack open_now in
-          let place : Place = cursor_in slots stack in
-          let k : Kid = kid_shown (heap_of slots) stack in
           let same = top_slot plan slots stack open_now n last in
           let all : (m : ℕ) → uses (kid_at place k) m ≡ counts_if (nat_eq top.slot m) + uses_in top.plot m
           = top_uses plan (heap_of slots) stack place k open_now.stands top in
@@ -162,10 +149,8 @@ module _ (plan : Plan) (slots : List Slot) (stack : List ℕ) (open_now : IsOpen
           (top.last ∙ ap (λ (x : ℕ). slots_above place k ++ x ∷ []) same))
 
       -- no place leaves its slot but those beneath
-      pub set_stay : StayPutButBeneath (cursor_in slots stack) (kid_here slots stack) (kid_here after stack)
+      pub set_stay : StayPutButBeneath place k (kid_here after stack)
       set_stay =
-          let place : Place = cursor_in slots stack in
-          let k : Kid = kid_here slots stack in
           let top = open_top plan slots stack open_now in
           subst (λ (x : Kid). StayPutButBeneath place k x)
           (sym (kid_is plan (heap_of after) stack place (put_at place (at n false new) k) set_stands))
@@ -173,59 +158,51 @@ module _ (plan : Plan) (slots : List Slot) (stack : List ℕ) (open_now : IsOpen
           (top.is ∙ ap (λ (x : ℕ). at x false top.plot) (top_slot plan slots stack open_now n last)) refl)
 
       -- each slot in use is that of a place
-      set_all : AllServe (heap_of after) (put_at (cursor_in slots stack) (at n false new) (kid_shown (heap_of slots) stack))
+      set_all : AllServe (heap_of after) (put_at place (at n false new) k)
       unfolding top_node top_rooted
       set_all =
-          let place : Place = cursor_in slots stack in
-          let k : Kid = kid_shown (heap_of slots) stack in
-          let reach : Reaches place k
-          = leads_reach place [] k (subst (λ (p : Place). Leads p k) (sym (append-nil place)) open_now.stands.leads) in
-          all_changed (heap_of slots) (heap_of after) place (at n false new) k reach open_now.all from
+          all_changed (heap_of slots) (heap_of after) place (at n false new) k (open_reach plan slots stack open_now) open_now.all from
         where
-          part : (m : ℕ) → uses (kid_at (cursor_in slots stack) (kid_shown (heap_of slots) stack)) m
-              ≡ counts_if (nat_eq n m) + uses_among (beneath (heap_of slots) n) m
+          part : (m : ℕ) → uses (kid_at place k) m
+              ≡ counts_if (nat_eq n m) + uses_among below m
           part m =
               let top = open_top plan slots stack open_now in
               let here : counts_if (nat_eq top.slot m) ≡ counts_if (nat_eq n m)
               = ap (λ (x : ℕ). counts_if (nat_eq x m)) (top_slot plan slots stack open_now n last) in
               omega
-              (arith, here, top_uses plan (heap_of slots) stack (cursor_in slots stack) (kid_shown (heap_of slots) stack) open_now.stands top m, beneath_uses (heap_of slots) n top_rooted m)
+              (arith, here, top_uses plan (heap_of slots) stack place k open_now.stands top m, beneath_uses (heap_of slots) n top_rooted m)
 
-          still : (m : ℕ) → m ≢ n → IsSome (heap_of mid m) → (count : ℕ) → uses_among (beneath (heap_of slots) n) m ≡ count
-              → IsSome (heap_of slots m) × (uses_among (beneath (heap_of slots) n) m ≡ 0)
+          still : (m : ℕ) → m ≢ n → IsSome (heap_of mid m) → (count : ℕ) → uses_among below m ≡ count
+              → IsSome (heap_of slots m) × (uses_among below m ≡ 0)
           still m ne used zero e = (subst (λ (o : Option Node). IsSome o) (is.rest m ne e) used, e)
           still m ne used (suc count) e = absurd (free_unused (heap_of mid) m (is.free m (omega (arith, e))) used)
 
           from : (m : ℕ) → IsSome (heap_of after m) → (0 < uses (at n false new) m) ⊎ (IsSome (heap_of slots m)
-              × (uses (kid_at (cursor_in slots stack) (kid_shown (heap_of slots) stack)) m ≤ uses (at n false new) m))
+              × (uses (kid_at place k) m ≤ uses (at n false new) m))
           from m used = go (same_or_other m n)
             where
               go : (m ≡ n) ⊎ (m ≢ n) → (0 < uses (at n false new) m) ⊎ (IsSome (heap_of slots m)
-                  × (uses (kid_at (cursor_in slots stack) (kid_shown (heap_of slots) stack)) m ≤ uses (at n false new) m))
+                  × (uses (kid_at place k) m ≤ uses (at n false new) m))
               go (inl e) =
                   let one : counts_if (nat_eq n m) ≡ 1 = ap (λ (y : ℕ). counts_if (nat_eq n y)) e ∙ counts_same n in
                   inl (omega (arith, one))
               go (inr ne) =
                   let was = still m ne (subst (λ (o : Option Node). IsSome o) (set_other m ne) used)
-                  (uses_among (beneath (heap_of slots) n) m) refl in
+                  (uses_among below m) refl in
                   inr (was.0, omega (arith, part m, was.1))
 
-      pub set_open : ((t : ℕ) → slots_occur slots t ≡ slots_occur mid t + slotted_occur (beneath (heap_of slots) n) t)
+      pub set_open : ((t : ℕ) → slots_occur slots t ≡ slots_occur mid t + slotted_occur below t)
           → IfInUse mid n (λ (found : Node). (t : ℕ) → slots_occur mid t + plot_occurs new t
-          ≡ slots_occur after t + body_occurs found.body t) → IsOpenAt plan after stack (cursor_in slots stack)
-          (change_at (cursor_in slots stack) (λ old. tree_in new) (tree_in_slots slots stack))
+          ≡ slots_occur after t + body_occurs found.body t) → IsOpenAt plan after stack place
+          (change_at place (λ old. tree_in new) (tree_in_slots slots stack))
       set_open fell put =
-          let place : Place = cursor_in slots stack in
-          let k : Kid = kid_shown (heap_of slots) stack in
           let so : (t : ℕ) → slots_occur mid t + plot_occurs new t
-          ≡ slots_occur after t + body_occurs (pruned (top_node plan slots stack open_now n last).body) t
+          ≡ slots_occur after t + body_occurs (pruned was.body) t
           = subst (λ (o : Option Node). IsSomeAnd o (λ (found : Node). (t : ℕ) → slots_occur mid t + plot_occurs new t
           ≡ slots_occur after t + body_occurs found.body t)) pruned_here put in
-          let reach : Reaches place k
-          = leads_reach place [] k (subst (λ (p : Place). Leads p k) (sym (append-nil place)) open_now.stands.leads) in
           let here : (t : ℕ) → tokens_here slots stack t ≡ kid_occurs (kid_at place k) t
           = λ t. sym (ap (λ (tree : Tree). tree_occurs tree t) (tree_of_at place k)) ∙ sym (tree_tokens (kid_at place k) t) in
           open_at_from plan after stack place (put_at place (at n false new) k)
           (change_at place (λ old. tree_in new) (tree_of k)) set_stands (λ t. omega
-          (arith, occurs_put_at place (at n false new) k t reach, open_now.tokens t, fell t, so t, here t, tokens_both t, pruned_tokens (top_node plan slots stack open_now n last).body t))
+          (arith, occurs_put_at place (at n false new) k t (open_reach plan slots stack open_now), open_now.tokens t, fell t, so t, here t, tokens_both t, pruned_tokens was.body t))
           set_all (tree_put_at place (at n false new) k)

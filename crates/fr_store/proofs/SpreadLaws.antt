@@ -1,6 +1,6 @@
 -- How the list of all places grows: each place is followed by its children.
-use Rattle.std.proofs.Common.{◌≡◌, ◌⊎◌, ℕ, List, [], ◌∷◌, ◌++◌, get_or, append_assoc, inl, inr, refl, sym, subst, arith}
-use Rattle.fr_store.specs.Common.{All, ComesEarlier, Contains, IsHere, IsPlaced, Kid, Pairs, Place}
+use Rattle.std.proofs.Common.{◌≡◌, ◌⊎◌, ℕ, List, [], ◌∷◌, ◌++◌, get_or, map, append_assoc, inl, inr, refl, sym, subst, arith}
+use Rattle.fr_store.specs.Common.{All, ComesEarlier, Contains, IsHere, IsPlaced, IsStoredHere, Kid, Pairs, Place, slot_at}
 use Rattle.std.proofs.lemmas.List.{append-nil}
 use Rattle.std.proofs.lemmas.List.Elements.{All-nil, All-cons, All-head, All-append, All-contains, Contains-append_left, Contains-append_right, Contains-push, Contains-push_cases}
 use Rattle.fr_store.proofs.EarlierLaws.{children_earlier, root_earlier}
@@ -17,6 +17,23 @@ pub record AreChildren (k : Kid) (above : Place) (children : List Place) : Type 
   pub each : All (IsChild above) children
   pub order : Pairs (ComesEarlier k) children
   pub all : (i : ℕ) → IsPlaced k (above ++ i ∷ []) → Contains children (above ++ i ∷ [])
+
+-- The same where each of them is stored: these are their slots.
+pub record AreClosed (k : Kid) (above : Place) (slots : List ℕ) : Type 0 where
+  pub children : List Place
+  pub are : AreChildren k above children
+  pub stored : All (IsStoredHere k) children
+  pub slots_are : slots ≡ map (slot_at k) children
+
+-- And where each but child j is: these are the slots of those that come before it, and of those after it.
+pub record AreOpenAt (k : Kid) (above : Place) (j : ℕ) (first last : List ℕ) : Type 0 where
+  pub front : List Place
+  pub back : List Place
+  pub are : AreChildren k above (front ++ (above ++ j ∷ []) ∷ back)
+  pub front_stored : All (IsStoredHere k) front
+  pub back_stored : All (IsStoredHere k) back
+  pub first_is : first ≡ map (slot_at k) front
+  pub last_is : last ≡ map (slot_at k) back
 
 -- where a place comes from: it is the root, or a child of one of these
 abbrev pub ComesOf : List Place → Place → Type 0

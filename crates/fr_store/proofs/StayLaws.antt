@@ -1,6 +1,6 @@
 -- Laws of places that stay in their slots, for proofs: where what lies at one place is replaced, all beside it stays.
 use Rattle.std.proofs.Common.{◌≡◌, ◌≢◌, ◌⊎◌, ℕ, zero, suc, ◌<◌, Bool, List, [], ◌∷◌, ◌++◌, append-nil, inl, inr, refl, sym, ◌∙◌, ap, subst}
-use Rattle.fr_store.specs.Common.{AllStayPut, AreUnplaced, FrameOwner, IsClosed, IsHere, IsOpen, IsPlaced, IsUnplaced, Kid, Kids, Place, Plan, Plot, Reaches, Shows, Slot, Stands, StayPutBut, StayPutButBeneath, at, begun_plot, body_in, cell_of, cells_in, cursor_shown, entered_plot, gone, heap_of, kid, kid_at, kid_here, kid_is, kid_nth, no_kids, nth_put, put_at, put_nth, same_or_other, slot_at, slot_here, there, whole_plot}
+use Rattle.fr_store.specs.Common.{AllStayPut, AreUnplaced, FrameOwner, IsClosed, IsHere, IsOpen, IsPlaced, IsUnplaced, Kid, Kids, Place, Plan, Plot, Reaches, Shows, Slot, Stands, StayPutBut, StayPutButBeneath, at, begun_plot, body_in, cell_of, cells_in, cursor_shown, entered_plot, gone, heap_of, kid, kid_at, kid_here, kid_is, kid_nth, no_kids, nth_put, put_at, put_nth, same_or_other, slot_at, slot_here, whole_plot}
 use Rattle.fr_store.specs.HoldLaws.{holds_frame}
 use Rattle.fr_store.specs.OffLaws.{nth_other}
 use Rattle.fr_store.specs.Staying.{StaysPut}
@@ -75,25 +75,19 @@ stay_marked old new slot was mark plot e f =
     go (i ∷ place) placed = (record { reaches = placed.reaches; here = placed.here }, refl)
 
 -- nothing lay in a slot there
+pub not_placed : (k : Kid) (place : Place) → IsUnplaced (cell_of k) → IsPlaced k place → ⊥
+not_placed (at slot stored plot) place unplaced placed = unplaced
+not_placed _ [] unplaced placed = placed.here
+not_placed _ (i ∷ place) unplaced placed = placed.reaches
+
 pub stay_unplaced : (old new : Kid) → IsUnplaced (cell_of old) → AllStayPut old new
-stay_unplaced gone new unplaced [] placed = absurd placed.here
-stay_unplaced gone new unplaced (i ∷ place) placed = absurd placed.reaches
-stay_unplaced (there v) new unplaced [] placed = absurd placed.here
-stay_unplaced (there v) new unplaced (i ∷ place) placed = absurd placed.reaches
-stay_unplaced (at slot stored plot) new unplaced place placed = absurd unplaced
+stay_unplaced old new unplaced place placed = absurd (not_placed old place unplaced placed)
 
 -- none of its children lay in a slot
 pub none_below : (i : ℕ) (ks : Kids) (place : Place) → AreUnplaced (cells_in ks) → IsPlaced (kid_nth i ks) place → ⊥
-none_below i no_kids [] closed placed = placed.here
-none_below i no_kids (j ∷ place) closed placed = placed.reaches
-none_below zero (kid gone ks) [] closed placed = placed.here
-none_below zero (kid gone ks) (j ∷ place) closed placed = placed.reaches
-none_below zero (kid (there v) ks) [] closed placed = placed.here
-none_below zero (kid (there v) ks) (j ∷ place) closed placed = placed.reaches
-none_below zero (kid (at slot stored plot) ks) place closed placed = closed.0
-none_below (suc i) (kid gone ks) place closed placed = none_below i ks place closed.1 placed
-none_below (suc i) (kid (there v) ks) place closed placed = none_below i ks place closed.1 placed
-none_below (suc i) (kid (at slot stored plot) ks) place closed placed = absurd closed.0
+none_below i no_kids place closed placed = not_placed gone place tt placed
+none_below zero (kid k ks) place closed placed = not_placed k place closed.0 placed
+none_below (suc i) (kid k ks) place closed placed = none_below i ks place closed.1 placed
 
 pub closed_below : (old : Kid) (slot : ℕ) (stored : Bool) (plot : Plot) → old ≡ at slot stored plot → IsClosed (body_in plot)
     → (i : ℕ) (place : Place) → IsPlaced old (i ∷ place) → ⊥

@@ -1,6 +1,7 @@
 -- Laws of the steps to places in slots, for proofs: they tell in which order the places come.
-use Rattle.std.proofs.Common.{◌≡◌, ◌≢◌, ◌⊎◌, ℕ, zero, suc, ◌+◌, ◌-◌, ◌<◌, ◌≤◌, Bool, true, false, [], ◌∷◌, inl, inr, refl, sym, ◌∙◌, ap, subst, arith, Some, None, if◌then◌else◌}
-use Rattle.fr_store.specs.Common.{AllMarked, AreLeftAll, AreLeftRightly, ContentKind, EntriesKind, FrameOwner, Heap, Holds, IsHere, IsLeftRightly, IsThere, ItemsKind, Kid, Kids, Leads, Less, MayHave, NodeId, Ordering, PathStep, Place, Plan, Reaches, Tracker, Tree, as_content, as_entries, as_fields, as_items, at, base_of_tracker, begun_plot, child_node, child_owner, count_kids, entry_of, gone, is_key, kid, kid_at, kid_nth, left_nth, marked_nth, may_have_all, no_kids, order_as, ordering_then, same_or_other, slice_cmp, step_as, step_order, steps_in, there, tree_nth, tree_of, tree_of_nth, trees_in}
+use Rattle.std.proofs.Common.{◌≡◌, ◌≢◌, ◌⊎◌, ℕ, zero, suc, ◌+◌, ◌-◌, ◌<◌, ◌≤◌, Bool, true, false, [], ◌∷◌, inl, inr, refl, sym, ◌∙◌, ap, subst, arith, if◌then◌else◌}
+use Rattle.fr_store.specs.Common.{AllMarked, AreLeftAll, AreLeftRightly, EntriesKind, FrameOwner, Heap, Holds, IsHere, IsLeftRightly, IsThere, ItemsKind, Kid, Kids, Leads, Less, MayHave, NodeId, Ordering, PathStep, Place, Plan, Reaches, Tracker, Tree, as_content, as_entries, as_fields, as_items, at, base_of_tracker, begun_plot, child_node, child_owner, count_kids, entry_of, gone, is_key, kid, kid_at, kid_nth, left_nth, marked_nth, may_have_all, no_kids, order_as, ordering_then, same_or_other, slice_cmp, step_as, step_order, steps_in, there, tree_nth, tree_of, tree_of_nth, trees_in}
+use Rattle.std.specs.Ordering.{nat_cmp}
 use Rattle.std.specs.declared.cmp.Ordering.TheVariants.{Equal}
 use Rattle.fr_path.specs.OrderLaws.{step_itself}
 use Rattle.fr_frame.specs.Kids.{is_stored}
@@ -21,7 +22,7 @@ pub halves : (i : ℕ) → i ≡ entry_of i + entry_of i + odd (is_key i)
 halves (suc (suc i)) = let rest = halves i in omega (arith, rest)
 halves _ = refl
 
-either_less : (i j : ℕ) → (i < j) ⊎ (j ≤ i)
+pub either_less : (i j : ℕ) → (i < j) ⊎ (j ≤ i)
 either_less zero zero = inr (omega arith)
 either_less zero (suc j) = inl (omega arith)
 either_less (suc i) zero = inr (omega arith)
@@ -104,23 +105,14 @@ module _ (slot : ℕ) (stored : Bool) (tracker : Tracker) (kids : Kids) where
 
 -- Steps.
 
-pub field_less : (i j : ℕ) → i < j → step_order (PathStep.Field i) (PathStep.Field j) ≡ Less
-field_less i j less = ap (λ (o : Ordering). ordering_then o Equal) (number_less i j less)
-
-pub index_less : (i j : ℕ) → i < j → step_order (PathStep.Index i) (PathStep.Index j) ≡ Less
-index_less i j less = ap (λ (o : Ordering). ordering_then o Equal) (number_less i j less)
-
-pub key_less : (i j : ℕ) → i < j → step_order (PathStep.MapKey i) (PathStep.MapKey j) ≡ Less
-key_less i j less = ap (λ (o : Ordering). ordering_then o Equal) (number_less i j less)
-
-pub value_less : (i j : ℕ) → i < j → step_order (PathStep.MapValue i) (PathStep.MapValue j) ≡ Less
-value_less i j less = ap (λ (o : Ordering). ordering_then o Equal) (number_less i j less)
+less_first : (i j : ℕ) → i < j → ordering_then (nat_cmp i j) Equal ≡ Less
+less_first i j less = ap (λ (o : Ordering). ordering_then o Equal) (number_less i j less)
 
 -- where the steps to two children in slots come in the walk
 step_less : (tracker : Tracker) (count i j : ℕ) → MayHave tracker count → i < count → j < count
     → (takes_at_end_as tracker ≡ true → i ≡ j) → base_of_tracker tracker ≤ entry_of i → base_of_tracker tracker ≤ entry_of j
     → IsAfter tracker i j → step_order (step_as tracker j) (step_as tracker i) ≡ Less
-step_less (as_fields selected) count i j may h g alone a b after = field_less j i after
+step_less (as_fields selected) count i j may h g alone a b after = less_first j i after
 step_less (as_content kind) count i j may h g alone a b after = absurd (omega arith)
 step_less (as_items ItemsKind.Set) count i j may h g alone a b after = absurd (omega (arith, alone refl))
 step_less (as_items ItemsKind.Array) count i j may h g alone a b after = absurd (omega (arith, alone refl))
@@ -131,12 +123,12 @@ step_less (as_entries (EntriesKind.Map base)) count i j may h g alone a b after 
         → step_order (if other then PathStep.MapKey (entry_of j - base) else PathStep.MapValue (entry_of j - base))
         (if one then PathStep.MapKey (entry_of i - base) else PathStep.MapValue (entry_of i - base)) ≡ Less
     go true true p q later =
-        key_less (entry_of j - base) (entry_of i - base) (omega (arith, a, b, later, halves i, halves j, ap odd p, ap odd q))
+        less_first (entry_of j - base) (entry_of i - base) (omega (arith, a, b, later, halves i, halves j, ap odd p, ap odd q))
     go false false p q later =
-        value_less (entry_of j - base) (entry_of i - base) (omega (arith, a, b, later, halves i, halves j, ap odd p, ap odd q))
+        less_first (entry_of j - base) (entry_of i - base) (omega (arith, a, b, later, halves i, halves j, ap odd p, ap odd q))
     go false true p q later = refl
     go true false p q later = absurd later
-step_less _ count i j may h g alone a b after = index_less j i after
+step_less _ count i j may h g alone a b after = less_first j i after
 
 -- Places.
 

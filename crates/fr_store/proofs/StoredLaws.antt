@@ -1,6 +1,6 @@
 -- What the slots say of stored places: where they belong.
 use Rattle.std.proofs.Common.{◌≡◌, ◌↔◌, ℕ, ◌+◌, ◌-◌, ◌<◌, ◌≤◌, true, false, List, [], ◌∷◌, ◌++◌, length, get_or, nat_eq, Some, None, Option, IsSome, refl, sym, ◌∙◌, ap, subst, arith}
-use Rattle.fr_store.specs.Common.{All, AreAllStored, AreOnce, BelongsTo, Contains, FrameOwner, HasOwner, Heap, Holds, IsHere, IsKeyOf, IsNarrow, IsNoted, IsPlaced, IsSomeAnd, IsStoredChildOf, IsStoredHere, Kid, Node, NodeId, Place, Plan, Reaches, Stands, StoredPlace, at, begun_plot, below_root, child_owner, counts_if, counts_in, first_key, gone, holds_at, kid_at, marked, node_along, order_below, owner_along, owner_append, owner_below, slot_at, slot_here, slot_of, slots_of, stored_in, there, uses}
+use Rattle.fr_store.specs.Common.{All, AreAllStored, AreOnce, BelongsTo, Contains, FrameOwner, HasOwner, Heap, Holds, IsHere, IsKeyOf, IsNarrow, IsNoted, IsPlaced, IsSomeAnd, IsStoredChildOf, IsStoredHere, Kid, Node, NodeId, Place, Plan, Reaches, Stands, StoredPlace, at, begun_plot, below_root, child_owner, counts_if, counts_in, first_key, holds_at, kid_at, marked, node_along, order_below, owner_along, owner_append, owner_below, slot_at, slot_here, slot_of, slots_of, stored_in, uses}
 use Rattle.std.specs.List.{sum_by}
 use Rattle.std.specs.List.Sorted.{IsPermutation}
 use Rattle.std.proofs.lemmas.List.Elements.{Contains-get_or}

@@ -1,14 +1,15 @@
 -- Laws of a walk, for proofs: it begins, goes on by a turn, is refused, or comes to its end.
-use Rattle.std.proofs.Common.{◌≡◌, ◌⊎◌, ℕ, true, List, [], ◌∷◌, ◌++◌, append-nil, append_assoc, get_or, Some, None, inl, inr, refl, sym, ◌∙◌, ap, subst, arith}
-use Rattle.fr_store.specs.Common.{All, AreInWalkOrder, AreStoredAt, Contains, EachFailureHasItsPlace, Failure, FinishesOrRefuses, FirstByWalkIs, HasPlace, HasTurned, IsChecked, IsHeldUp, IsLackingAt, IsOpen, IsStoredAt, IsWalk, KeepsTheRest, Kid, LackingFails, Leads, MayTurn, Meanings, Place, Plan, ReflectErrorKind, Slot, StoppedByTurns, Suits, Table, Tree, Val, Walked, change_at, closed_at, cursor_in, deferred_column, failures_off, finished, first_by_walk, kind_of, leads_reach, own_lack, put_at, reach_place, root_shape, shape_in, steps_in, there, tree_at, tree_in_slots, whole}
+use Rattle.std.proofs.Common.{◌≡◌, ◌≢◌, ◌⊎◌, ℕ, true, false, List, [], ◌∷◌, ◌++◌, append-nil, append_assoc, get_or, Some, None, inl, inr, refl, sym, ◌∙◌, ap, subst}
+use Rattle.fr_store.specs.Common.{All, AreInWalkOrder, AreStoredAt, Contains, EachFailureHasItsPlace, Failure, FinishesOrRefuses, FirstByWalkIs, HasPlace, HasTurned, IsChecked, IsHeldUp, IsLackingAt, IsOpen, IsStoredAt, IsWalk, KeepsTheRest, LackingFails, Leads, MayTurn, Meanings, Place, Plan, ReflectErrorKind, Slot, StoppedByTurns, Suits, Table, Tree, Val, Walked, change_at, closed_at, cursor_in, deferred_column, failures_off, finished, first_by_walk, heap_of, kind_of, leads_reach, marked, own_lack, reach_place, root_shape, same_or_other, shape_in, steps_in, stored_in, tree_at, tree_in_slots, whole}
 use Rattle.std.proofs.lemmas.List.Elements.{All-tail, Contains-get_or}
 use Rattle.fr_model.specs.Complete.{complete}
 use Rattle.fr_model.specs.Finish.{finish_cause}
 use Rattle.fr_model.specs.Laws.{CompletingFits}
-use Rattle.fr_store.specs.ClosingLaws.{steps_kept, suits_at, suits_change}
+use Rattle.fr_store.specs.ClosingLaws.{stays}
 use Rattle.fr_store.specs.Turning.{kid_here, next_place}
 use Rattle.fr_store.specs.Turns.{CompletesAsBefore, KeepThoseLeft, Turned}
-use Rattle.fr_store.proofs.HeadLaws.{Head, contains_cases, head_closed, head_of, one_place, walk_on}
+use Rattle.fr_store.proofs.DueLaws.{due, head as due_head, left_next, only_here, suits_next}
+use Rattle.fr_store.proofs.HeadLaws.{Head, stored_among}
 use Rattle.fr_store.proofs.HeldLaws.{first_fails, held_by_first, leads_deferred}
 
 -- Turns, one after another.
@@ -36,6 +37,17 @@ as_before_again means table s before now next place first second = record {
   value = second.value ∙ first.value;
   failing = λ path. second.failing path ∙ first.failing path;
 }
+
+-- what is stored after a turn was stored before
+still_marked : (means : Meanings) (table : Table) (plan : Plan) (before : List Slot) (stack : List ℕ) (after : List Slot) (n : ℕ)
+    → HasTurned means table plan before stack after n → (m : ℕ) → marked (heap_of after) m ≡ true → marked (heap_of before) m ≡ true
+still_marked means table plan before stack after n turned m is = go (same_or_other m n)
+  where
+    go : (m ≡ n) ⊎ (m ≢ n) → marked (heap_of before) m ≡ true
+    go (inl e) =
+        let none : false ≡ true = sym (ap stored_in turned.free) ∙ ap (marked (heap_of after)) (sym e) ∙ is in
+        absurd (cc)
+    go (inr ne) = sym (turned.marks m ne) ∙ is
 
 -- of the places that are left each completes as at the start
 kept_now : (means : Meanings) (table : Table) (s : ℕ) (start before : Tree) (done left : List Place) (now : Tree)
@@ -75,20 +87,6 @@ kept_more means table s start before (first ∷ done) left now place v next kept
       (kept.1 turned.0 turned.1) turned.2 makes is after),
 )
 
--- each place of a walk is stored
-pub stored_among : (k : Kid) (slots : List ℕ) (places : List Place) (place : Place) → AreStoredAt k slots places
-    → Contains places place → (slot : ℕ) × IsStoredAt k slot place
-stored_among k [] [] place stored found = absurd (omega (arith, found.1))
-stored_among k [] (first ∷ places) place stored found = absurd stored
-stored_among k (slot ∷ slots) [] place stored found = absurd stored
-stored_among k (slot ∷ slots) (first ∷ places) place stored found =
-    go (contains_cases first places place found) (λ later. stored_among k slots places place stored.1 later)
-  where
-    go : (first ≡ place) ⊎ Contains places place → (Contains places place → (slot : ℕ) × IsStoredAt k slot place)
-        → (slot : ℕ) × IsStoredAt k slot place
-    go (inl e) rest = (slot, subst (IsStoredAt k slot) e stored.0)
-    go (inr later) rest = rest later
-
 module _ (means : Meanings) (table : Table) (plan : Plan) (before : List Slot) (stack : List ℕ) where
   -- the walk begins
   pub walk_begins : (walk : List ℕ) → IsOpen plan before stack → Suits table (root_shape plan) (tree_in_slots before stack)
@@ -110,25 +108,36 @@ module _ (means : Meanings) (table : Table) (plan : Plan) (before : List Slot) (
     marks = λ n is. is;
   }
 
+  -- it stopped at the first place that is left, which lacks something by itself
+  pub stopped_at : {now : List Slot} {walk rest : List ℕ} (walked : Walked means table plan before stack now walk rest)
+      (kind : ReflectErrorKind)
+      → own_lack means table (shape_in table (root_shape plan) (next_place walked.left.places (cursor_in before stack)) (tree_in_slots now stack))
+      (tree_at (next_place walked.left.places (cursor_in before stack)) (tree_in_slots now stack)) ≡ Some kind
+      → StoppedByTurns means table plan before stack kind
+  stopped_at {now} {walk} walked kind lacks = record {
+    done = walked.done;
+    left = walked.left.places;
+    order = subst (AreInWalkOrder (tree_in_slots before stack)) walked.split walked.first.order;
+    all = λ slot place stored. subst (λ (l : List Place). Contains l place) walked.split (walked.first.all slot place stored);
+    each = λ place found. stored_among (kid_here before stack) walk walked.first.places place walked.first.stored
+        (subst (λ (l : List Place). Contains l place) (sym walked.split) found);
+    tree = tree_in_slots now stack;
+    turned = walked.turned;
+    kept = walked.kept;
+    lacks = lacks;
+  }
+
   module _ (now : List Slot) (walk rest : List ℕ) (n : ℕ) (walked : Walked means table plan before stack now walk (n ∷ rest)) where
-    head : Head (kid_here now stack) n rest walked.left.places
-    head = head_of (kid_here now stack) n rest walked.left
+    abbrev head : Head (kid_here now stack) n rest walked.left.places
+    head = due_head now stack walked.still [] (cursor_in now stack) refl n rest walked.left
 
     -- the next place may have its turn
     pub head_due : MayTurn now stack n
-    head_due = record {
-      place = head.place;
-      plot = head.stored.plot;
-      reaches = head.stored.reaches;
-      is = head.stored.is;
-      closed = head_closed (kid_here now stack) n rest walked.left head (cursor_in now stack) walked.still.stands.leads;
-    }
+    head_due = due now stack walked.still [] (cursor_in now stack) refl n rest walked.left
 
     -- there is no other place in its slot
     same_place : (place : Place) → IsStoredAt (kid_here now stack) n place → place ≡ head.place
-    same_place place stored =
-        one_place place head.place (kid_here now stack) n true true stored.plot head.stored.plot (walked.still.stands.once n)
-        stored.reaches head.stored.reaches stored.is head.stored.is
+    same_place place stored = only_here now stack walked.still [] (cursor_in now stack) refl n rest walked.left place stored
 
     -- it had its turn
     pub walk_goes_on : CompletingFits → IsChecked table → (next : List Slot) → HasTurned means table plan now stack next n
@@ -137,7 +146,9 @@ module _ (means : Meanings) (table : Table) (plan : Plan) (before : List Slot) (
       first = walked.first;
       still = turned.stands.open_still;
       cursor = turned.stands.cursor ∙ walked.cursor;
-      suits = subst (Suits table (root_shape plan)) (sym turned.stands.built) suits_on;
+      suits =
+          suits_next now stack walked.still [] (cursor_in now stack) refl n rest walked.left means table next turned fitting checked
+          walked.suits;
       left = on.0;
       done = walked.done ++ head.place ∷ [];
       split =
@@ -165,18 +176,14 @@ module _ (means : Meanings) (table : Table) (plan : Plan) (before : List Slot) (
       failing = λ path. subst (λ (p : Place). failures_off means table (root_shape plan) path p (tree_in_slots next stack)
           ≡ failures_off means table (root_shape plan) path p (tree_in_slots now stack)) walked.cursor (keeps.failing path)
           ∙ walked.failing path;
-      marks = λ m is. walked.marks m (turned.marks m is);
+      marks = λ m is. walked.marks m (still_marked means table plan now stack next n turned m is);
     }
       where
         same : turned.place ≡ head.place
         same = same_place turned.place turned.stored
 
         on : (left : IsWalk (kid_here next stack) rest) × (left.places ≡ head.places)
-        on =
-            subst (λ (x : Kid). (left : IsWalk x rest) × (left.places ≡ head.places))
-            (sym (turned.here ∙ ap (λ (p : Place). put_at p (there turned.value) (kid_here now stack)) same))
-            (walk_on (kid_here now stack) n rest walked.left head (cursor_in now stack) walked.still.stands.leads
-            walked.still.stands.once turned.value)
+        on = left_next now stack walked.still [] (cursor_in now stack) refl n rest walked.left means table next turned
 
         makes : complete deferred_column means table (shape_in table (root_shape plan) head.place (tree_in_slots now stack))
             (tree_at head.place (tree_in_slots now stack)) ≡ Some turned.value
@@ -226,14 +233,7 @@ module _ (means : Meanings) (table : Table) (plan : Plan) (before : List Slot) (
             ≡ steps_in (cursor_in before stack) (tree_in_slots now stack)
         steps_on =
             ap (steps_in (cursor_in before stack)) turned.stands.built
-            ∙ steps_kept turned.place (cursor_in before stack) turned.value (tree_in_slots now stack) has has_cursor
-
-        suits_on : Suits table (root_shape plan) (closed_at turned.place turned.value (tree_in_slots now stack))
-        suits_on =
-            suits_change table (root_shape plan) turned.place (whole turned.value) (tree_in_slots now stack) has walked.suits tt
-            (fitting deferred_column means table (shape_in table (root_shape plan) turned.place (tree_in_slots now stack))
-            (tree_at turned.place (tree_in_slots now stack)) turned.value checked
-            (suits_at table (root_shape plan) turned.place (tree_in_slots now stack) has walked.suits) turned.meant)
+            ∙ (stays turned.place (cursor_in before stack) turned.value (tree_in_slots now stack) has has_cursor).steps
 
     -- it makes no value: it is the first place that fails
     pub walk_held_up : EachFailureHasItsPlace → LackingFails → FirstByWalkIs → FinishesOrRefuses → IsOpen plan before stack
@@ -268,18 +268,7 @@ module _ (means : Meanings) (table : Table) (plan : Plan) (before : List Slot) (
     -- there it stopped
     pub walk_stopped : (kind : ReflectErrorKind) → IsLackingAt means table plan now stack n kind
         → StoppedByTurns means table plan before stack kind
-    walk_stopped kind lacks = record {
-      done = walked.done;
-      left = walked.left.places;
-      order = subst (AreInWalkOrder (tree_in_slots before stack)) walked.split walked.first.order;
-      all = λ slot place stored. subst (λ (l : List Place). Contains l place) walked.split (walked.first.all slot place stored);
-      each = λ place found. stored_among (kid_here before stack) walk walked.first.places place walked.first.stored
-          (subst (λ (l : List Place). Contains l place) (sym walked.split) found);
-      tree = tree_in_slots now stack;
-      turned = walked.turned;
-      kept = walked.kept;
-      lacks =
-          subst (λ (p : Place). own_lack means table (shape_in table (root_shape plan) p (tree_in_slots now stack))
-          (tree_at p (tree_in_slots now stack)) ≡ Some kind) (same_place lacks.place lacks.stored
-          ∙ sym (ap (λ (l : List Place). next_place l (cursor_in before stack)) head.is)) lacks.lacks;
-    }
+    walk_stopped kind lacks =
+        stopped_at walked kind (subst (λ (p : Place). own_lack means table (shape_in table (root_shape plan) p (tree_in_slots now stack))
+        (tree_at p (tree_in_slots now stack)) ≡ Some kind) (same_place lacks.place lacks.stored
+        ∙ sym (ap (λ (l : List Place). next_place l (cursor_in before stack)) head.is)) lacks.lacks)

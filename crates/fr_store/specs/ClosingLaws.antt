@@ -73,90 +73,66 @@ pub record LiesAbove (here other : Place) (v : Val) (tree : Tree) : Type 0 where
 abbrev pub Lies : (here other : Place) → Val → Tree → Type 0
 Lies here other v tree = (tree_at other (closed_at here v tree) ≡ tree_at other tree) ⊎ LiesAbove here other v tree
 
--- what is known of the child on the way is known of the place
-up_from : (i j : ℕ) (here other : Place) (v : Val) (tracker : Tracker) (ts : Trees) → i ≡ j → i < count_trees ts
-    → Lies here other v (tree_nth i ts) → Lies (i ∷ here) (j ∷ other) v (begun tracker ts)
-up_from i j here other v tracker ts e h (inl same) =
-    inl (ap (λ (n : ℕ). tree_at other (tree_nth n (change_nth i (λ t. closed_at here v t) ts))) (sym e)
-    ∙ ap (tree_at other) (nth_changed i (λ t. closed_at here v t) ts h) ∙ same ∙ ap (λ (n : ℕ). tree_at other (tree_nth n ts)) e)
-up_from i j here other v tracker ts e h (inr above) =
-    inr
-    (record {
-      way = above.way;
-      is = ap (λ (p : Place). i ∷ p) above.is ∙ ap (λ (n : ℕ). n ∷ other ++ above.way) e;
-      has = subst (λ (n : ℕ). HasPlace above.way (tree_at other (tree_nth n ts))) e above.has;
-      closes =
-          ap (λ (n : ℕ). tree_at other (tree_nth n (change_nth i (λ t. closed_at here v t) ts))) (sym e)
-          ∙ ap (tree_at other) (nth_changed i (λ t. closed_at here v t) ts h) ∙ above.closes
-          ∙ ap (λ (n : ℕ). closed_at above.way v (tree_at other (tree_nth n ts))) e;
-    })
+-- Either way it has the shape that it had, and the same steps lead there.
+pub record Stays (here other : Place) (v : Val) (tree : Tree) : Type 0 where
+  pub lies : Lies here other v tree
+  pub shape : (table : Table) (s : ℕ) → shape_in table s other (closed_at here v tree) ≡ shape_in table s other tree
+  pub steps : steps_in other (closed_at here v tree) ≡ steps_in other tree
 
--- the child on the way to both has the other place
-child_has : (i j : ℕ) (here other : Place) (v : Val) (ts : Trees) → i ≡ j → i < count_trees ts
-    → HasPlace other (tree_nth j (change_nth i (λ t. closed_at here v t) ts)) → HasPlace other (closed_at here v (tree_nth i ts))
-child_has i j here other v ts e h has =
-    subst (λ (t : Tree). HasPlace other t) (nth_changed i (λ t. closed_at here v t) ts h)
-    (subst (λ (n : ℕ). HasPlace other (tree_nth n (change_nth i (λ t. closed_at here v t) ts))) (sym e) has)
-
-pub lies : (here other : Place) (v : Val) (tree : Tree) → HasPlace here tree → HasPlace other (closed_at here v tree)
-    → Lies here other v tree
-lies here [] v tree at has = inr (record { way = here; is = refl; has = at; closes = refl })
-lies [] (j ∷ other) v tree at has = absurd has
-lies (i ∷ here) (j ∷ other) v (begun tracker ts) at has =
-    go (same_or_other i j) (λ e. lies here other v (tree_nth i ts) at.1 (child_has i j here other v ts e at.0 has.1))
+pub stays : (here other : Place) (v : Val) (tree : Tree) → HasPlace here tree → HasPlace other (closed_at here v tree)
+    → Stays here other v tree
+stays here [] v tree has still = record {
+  lies = inr (record { way = here; is = refl; has = has; closes = refl });
+  shape = λ table s. refl;
+  steps = refl;
+}
+stays [] (j ∷ other) v tree has still = absurd still
+stays (i ∷ here) (j ∷ other) v (begun tracker ts) has still =
+    go (same_or_other i j) (λ e. stays here other v (tree_nth j ts) (subst (λ (n : ℕ). HasPlace here (tree_nth n ts)) e has.1)
+    (subst (λ (t : Tree). HasPlace other t) (on_the_way e) still.1))
   where
-    go : (i ≡ j) ⊎ (i ≢ j) → (i ≡ j → Lies here other v (tree_nth i ts)) → Lies (i ∷ here) (j ∷ other) v (begun tracker ts)
-    go (inl e) below = up_from i j here other v tracker ts e at.0 (below e)
-    go (inr ne) below = inl (ap (tree_at other) (nth_beside i j (λ t. closed_at here v t) ts ne))
-lies (i ∷ here) (j ∷ other) v _ at has = absurd at
+    on_the_way : i ≡ j → tree_nth j (change_nth i (λ t. closed_at here v t) ts) ≡ closed_at here v (tree_nth j ts)
+    on_the_way e =
+        subst (λ (n : ℕ). tree_nth n (change_nth i (λ t. closed_at here v t) ts) ≡ closed_at here v (tree_nth n ts)) e
+        (nth_changed i (λ t. closed_at here v t) ts has.0)
 
--- it has the shape that it had
-pub shape_kept : (table : Table) (s : ℕ) (here other : Place) (v : Val) (tree : Tree) → HasPlace here tree
-    → HasPlace other (closed_at here v tree) → shape_in table s other (closed_at here v tree) ≡ shape_in table s other tree
-shape_kept table s here [] v tree at has = refl
-shape_kept table s [] (j ∷ other) v tree at has = absurd has
-shape_kept table s (i ∷ here) (j ∷ other) v (begun tracker ts) at has =
-    go (same_or_other i j) (λ e. shape_kept table (child_as table s tracker j) here other v (tree_nth i ts) at.1
-    (child_has i j here other v ts e at.0 has.1))
-  where
-    go : (i ≡ j) ⊎ (i ≢ j) → (i ≡ j → shape_in table (child_as table s tracker j) other (closed_at here v (tree_nth i ts))
-        ≡ shape_in table (child_as table s tracker j) other (tree_nth i ts))
-        → shape_in table (child_as table s tracker j) other (tree_nth j (change_nth i (λ t. closed_at here v t) ts))
-        ≡ shape_in table (child_as table s tracker j) other (tree_nth j ts)
+    up : i ≡ j → Lies here other v (tree_nth j ts) → Lies (i ∷ here) (j ∷ other) v (begun tracker ts)
+    up e (inl same) = inl (ap (tree_at other) (on_the_way e) ∙ same)
+    up e (inr above) =
+        inr
+        (record {
+          way = above.way;
+          is = ap (λ (p : Place). i ∷ p) above.is ∙ ap (λ (n : ℕ). n ∷ other ++ above.way) e;
+          has = above.has;
+          closes = ap (tree_at other) (on_the_way e) ∙ above.closes;
+        })
+
+    go : (i ≡ j) ⊎ (i ≢ j) → (i ≡ j → Stays here other v (tree_nth j ts)) → Stays (i ∷ here) (j ∷ other) v (begun tracker ts)
     go (inl e) below =
-        ap (λ (n : ℕ). shape_in table (child_as table s tracker j) other (tree_nth n (change_nth i (λ t. closed_at here v t) ts)))
-        (sym e)
-        ∙ ap (shape_in table (child_as table s tracker j) other) (nth_changed i (λ t. closed_at here v t) ts at.0) ∙ below e
-        ∙ ap (λ (n : ℕ). shape_in table (child_as table s tracker j) other (tree_nth n ts)) e
-    go (inr ne) below = ap (shape_in table (child_as table s tracker j) other) (nth_beside i j (λ t. closed_at here v t) ts ne)
-shape_kept table s (i ∷ here) (j ∷ other) v _ at has = absurd at
-
--- and the same steps lead there
-pub steps_kept : (here other : Place) (v : Val) (tree : Tree) → HasPlace here tree → HasPlace other (closed_at here v tree)
-    → steps_in other (closed_at here v tree) ≡ steps_in other tree
-steps_kept here [] v tree at has = refl
-steps_kept [] (j ∷ other) v tree at has = absurd has
-steps_kept (i ∷ here) (j ∷ other) v (begun tracker ts) at has =
-    ap (λ (steps : List PathStep). step_as tracker j ∷ steps) (go (same_or_other i j)
-    (λ e. steps_kept here other v (tree_nth i ts) at.1 (child_has i j here other v ts e at.0 has.1)))
-  where
-    go : (i ≡ j) ⊎ (i ≢ j) → (i ≡ j → steps_in other (closed_at here v (tree_nth i ts)) ≡ steps_in other (tree_nth i ts))
-        → steps_in other (tree_nth j (change_nth i (λ t. closed_at here v t) ts)) ≡ steps_in other (tree_nth j ts)
-    go (inl e) below =
-        ap (λ (n : ℕ). steps_in other (tree_nth n (change_nth i (λ t. closed_at here v t) ts))) (sym e)
-        ∙ ap (steps_in other) (nth_changed i (λ t. closed_at here v t) ts at.0) ∙ below e
-        ∙ ap (λ (n : ℕ). steps_in other (tree_nth n ts)) e
-    go (inr ne) below = ap (steps_in other) (nth_beside i j (λ t. closed_at here v t) ts ne)
-steps_kept (i ∷ here) (j ∷ other) v _ at has = absurd at
+        let child = below e in
+        record {
+          lies = up e child.lies;
+          shape = λ table s. ap (shape_in table (child_as table s tracker j) other) (on_the_way e)
+              ∙ child.shape table (child_as table s tracker j);
+          steps = ap (λ (steps : List PathStep). step_as tracker j ∷ steps) (ap (steps_in other) (on_the_way e) ∙ child.steps);
+        }
+    go (inr ne) below =
+        let beside = nth_beside i j (λ t. closed_at here v t) ts ne in
+        record {
+          lies = inl (ap (tree_at other) beside);
+          shape = λ table s. ap (shape_in table (child_as table s tracker j) other) beside;
+          steps = ap (λ (steps : List PathStep). step_as tracker j ∷ steps) (ap (steps_in other) beside);
+        }
+stays (i ∷ here) (j ∷ other) v _ has still = absurd has
 
 -- what stands there completes as before
 pub completes_still : ClosingKeepsCompletion → ClosingKeepsFailures → (hooks : Meanings) (table : Table) (s : ℕ)
     (here other : Place) (v : Val) (tree : Tree) → Closes hooks table s here v tree → HasPlace other (closed_at here v tree)
     → CompletesAsBefore hooks table s tree (closed_at here v tree) other
-completes_still completion failing hooks table s here other v tree closing has = go (lies here other v tree closing.place has)
+completes_still completion failing hooks table s here other v tree closing has = go (stays here other v tree closing.place has).lies
   where
     shape : shape_in table s other (closed_at here v tree) ≡ shape_in table s other tree
-    shape = shape_kept table s here other v tree closing.place has
+    shape = (stays here other v tree closing.place has).shape table s
 
     go : Lies here other v tree → CompletesAsBefore hooks table s tree (closed_at here v tree) other
     go (inl same) = record {

@@ -39,7 +39,7 @@ pub use Rattle.fr_store.specs.HoldLaws.{AgreeBeside, Replaces, holds_at, holds_p
 pub use Rattle.fr_store.specs.LeaveLaws.{above_append, below_root, kid_at_append, owner_append, put_append, up_append}
 pub use Rattle.fr_store.specs.LeftLaws.{at_for_at, left_as, left_at, left_nth, left_put_nth}
 pub use Rattle.fr_store.specs.MoveLaws.{open_at_from, open_reach, open_top, same_front, same_last, so_top, tokens_kept, top_changed, top_found, top_in_use, top_slot, top_stands}
-pub use Rattle.fr_store.specs.Moves.{AtTop, HasChild, HasOwner, HasTracker, IsOpenAt, around_elements, around_members, around_some, changed_here, count_here, cursor_in, node_here, tokens_here, tokens_in, tree_here, tree_in_slots}
+pub use Rattle.fr_store.specs.Moves.{AtTop, HasChild, HasOwner, HasTracker, IsOpenAt, changed_here, count_here, cursor_in, node_here, tokens_here, tokens_in, tree_here, tree_in_slots}
 pub use Rattle.fr_store.specs.Numbers.{IsLast, numbers, slot_of, slots_of}
 pub use Rattle.fr_store.specs.OffLaws.{off_stored, reach_place}
 pub use Rattle.fr_store.specs.Places.{AreAllStored, AreOnce, BelongsTo, ComesEarlier, IsHere, IsKeyOf, IsNarrow, IsNoted, IsPlaced, IsSpread, IsStoredChildOf, IsStoredHere, Pairs, counts_in, first_key, is_between, key_of, order_as, order_below, slot_at, slot_here, slots_between, stored_here}

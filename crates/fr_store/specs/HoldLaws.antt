@@ -8,7 +8,7 @@ use Rattle.fr_frame.specs.declared.places.FrameOwner.{FrameOwner}
 use Rattle.fr_frame.specs.Bodies.{begun_body}
 use Rattle.fr_frame.specs.Cells.{Cell}
 use Rattle.fr_frame.specs.Heap.{Node, Heap, depth_limit, marked, stored_in}
-use Rattle.fr_frame.specs.Kids.{Kid, gone, there, at, Plot, entered_plot, whole_plot, begun_plot, Kids, no_kids, kid, MayHave, cell_of, cells_in, body_in, kid_in, kids_in, plot_in, kid_by, kid_from, child_node, child_owner, Holds, HoldsIn, HoldsAll}
+use Rattle.fr_frame.specs.Kids.{Kid, gone, at, Plot, entered_plot, whole_plot, begun_plot, Kids, no_kids, kid, MayHave, cell_of, cells_in, body_in, kid_in, kids_in, plot_in, kid_by, kid_from, child_node, child_owner, Holds, HoldsIn, HoldsAll}
 use Rattle.fr_store.specs.Stands.{cursor_shown, number_of_owner, number_to}
 use Rattle.fr_store.specs.Ways.{count_kids, kid_nth, kid_at, put_nth, put_at, slots_along, counts_if, uses, uses_in, uses_among, AllMarkedIn, AllMarkedAmong, NoneStored, Leads, Reaches, node_along, owner_along}
 use Rattle.fr_store.specs.WayLaws.{counts_same, counts_other, same_or_other, leads_reach, leads_at, uses_nth, uses_at}
@@ -21,21 +21,19 @@ mutual
   -- a heap that agrees on the slots that serve holds the same
   pub holds_frame : (plan : Plan) (heap other : Heap) (node : NodeId) (owner : FrameOwner) (depth : ℕ) (k : Kid)
       → Holds plan heap node owner depth k → AgreeOn heap other k → Holds plan other node owner depth k
-  holds_frame plan heap other node owner depth gone holds agree = tt
-  holds_frame plan heap other node owner depth (there v) holds agree = tt
   holds_frame plan heap other node owner depth (at slot stored plot) holds agree = (
     agree slot (omega (arith, counts_same slot)) ∙ holds.0,
     holds.1,
     holds_frame_in plan heap other node slot (suc depth) plot holds.2 (λ n h. agree n (omega arith)),
   )
+  holds_frame plan heap other node owner depth _ holds agree = tt
 
   pub holds_frame_in : (plan : Plan) (heap other : Heap) (node : NodeId) (slot depth : ℕ) (plot : Plot)
       → HoldsIn plan heap node slot depth plot → ((n : ℕ) → 0 < uses_in plot n → other n ≡ heap n)
       → HoldsIn plan other node slot depth plot
-  holds_frame_in plan heap other node slot depth entered_plot holds agree = tt
-  holds_frame_in plan heap other node slot depth (whole_plot v) holds agree = tt
   holds_frame_in plan heap other node slot depth (begun_plot tracker kids) holds agree =
       holds_frame_among plan heap other node slot tracker 0 depth kids holds agree
+  holds_frame_in plan heap other node slot depth _ holds agree = tt
 
   pub holds_frame_among : (plan : Plan) (heap other : Heap) (node : NodeId) (slot : ℕ) (tracker : Tracker) (i depth : ℕ) (ks : Kids)
       → HoldsAll plan heap node slot tracker i depth ks → ((n : ℕ) → 0 < uses_among ks n → other n ≡ heap n)
@@ -51,21 +49,19 @@ mutual
 mutual
   pub unused : (plan : Plan) (heap : Heap) (node : NodeId) (owner : FrameOwner) (depth : ℕ) (k : Kid) (n : ℕ)
       → Holds plan heap node owner depth k → heap n ≡ None → uses k n ≡ 0
-  unused plan heap node owner depth gone n holds free = refl
-  unused plan heap node owner depth (there v) n holds free = refl
   unused plan heap node owner depth (at slot stored plot) n holds free =
       omega (arith, go (same_or_other slot n), unused_in plan heap node slot (suc depth) plot n holds.2 free)
     where
       go : (slot ≡ n) ⊎ (slot ≢ n) → counts_if (nat_eq slot n) ≡ 0
       go (inl e) = let both = ap heap e in cc (holds.0, free, both)
       go (inr ne) = counts_other slot n ne
+  unused plan heap node owner depth _ n holds free = refl
 
   unused_in : (plan : Plan) (heap : Heap) (node : NodeId) (slot depth : ℕ) (plot : Plot) (n : ℕ)
       → HoldsIn plan heap node slot depth plot → heap n ≡ None → uses_in plot n ≡ 0
-  unused_in plan heap node slot depth entered_plot n holds free = refl
-  unused_in plan heap node slot depth (whole_plot v) n holds free = refl
   unused_in plan heap node slot depth (begun_plot tracker kids) n holds free =
       unused_among plan heap node slot tracker 0 depth kids n holds free
+  unused_in plan heap node slot depth _ n holds free = refl
 
   unused_among : (plan : Plan) (heap : Heap) (node : NodeId) (slot : ℕ) (tracker : Tracker) (i depth : ℕ) (ks : Kids) (n : ℕ)
       → HoldsAll plan heap node slot tracker i depth ks → heap n ≡ None → uses_among ks n ≡ 0
@@ -78,17 +74,15 @@ mutual
 mutual
   pub none_stored : (plan : Plan) (heap : Heap) (node : NodeId) (owner : FrameOwner) (depth : ℕ) (k : Kid)
       → Holds plan heap node owner depth k → ((n : ℕ) → marked heap n ≡ false) → NoneStored k
-  none_stored plan heap node owner depth gone holds none = tt
-  none_stored plan heap node owner depth (there v) holds none = tt
   none_stored plan heap node owner depth (at slot stored plot) holds none =
       (sym (ap stored_in holds.0) ∙ none slot, none_stored_in plan heap node slot (suc depth) plot holds.2 none)
+  none_stored plan heap node owner depth _ holds none = tt
 
   none_stored_in : (plan : Plan) (heap : Heap) (node : NodeId) (slot depth : ℕ) (plot : Plot)
       → HoldsIn plan heap node slot depth plot → ((n : ℕ) → marked heap n ≡ false) → AllMarkedIn false plot
-  none_stored_in plan heap node slot depth entered_plot holds none = tt
-  none_stored_in plan heap node slot depth (whole_plot v) holds none = tt
   none_stored_in plan heap node slot depth (begun_plot tracker kids) holds none =
       none_stored_among plan heap node slot tracker 0 depth kids holds none
+  none_stored_in plan heap node slot depth _ holds none = tt
 
   none_stored_among : (plan : Plan) (heap : Heap) (node : NodeId) (slot : ℕ) (tracker : Tracker) (i depth : ℕ) (ks : Kids)
       → HoldsAll plan heap node slot tracker i depth ks → ((n : ℕ) → marked heap n ≡ false) → AllMarkedAmong false ks
@@ -161,39 +155,34 @@ Replaces plan heap other old new =
 abbrev pub AgreeBeside : Heap → Heap → Kid → (part : Kid) → Type 0
 AgreeBeside heap other k part = (n : ℕ) → uses part n < uses k n → other n ≡ heap n
 
+-- another child in the stead of one, which is held where that was, the others as they were
 pub replaced_nth : (plan : Plan) (heap other : Heap) (node : NodeId) (slot : ℕ) (tracker : Tracker) (first depth : ℕ) (ks : Kids)
-    (i : ℕ) (new : Kid) → Replaces plan heap other (kid_nth i ks) new
+    (i m : ℕ) (new : Kid) → m ≡ first + i
+    → (Holds plan heap (child_node plan node tracker m) (child_owner slot m) depth (kid_nth i ks)
+    → Holds plan other (child_node plan node tracker m) (child_owner slot m) depth new)
     → ((n : ℕ) → uses (kid_nth i ks) n < uses_among ks n → other n ≡ heap n)
     → HoldsAll plan heap node slot tracker first depth ks → HoldsAll plan other node slot tracker first depth (put_nth i new ks)
-replaced_nth plan heap other node slot tracker first depth no_kids i new step agree holds = holds
-replaced_nth plan heap other node slot tracker first depth (kid k ks) zero new step agree holds = (
-  step (child_node plan node tracker first) (child_owner slot first) depth holds.0,
-  holds_frame_among plan heap other node slot tracker (suc first) depth ks holds.1 (λ n h. agree n (omega arith)),
-)
-replaced_nth plan heap other node slot tracker first depth (kid k ks) (suc i) new step agree holds = (
+replaced_nth plan heap other node slot tracker first depth no_kids i m new e step agree holds = holds
+replaced_nth plan heap other node slot tracker first depth (kid k ks) zero m new e step agree holds =
+    let same : m ≡ first = omega arith in (
+      subst (λ (j : ℕ). Holds plan heap (child_node plan node tracker j) (child_owner slot j) depth k
+          → Holds plan other (child_node plan node tracker j) (child_owner slot j) depth new) same step holds.0,
+      holds_frame_among plan heap other node slot tracker (suc first) depth ks holds.1 (λ n h. agree n (omega arith)),
+    )
+replaced_nth plan heap other node slot tracker first depth (kid k ks) (suc i) m new e step agree holds = (
   holds_frame plan heap other (child_node plan node tracker first) (child_owner slot first) depth k holds.0
       (λ n h. agree n (omega (arith, uses_nth i ks n))),
-  replaced_nth plan heap other node slot tracker (suc first) depth ks i new step (λ n h. agree n (omega arith)) holds.1,
+  replaced_nth plan heap other node slot tracker (suc first) depth ks i m new (omega arith) step (λ n h. agree n (omega arith))
+      holds.1,
 )
 
--- another child in the stead of one, the others as they were
 pub holds_put_nth : (plan : Plan) (heap other : Heap) (node : NodeId) (slot : ℕ) (tracker : Tracker) (first depth : ℕ) (ks : Kids)
     (i m : ℕ) (new : Kid) → m ≡ first + i → ((n : ℕ) → uses (kid_nth i ks) n < uses_among ks n → other n ≡ heap n)
     → HoldsAll plan heap node slot tracker first depth ks
     → Holds plan other (child_node plan node tracker m) (child_owner slot m) depth new
     → HoldsAll plan other node slot tracker first depth (put_nth i new ks)
-holds_put_nth plan heap other node slot tracker first depth no_kids i m new e agree holds is = holds
-holds_put_nth plan heap other node slot tracker first depth (kid k ks) zero m new e agree holds is =
-    let same : m ≡ first = omega arith in (
-      subst (λ (j : ℕ). Holds plan other (child_node plan node tracker j) (child_owner slot j) depth new) same is,
-      holds_frame_among plan heap other node slot tracker (suc first) depth ks holds.1 (λ n h. agree n (omega arith)),
-    )
-holds_put_nth plan heap other node slot tracker first depth (kid k ks) (suc i) m new e agree holds is = (
-  holds_frame plan heap other (child_node plan node tracker first) (child_owner slot first) depth k holds.0
-      (λ n h. agree n (omega (arith, uses_nth i ks n))),
-  holds_put_nth plan heap other node slot tracker (suc first) depth ks i m new (omega arith) (λ n h. agree n (omega arith))
-      holds.1 is,
-)
+holds_put_nth plan heap other node slot tracker first depth ks i m new e agree holds is =
+    replaced_nth plan heap other node slot tracker first depth ks i m new e (λ was. is) agree holds
 
 pub cells_put_nth : (i : ℕ) (new : Kid) (ks : Kids) → cell_of new ≡ cell_of (kid_nth i ks)
     → cells_in (put_nth i new ks) ≡ cells_in ks
@@ -212,8 +201,6 @@ pub replaces_at : (plan : Plan) (heap other : Heap) (place : Place) (new k : Kid
     → cell_of new ≡ cell_of (kid_at place k) → AgreeBeside heap other k (kid_at place k)
     → Replaces plan heap other (kid_at place k) new → Replaces plan heap other k (put_at place new k)
 replaces_at plan heap other [] new k same agree step node owner depth holds = step node owner depth holds
-replaces_at plan heap other (i ∷ place) new gone same agree step node owner depth holds = tt
-replaces_at plan heap other (i ∷ place) new (there v) same agree step node owner depth holds = tt
 replaces_at plan heap other (i ∷ place) new (at slot stored entered_plot) same agree step node owner depth holds =
     holds_frame plan heap other node owner depth (at slot stored entered_plot) holds
     (λ n h. agree n (omega (arith, uses_at place gone n)))
@@ -231,10 +218,12 @@ replaces_at plan heap other (i ∷ place) new (at slot stored (begun_plot tracke
             body = begun_body tracker cells;
           })) (sym (cells_put_nth i (put_at place new child) kids (cell_put_at place new child same))),
       holds.1,
-      replaced_nth plan heap other node slot tracker 0 (suc depth) kids i (put_at place new child)
-          (replaces_at plan heap other place new child same (λ n h. agree n (omega (arith, uses_nth i kids n))) step)
-          (λ n h. agree n (omega (arith, uses_at place child n))) holds.2,
+      replaced_nth plan heap other node slot tracker 0 (suc depth) kids i i (put_at place new child) (omega arith)
+          (replaces_at plan heap other place new child same (λ n h. agree n (omega (arith, uses_nth i kids n))) step
+          (child_node plan node tracker i) (child_owner slot i) (suc depth)) (λ n h. agree n (omega (arith, uses_at place child n)))
+          holds.2,
     )
+replaces_at plan heap other (i ∷ place) new _ same agree step node owner depth holds = tt
 
 -- Reading back.
 
@@ -246,8 +235,6 @@ mutual
   -- what a heap holds is what is read off it
   pub read_back : (plan : Plan) (heap : Heap) (node : NodeId) (owner : FrameOwner) (depth levels : ℕ) (k : Kid)
       → levels + depth ≡ depth_limit → Holds plan heap node owner depth k → kid_in (kid_from levels heap) (cell_of k) ≡ k
-  read_back plan heap node owner depth levels gone e holds = refl
-  read_back plan heap node owner depth levels (there v) e holds = refl
   read_back plan heap node owner depth levels (at slot stored plot) e holds =
       go (level_below levels depth e holds.1) (λ less deep. read_back_in plan heap node slot (suc depth) less plot deep holds.2)
     where
@@ -257,14 +244,14 @@ mutual
       go l rest =
           ap (λ (n : ℕ). kid_from n heap slot) l.1 ∙ ap (kid_by (kid_from l.0 heap) slot) holds.0
           ∙ ap (λ (p : Plot). at slot stored p) (rest l.0 (omega (arith, l.1)))
+  read_back plan heap node owner depth levels _ e holds = refl
 
   read_back_in : (plan : Plan) (heap : Heap) (node : NodeId) (slot depth levels : ℕ) (plot : Plot)
       → levels + depth ≡ depth_limit → HoldsIn plan heap node slot depth plot
       → plot_in (kid_from levels heap) (body_in plot) ≡ plot
-  read_back_in plan heap node slot depth levels entered_plot e holds = refl
-  read_back_in plan heap node slot depth levels (whole_plot v) e holds = refl
   read_back_in plan heap node slot depth levels (begun_plot tracker kids) e holds =
       ap (λ (ks : Kids). begun_plot tracker ks) (read_back_among plan heap node slot tracker 0 depth levels kids e holds)
+  read_back_in plan heap node slot depth levels _ e holds = refl
 
   read_back_among : (plan : Plan) (heap : Heap) (node : NodeId) (slot : ℕ) (tracker : Tracker) (i depth levels : ℕ) (ks : Kids)
       → levels + depth ≡ depth_limit → HoldsAll plan heap node slot tracker i depth ks
@@ -281,8 +268,7 @@ pub numbers_read : (plan : Plan) (heap : Heap) (node : NodeId) (owner : FrameOwn
     → cursor_shown heap (slots_along place k) ≡ number_of_owner owner ++ place
 numbers_read plan heap node owner depth [] (at slot stored plot) holds leads =
     ap (λ (found : Option Node). number_to found ++ []) holds.0
-numbers_read plan heap node owner depth [] gone holds leads = absurd leads
-numbers_read plan heap node owner depth [] (there v) holds leads = absurd leads
+numbers_read plan heap node owner depth [] _ holds leads = absurd leads
 numbers_read plan heap node owner depth (i ∷ place) (at slot stored (begun_plot tracker kids)) holds leads =
     let reach = leads_reach (i ∷ []) place (at slot stored (begun_plot tracker kids)) leads in
     let child = holds_nth plan heap node slot tracker 0 (suc depth) kids i i (omega arith) reach.0 holds.2 in
@@ -290,7 +276,5 @@ numbers_read plan heap node owner depth (i ∷ place) (at slot stored (begun_plo
     ∙ ap (λ (more : Place). number_of_owner owner ++ more)
     (numbers_read plan heap (child_node plan node tracker i) (child_owner slot i) (suc depth) place (kid_nth i kids) child
     (leads_at (i ∷ []) place (at slot stored (begun_plot tracker kids)) leads))
-numbers_read plan heap node owner depth (i ∷ place) (at slot stored entered_plot) holds leads = absurd leads.1
-numbers_read plan heap node owner depth (i ∷ place) (at slot stored (whole_plot v)) holds leads = absurd leads.1
-numbers_read plan heap node owner depth (i ∷ place) gone holds leads = absurd leads
-numbers_read plan heap node owner depth (i ∷ place) (there v) holds leads = absurd leads
+numbers_read plan heap node owner depth (i ∷ place) (at slot stored _) holds leads = absurd leads.1
+numbers_read plan heap node owner depth (i ∷ place) _ holds leads = absurd leads

@@ -8,7 +8,7 @@ use Rattle.fr_model.specs.Trackers.{Tracker}
 use Rattle.fr_frame.specs.declared.places.FrameOwner.{FrameOwner}
 use Rattle.fr_frame.specs.Bodies.{begun_body, cell_at, with_cell, unlinked, unlinked_by}
 use Rattle.fr_frame.specs.Cells.{Cell, absent, placed}
-use Rattle.fr_frame.specs.Kids.{Kid, gone, there, at, Plot, entered_plot, whole_plot, begun_plot, Kids, no_kids, kid, MayHave, cell_of, cells_in}
+use Rattle.fr_frame.specs.Kids.{Kid, gone, at, Plot, begun_plot, Kids, no_kids, kid, MayHave, cell_of, cells_in}
 use Rattle.fr_store.specs.Ways.{count_kids, kid_nth, kid_below, kid_at, put_nth, put_below, put_at, slots_above, Leads, owner_along, owner_below}
 use Rattle.fr_store.specs.WayLaws.{count_put, leads_at}
 
@@ -32,15 +32,12 @@ pub above_append : (place : Place) (i : ℕ) (k : Kid) → Leads (place ++ i ∷
     → kid_at place k ≡ at q stored plot → slots_above (place ++ i ∷ []) k ≡ slots_above place k ++ q ∷ []
 above_append [] i (at slot s p) leads q stored plot e =
     let same : slot ≡ q = cc in ap (λ (n : ℕ). n ∷ []) same
-above_append [] i gone leads q stored plot e = absurd leads
-above_append [] i (there v) leads q stored plot e = absurd leads
+above_append [] i _ leads q stored plot e = absurd leads
 above_append (j ∷ place) i (at slot s (begun_plot tracker kids)) leads q stored plot e =
     ap (λ (slots : List ℕ). slot ∷ slots) (above_append place i (kid_nth j kids)
     (leads_at (j ∷ []) (place ++ i ∷ []) (at slot s (begun_plot tracker kids)) leads) q stored plot e)
-above_append (j ∷ place) i (at slot s entered_plot) leads q stored plot e = absurd leads.1
-above_append (j ∷ place) i (at slot s (whole_plot v)) leads q stored plot e = absurd leads.1
-above_append (j ∷ place) i gone leads q stored plot e = absurd leads
-above_append (j ∷ place) i (there v) leads q stored plot e = absurd leads
+above_append (j ∷ place) i (at slot s _) leads q stored plot e = absurd leads.1
+above_append (j ∷ place) i _ leads q stored plot e = absurd leads
 
 -- a place that isn't the root's has one above
 pub below_root : (place : Place) → is_root place ≡ false → (above : Place) × (i : ℕ) × (place ≡ above ++ i ∷ [])

@@ -1,5 +1,5 @@
 -- Laws of moves, for proofs: putting something else at the top, and leaving it.
-use Rattle.std.proofs.Common.{◌≡◌, ◌≢◌, ℕ, ◌+◌, false, List, [], ◌∷◌, ◌++◌, append-nil, length, Option, Some, refl, sym, ◌∙◌, ap, subst, arith}
+use Rattle.std.proofs.Common.{◌≡◌, ◌≢◌, ℕ, ◌+◌, false, List, [], ◌∷◌, ◌++◌, append-nil, Option, Some, refl, sym, ◌∙◌, ap, subst, arith}
 use Rattle.std.specs.Prelude.{is_some, IsSome, IsSomeAnd}
 use Rattle.fr_shape.specs.Released.{Room}
 use Rattle.fr_shape.specs.TokenLaws.{Room_same}
@@ -19,9 +19,9 @@ use Rattle.fr_store.specs.StandLaws.{all_kept, open_from, cursor_is, tree_is, Al
 use Rattle.fr_store.specs.Stands.{Stands, IsOpen, kid_here, kid_shown}
 use Rattle.fr_store.specs.Stored.{NothingStored}
 use Rattle.fr_store.specs.TokenLaws.{tokens_held}
-use Rattle.fr_store.specs.TopLaws.{body_here, body_other, closed_occur, closed_top, top_uses, used_mapped, KeepsChildren, LosesNone, Top, top_of, top_replaced}
-use Rattle.fr_store.specs.Ways.{kid_at, put_at, slots_above, NoneStored, Leads, Reaches, node_along, owner_along}
-use Rattle.fr_store.specs.WayLaws.{leads_reach, occurs_put_at, tree_put_at, tree_of_at, tree_tokens}
+use Rattle.fr_store.specs.TopLaws.{body_here, body_other, closed_occur, closed_top, open_node, top_uses, used_mapped, KeepsChildren, LosesNone, Top, top_of, top_replaced}
+use Rattle.fr_store.specs.Ways.{kid_at, put_at, slots_above, NoneStored, Leads, Reaches}
+use Rattle.fr_store.specs.WayLaws.{leads_reach, tree_put_at, tree_of_at, tree_tokens}
 
 -- Lists that end alike.
 
@@ -86,13 +86,8 @@ module _ (plan : Plan) (slots : List Slot) (stack : List ℕ) (open_now : IsOpen
 
   -- what is in the last slot of the stack
   unfoldable pub top_node : Node
-  top_node = record {
-    node = node_along plan plan.root (cursor_in slots stack) (kid_shown (heap_of slots) stack);
-    owner = owner_along FrameOwner.Root (cursor_in slots stack) (kid_shown (heap_of slots) stack);
-    stored = false;
-    depth = length (cursor_in slots stack);
-    body = body_in (open_top plan slots stack open_now).plot;
-  }
+  top_node =
+      open_node plan (cursor_in slots stack) (kid_shown (heap_of slots) stack) (body_in (open_top plan slots stack open_now).plot)
 
   pub top_found : heap_of slots n ≡ Some top_node
   unfolding top_node
@@ -158,28 +153,10 @@ top_stands_in plan before other stack open_now n last change new is keeps shows 
     let place : Place = cursor_in before stack in
     let top = open_top plan before stack open_now in
     let same : top.slot ≡ n = top_slot plan before stack open_now n last in
-    let here : other top.slot ≡ Some (record {
-      node = node_along plan plan.root place k;
-      owner = owner_along FrameOwner.Root place k;
-      stored = false;
-      depth = length place;
-      body = body_in new;
-    })
+    let here : other top.slot ≡ Some (open_node plan place k (body_in new))
     = shows top.slot ∙ ap (λ (m : ℕ). with_body (heap_of before) m change top.slot) (sym same)
-    ∙ body_here (heap_of before) top.slot change (record {
-      node = node_along plan plan.root place k;
-      owner = owner_along FrameOwner.Root place k;
-      stored = false;
-      depth = length place;
-      body = body_in top.plot;
-    }) top.here
-    ∙ ap (λ (b : Body). Some (record {
-      node = node_along plan plan.root place k;
-      owner = owner_along FrameOwner.Root place k;
-      stored = false;
-      depth = length place;
-      body = b;
-    })) (sym is) in
+    ∙ body_here (heap_of before) top.slot change (open_node plan place k (body_in top.plot)) top.here
+    ∙ ap (λ (b : Body). Some (open_node plan place k b)) (sym is) in
     let beside : (m : ℕ) → m ≢ top.slot → other m ≡ heap_of before m
     = λ m ne. shows m ∙ ap (λ (x : ℕ). with_body (heap_of before) x change m) (sym same)
     ∙ body_other (heap_of before) top.slot change m ne in
@@ -195,31 +172,6 @@ top_stands plan before after stack open_now n last change new is keeps shows =
     top_stands_in plan before (heap_of after) stack open_now n last change new is keeps shows
 
 -- the builder is open then, where no child that was in a slot is lost
-pub top_changed : (plan : Plan) (before after : List Slot) (stack : List ℕ) (open_now : IsOpen plan before stack) (n : ℕ)
-    → IsLast stack n → (change : Body → Body) (new : Plot)
-    → body_in new ≡ change (body_in (open_top plan before stack open_now).plot)
-    → KeepsChildren (open_top plan before stack open_now).plot new → LosesNone (open_top plan before stack open_now).plot new
-    → Shows after (with_body (heap_of before) n change)
-    → ((t : ℕ) → slots_occur after t + plot_occurs (open_top plan before stack open_now).plot t
-    ≡ slots_occur before t + plot_occurs new t) → IsOpenAt plan after stack (cursor_in before stack)
-    (change_at (cursor_in before stack) (λ old. tree_in new) (tree_in_slots before stack))
-top_changed plan before after stack open_now n last change new is keeps loses shows tokens =
-    let k : Kid = kid_shown (heap_of before) stack in
-    let place : Place = cursor_in before stack in
-    let top = open_top plan before stack open_now in
-    let reach = open_reach plan before stack open_now in
-    open_at_from plan after stack place (put_at place (at top.slot false new) k)
-    (change_at place (λ old. tree_in new) (tree_of k))
-    (top_stands plan before after stack open_now n last change new is keeps shows) (λ t.
-    let was : kid_occurs (kid_at place k) t ≡ plot_occurs top.plot t = ap (λ (x : Kid). kid_occurs x t) top.is in
-    omega (arith, occurs_put_at place (at top.slot false new) k t reach, open_now.tokens t, tokens t))
-    (all_kept (heap_of before) (heap_of after) place (at top.slot false new) k reach open_now.all (λ m used.
-    used_mapped (heap_of before) n (λ (x : Node). record x { body = change x.body }) m
-    (subst (λ (o : Option Node). IsSome o) (shows m) used))
-    (λ m. omega (arith, top_uses plan (heap_of before) stack place k open_now.stands top m, loses m)))
-    (tree_put_at place (at top.slot false new) k)
-
--- the same where nothing is known of tokens
 pub top_changed_held : (plan : Plan) (before after : List Slot) (stack : List ℕ) (open_now : IsOpen plan before stack) (n : ℕ)
     → IsLast stack n → (change : Body → Body) (new : Plot)
     → body_in new ≡ change (body_in (open_top plan before stack open_now).plot)
@@ -238,6 +190,18 @@ top_changed_held plan before after stack open_now n last change new is keeps los
     (subst (λ (o : Option Node). IsSome o) (shows m) used))
     (λ m. omega (arith, top_uses plan (heap_of before) stack place k open_now.stands top m, loses m)))
     (tree_put_at place (at top.slot false new) k)
+
+-- (whatever is known of tokens: the slots hold those of what stands)
+pub top_changed : (plan : Plan) (before after : List Slot) (stack : List ℕ) (open_now : IsOpen plan before stack) (n : ℕ)
+    → IsLast stack n → (change : Body → Body) (new : Plot)
+    → body_in new ≡ change (body_in (open_top plan before stack open_now).plot)
+    → KeepsChildren (open_top plan before stack open_now).plot new → LosesNone (open_top plan before stack open_now).plot new
+    → Shows after (with_body (heap_of before) n change)
+    → ((t : ℕ) → slots_occur after t + plot_occurs (open_top plan before stack open_now).plot t
+    ≡ slots_occur before t + plot_occurs new t) → IsOpenAt plan after stack (cursor_in before stack)
+    (change_at (cursor_in before stack) (λ old. tree_in new) (tree_in_slots before stack))
+top_changed plan before after stack open_now n last change new is keeps loses shows tokens =
+    top_changed_held plan before after stack open_now n last change new is keeps loses shows
 
 -- Where none of the top's children is in a slot.
 module _ (plan : Plan) (before : List Slot) (stack : List ℕ) (open_now : IsOpen plan before stack) (n : ℕ) (last : IsLast stack n)

@@ -1,14 +1,13 @@
 -- What the moves of a builder do, as contracts see it.
-use Rattle.std.specs.Prelude.{◌≡◌, ℕ, ◌<◌, Bool, true, ◌||◌, length, List, [], ◌∷◌, ◌++◌, Option, Some, None, unwrap_or}
+use Rattle.std.specs.Prelude.{◌≡◌, ℕ, ◌<◌, Bool, true, false, ◌||◌, length, List, [], ◌∷◌, ◌++◌, Option, Some, None}
 use Rattle.fr_shape.specs.declared.shape.Def.{Def}
 use Rattle.fr_shape.specs.Val.{Val}
-use Rattle.fr_model.specs.Collections.{is_map, is_set, is_set_tracker}
-use Rattle.fr_model.specs.Contents.{around, content_of}
+use Rattle.fr_model.specs.Collections.{is_map, is_set, is_set_tracker, number_in, with_ended_item}
 use Rattle.fr_model.specs.Dynamics.{keys_apart}
-use Rattle.fr_model.specs.DynamicPlaces.{is_begun_dynamic, is_begun_object, is_dynamic_tracker, kept_array, kept_object, keys_here, entry_found, number_or_last}
-use Rattle.fr_model.specs.Places.{Place}
+use Rattle.fr_model.specs.DynamicPlaces.{is_begun_dynamic, is_begun_object, is_dynamic_tracker, keys_here, entry_found, number_or_last}
+use Rattle.fr_model.specs.Places.{Place, is_root, up}
 use Rattle.fr_model.specs.Step.{enter}
-use Rattle.fr_model.specs.Trackers.{Tracker, as_fields, as_elements, as_content, ContentKind, as_items, ItemsKind, as_entries, EntriesKind, keys_of_tracker}
+use Rattle.fr_model.specs.Trackers.{Tracker, as_fields, as_elements, as_content, as_items, ItemsKind, as_entries, EntriesKind, keys_of_tracker}
 use Rattle.fr_model.specs.Tree.{child_tree, change_child, Tree, hole, entered, whole, begun, Trees, and_last, count_below, count_trees, fresh, change_at, change_nth, tree_at, tree_occurs}
 use Rattle.fr_plan.specs.declared.nodes.NodeId.{NodeId}
 use Rattle.fr_plan.specs.TypePlan.{Plan}
@@ -19,6 +18,7 @@ use Rattle.fr_frame.specs.Bodies.{TakesItems}
 use Rattle.fr_frame.specs.Changes.{IfInUse}
 use Rattle.fr_frame.specs.Heap.{Node, heap_of}
 use Rattle.fr_frame.specs.Kids.{child_node}
+use Rattle.fr_frame.specs.declared.places.Taker.{Taker}
 use Rattle.fr_store.specs.Numbers.{IsLast}
 use Rattle.fr_store.specs.Stands.{IsOpen, cursor_shown, kid_shown, tree_shown}
 use Rattle.fr_store.specs.Ways.{node_along}
@@ -61,26 +61,6 @@ AtTop slots stack So = (n : ℕ) → IsLast stack n → IfInUse slots n So
 abbrev pub HasOwner : FrameOwner → Type 0
 HasOwner FrameOwner.Root = ⊥
 HasOwner (FrameOwner.Child parent i) = Unit {0}
-
--- a place that is begun so may have any number of children
-abbrev pub TakesMany : Tracker → Type 0
-TakesMany (as_fields selected) = Unit {0}
-TakesMany as_elements = Unit {0}
-TakesMany (as_content kind) = ⊥
-TakesMany (as_items kind) = Unit {0}
-TakesMany (as_entries kind) = Unit {0}
-
--- with this content, if it has one, the place is begun as an option around it; else it stays as it was
-abbrev pub around_content : (content : Option Val) → (old : Tree) → Tree
-around_content (Some v) old = around (as_content ContentKind.Some) (whole v)
-around_content None old = old
-
--- a whole `Some`, begun with its content as it is; any other place stays as it is
-abbrev pub around_some : Tree → Tree
-around_some hole = hole
-around_some entered = entered
-around_some (whole v) = around_content (content_of v) (whole v)
-around_some (begun tracker ts) = begun tracker ts
 
 -- the place is begun so, and has a child of this number
 abbrev pub HasChild : Tracker → ℕ → Tree → Type 0
@@ -155,13 +135,6 @@ node_here plan slots stack = node_along plan plan.root (cursor_in slots stack) (
 
 -- Dynamic values.
 
--- what stands there, where it is a dynamic array, or object, begun with its parts as they are; any other place stays as it was
-abbrev pub around_elements : Tree → Tree
-around_elements old = unwrap_or (kept_array old) old
-
-abbrev pub around_members : Tree → Tree
-around_members old = unwrap_or (kept_object old) old
-
 abbrev pub with_entry_unless : Def → (key : List ℕ) → Tracker → Trees → (found : Option ℕ) → Tree
 with_entry_unless def key tracker ts (Some i) = begun tracker (change_nth i (enter def) ts)
 with_entry_unless def key tracker ts None = begun (as_entries (EntriesKind.Object (keys_of_tracker tracker ++ key ∷ []))) (and_last ts (fresh def))
@@ -208,3 +181,30 @@ entered_by (ChildWay.Entry key) def = with_entry_of def key.now
 abbrev pub node_by : Plan → List Slot → List ℕ → ChildWay → NodeId
 node_by plan slots stack way =
     child_node plan (node_here plan slots stack) (tracker_in (tree_here slots stack)) (child_number way (tree_here slots stack))
+
+-- Handing a value over.
+
+-- the value of the place on top may go there: up from a place below the root, and to a set from one of its items
+abbrev pub MayHandOver : Taker → List Slot → List ℕ → Type 0
+MayHandOver Taker.Above slots stack = is_root (cursor_in slots stack) ≡ false
+MayHandOver Taker.Set slots stack =
+    (is_root (cursor_in slots stack) ≡ false) × (is_set (tree_at (up (cursor_in slots stack)) (tree_in_slots slots stack)) ≡ true)
+MayHandOver Taker.Itself slots stack = Unit {0}
+
+-- the place in this slot is on top, and where its value goes up it is taken off
+abbrev pub IsLeftBy : Taker → (stack : List ℕ) → ℕ → (next : List ℕ) → Type 0
+IsLeftBy Taker.Above stack n next = stack ≡ next ++ n ∷ []
+IsLeftBy Taker.Set stack n next = stack ≡ next ++ n ∷ []
+IsLeftBy Taker.Itself stack n next = IsLast stack n × (next ≡ stack)
+
+-- where the builder works then
+abbrev pub place_then : Taker → Place → Place
+place_then Taker.Above place = up place
+place_then Taker.Set place = up place
+place_then Taker.Itself place = place
+
+-- what was built then: the value takes the place of all that stood there, or the set above takes it
+abbrev pub tree_then : Taker → Place → Val → Tree → Tree
+tree_then Taker.Above place v tree = change_at place (λ old. whole v) tree
+tree_then Taker.Set place v tree = change_at (up place) (with_ended_item (number_in place) v) tree
+tree_then Taker.Itself place v tree = change_at place (λ old. whole v) tree

@@ -1,5 +1,5 @@
 -- Laws of places off the way, for proofs: what something else there changes, and what it leaves as it is.
-use Rattle.std.proofs.Common.{◌≡◌, ◌≢◌, ◌⊎◌, ℕ, zero, suc, ◌<◌, Bool, true, List, [], ◌∷◌, ◌++◌, append-nil, inl, inr, refl, sym, ◌∙◌, ap, subst, arith}
+use Rattle.std.proofs.Common.{◌≡◌, ◌≢◌, ◌↔◌, ◌⊎◌, ℕ, zero, suc, ◌<◌, Bool, true, List, [], ◌∷◌, ◌++◌, append-nil, inl, inr, refl, sym, ◌∙◌, ap, subst, arith}
 use Rattle.fr_shape.specs.Val.{Val}
 use Rattle.fr_model.specs.Finishing.{IsOffTheWay}
 use Rattle.fr_model.specs.Places.{Place}
@@ -9,7 +9,7 @@ use Rattle.fr_frame.specs.Bodies.{IsClosed, AreUnplaced}
 use Rattle.fr_frame.specs.Kids.{Kid, gone, there, at, Plot, entered_plot, whole_plot, begun_plot, Kids, no_kids, kid, tree_of, cells_in, body_in}
 use Rattle.fr_store.specs.LeaveLaws.{kid_at_append}
 use Rattle.fr_store.specs.Walks.{IsStoredAt}
-use Rattle.fr_store.specs.Ways.{count_kids, kid_nth, kid_at, put_nth, put_at, slots_along, AllMarked, StoredBut, Leads, Reaches}
+use Rattle.fr_store.specs.Ways.{kid_nth, kid_at, put_nth, put_at, slots_along, AllMarked, StoredBut, Leads, Reaches}
 use Rattle.fr_store.specs.WayLaws.{same_or_other, nth_put, count_put, kid_put_at, marked_at, marked_put_nth, marked_put_at, tree_of_nth, leads_at, count_in, marked_nth}
 
 -- Children of one place.
@@ -180,73 +180,69 @@ stored_beside here other k n m plot is closed stored ne (j ∷ way) e =
     closed_below j way n true plot m true stored.plot closed
     (ap (kid_at (j ∷ way)) (sym is) ∙ sym (kid_at_append here (j ∷ way) k) ∙ ap (λ (p : Place). kid_at p k) (sym e) ∙ stored.is)
 
--- it is stored still where a value is put there
-pub stored_still : (here other : Place) (k : Kid) (v : Val) (m : ℕ) → Reaches here k → IsNotBeneath here other
-    → IsStoredAt k m other → IsStoredAt (put_at here (there v) k) m other
-stored_still [] other k v m reach beside stored = absurd (beside other refl)
-stored_still (i ∷ here) [] (at slot mark (begun_plot tracker kids)) v m reach beside stored =
-    let same : slot ≡ m = let is = stored.is in cc in
-    let marked : mark ≡ true = let is = stored.is in cc in
-    let rest : Plot = begun_plot tracker (put_nth i (put_at here (there v) (kid_nth i kids)) kids) in
-    record { plot = rest; reaches = tt; is = ap (λ (n : ℕ). at n mark rest) same ∙ ap (λ (b : Bool). at m b rest) marked }
-stored_still (i ∷ here) (j ∷ other) (at slot mark (begun_plot tracker kids)) v m reach beside stored =
-    go (same_or_other i j) (λ e. stored_still here other (kid_nth i kids) v m reach.1
-    (λ way same. beside way (ap (λ (n : ℕ). n ∷ other) (sym e) ∙ ap (λ (p : Place). i ∷ p) same))
-    (subst (λ (n : ℕ). IsStoredAt (kid_nth n kids) m other) (sym e)
-    (record { plot = stored.plot; reaches = stored.reaches.1; is = stored.is })))
+-- it is stored there just where it is once a value is put here
+stored_both : (here other : Place) (k : Kid) (v : Val) (m : ℕ) → Reaches here k → IsNotBeneath here other
+    → IsStoredAt k m other ↔ IsStoredAt (put_at here (there v) k) m other
+stored_both [] other k v m reach beside = absurd (beside other refl)
+stored_both (i ∷ here) [] (at slot mark (begun_plot tracker kids)) v m reach beside = (
+  λ stored. here_too (begun_plot tracker (put_nth i (put_at here (there v) (kid_nth i kids)) kids)) stored.plot stored.is,
+  λ stored. here_too (begun_plot tracker kids) stored.plot stored.is,
+)
+  where
+    here_too : {old : Plot} (new plot : Plot) → at slot mark old ≡ at m true plot → IsStoredAt (at slot mark new) m []
+    here_too new plot is =
+        let same : slot ≡ m = cc in
+        let marked : mark ≡ true = cc in
+        record { plot = new; reaches = tt; is = ap (λ (n : ℕ). at n mark new) same ∙ ap (λ (b : Bool). at m b new) marked }
+stored_both (i ∷ here) (j ∷ other) (at slot mark (begun_plot tracker kids)) v m reach beside =
+    go (same_or_other i j) (λ e. stored_both here other (kid_nth i kids) v m reach.1
+    (λ way same. beside way (ap (λ (n : ℕ). n ∷ other) (sym e) ∙ ap (λ (p : Place). i ∷ p) same)))
   where
     new : Kid
     new = put_at here (there v) (kid_nth i kids)
 
-    within : j < count_kids (put_nth i new kids)
-    within = subst (λ (n : ℕ). j < n) (sym (count_put i new kids)) stored.reaches.0
+    -- so it is of the place where it is of the child on the way to it
+    up : IsStoredAt (kid_nth j kids) m other ↔ IsStoredAt (kid_nth j (put_nth i new kids)) m other
+        → IsStoredAt (at slot mark (begun_plot tracker kids)) m (j ∷ other)
+        ↔ IsStoredAt (at slot mark (begun_plot tracker (put_nth i new kids))) m (j ∷ other)
+    up child = (
+      λ stored. let below = child.0 (record { plot = stored.plot; reaches = stored.reaches.1; is = stored.is }) in
+          record {
+            plot = below.plot;
+            reaches = (subst (λ (n : ℕ). j < n) (sym (count_put i new kids)) stored.reaches.0, below.reaches);
+            is = below.is;
+          },
+      λ stored. let below = child.1 (record { plot = stored.plot; reaches = stored.reaches.1; is = stored.is }) in
+          record {
+            plot = below.plot;
+            reaches = (subst (λ (n : ℕ). j < n) (count_put i new kids) stored.reaches.0, below.reaches);
+            is = below.is;
+          },
+    )
 
-    from : IsStoredAt (kid_nth j (put_nth i new kids)) m other
-        → IsStoredAt (at slot mark (begun_plot tracker (put_nth i new kids))) m (j ∷ other)
-    from child = record { plot = child.plot; reaches = (within, child.reaches); is = child.is }
-
-    go : (i ≡ j) ⊎ (i ≢ j) → (i ≡ j → IsStoredAt new m other)
-        → IsStoredAt (at slot mark (begun_plot tracker (put_nth i new kids))) m (j ∷ other)
+    go : (i ≡ j) ⊎ (i ≢ j) → (i ≡ j → IsStoredAt (kid_nth i kids) m other ↔ IsStoredAt new m other)
+        → IsStoredAt (at slot mark (begun_plot tracker kids)) m (j ∷ other)
+        ↔ IsStoredAt (at slot mark (begun_plot tracker (put_nth i new kids))) m (j ∷ other)
     go (inl e) below =
-        from (subst (λ (n : ℕ). IsStoredAt (kid_nth n (put_nth i new kids)) m other) e
-        (subst (λ (x : Kid). IsStoredAt x m other) (sym (nth_put i new kids reach.0)) (below e)))
+        up (subst (λ (n : ℕ). IsStoredAt (kid_nth n kids) m other ↔ IsStoredAt (kid_nth n (put_nth i new kids)) m other) e
+        (subst (λ (x : Kid). IsStoredAt (kid_nth i kids) m other ↔ IsStoredAt x m other) (sym (nth_put i new kids reach.0)) (below e)))
     go (inr ne) below =
-        from (subst (λ (x : Kid). IsStoredAt x m other) (sym (nth_other i j new kids ne))
-        (record { plot = stored.plot; reaches = stored.reaches.1; is = stored.is }))
-stored_still (i ∷ here) other _ v m reach beside stored = absurd reach
+        up (subst (λ (x : Kid). IsStoredAt (kid_nth j kids) m other ↔ IsStoredAt x m other) (sym (nth_other i j new kids ne))
+        (λ stored. stored, λ stored. stored))
+stored_both (i ∷ here) other _ v m reach beside = absurd reach
+
+-- it is stored still where a value is put there
+pub stored_still : (here other : Place) (k : Kid) (v : Val) (m : ℕ) → Reaches here k → IsNotBeneath here other
+    → IsStoredAt k m other → IsStoredAt (put_at here (there v) k) m other
+stored_still here other k v m reach beside stored = (stored_both here other k v m reach beside).0 stored
 
 -- and what is stored then was stored before
 pub stored_before : (here other : Place) (k : Kid) (v : Val) (m : ℕ) → Reaches here k
     → IsStoredAt (put_at here (there v) k) m other → IsStoredAt k m other
-stored_before [] other k v m reach stored = absurd (is_none_in other v m true stored.plot stored.is)
-stored_before (i ∷ here) [] (at slot mark (begun_plot tracker kids)) v m reach stored =
-    let same : slot ≡ m = let is = stored.is in cc in
-    let marked : mark ≡ true = let is = stored.is in cc in
-    let rest : Plot = begun_plot tracker kids in
-    record { plot = rest; reaches = tt; is = ap (λ (n : ℕ). at n mark rest) same ∙ ap (λ (b : Bool). at m b rest) marked }
-stored_before (i ∷ here) (j ∷ other) (at slot mark (begun_plot tracker kids)) v m reach stored =
-    go (same_or_other i j) (λ below. stored_before here other (kid_nth i kids) v m reach.1 below)
-  where
-    new : Kid
-    new = put_at here (there v) (kid_nth i kids)
-
-    within : j < count_kids kids
-    within = subst (λ (n : ℕ). j < n) (count_put i new kids) stored.reaches.0
-
-    child : IsStoredAt (kid_nth j (put_nth i new kids)) m other
-    child = record { plot = stored.plot; reaches = stored.reaches.1; is = stored.is }
-
-    from : IsStoredAt (kid_nth j kids) m other → IsStoredAt (at slot mark (begun_plot tracker kids)) m (j ∷ other)
-    from below = record { plot = below.plot; reaches = (within, below.reaches); is = below.is }
-
-    go : (i ≡ j) ⊎ (i ≢ j) → (IsStoredAt new m other → IsStoredAt (kid_nth i kids) m other)
-        → IsStoredAt (at slot mark (begun_plot tracker kids)) m (j ∷ other)
-    go (inl e) was =
-        from (subst (λ (n : ℕ). IsStoredAt (kid_nth n kids) m other) e (was
-        (subst (λ (x : Kid). IsStoredAt x m other) (nth_put i new kids reach.0)
-        (subst (λ (n : ℕ). IsStoredAt (kid_nth n (put_nth i new kids)) m other) (sym e) child))))
-    go (inr ne) was = from (subst (λ (x : Kid). IsStoredAt x m other) (nth_other i j new kids ne) child)
-stored_before (i ∷ here) other _ v m reach stored = absurd reach
+stored_before here other k v m reach stored =
+    (stored_both here other k v m reach (λ way e. is_none_in way v m true stored.plot
+    (ap (kid_at way) (sym (kid_put_at here (there v) k reach)) ∙ sym (kid_at_append here way (put_at here (there v) k))
+    ∙ ap (λ (p : Place). kid_at p (put_at here (there v) k)) (sym e) ∙ stored.is))).1 stored
 
 -- what was put there is stored no more
 pub stored_no_more : (here : Place) (k : Kid) (v : Val) (m : ℕ) → Reaches here k → IsStoredAt (put_at here (there v) k) m here → ⊥

@@ -2,7 +2,7 @@
 use Rattle.std.specs.Prelude.{◌≡◌, ◌⊎◌, ℕ, ◌+◌, ◌-◌, ◌*◌, ◌<◌, ◌≤◌, Bool, true, false, cond, List, [], ◌∷◌, ◌++◌, filter, length, ltb, map, nat_eq, Option, Some, None, IsSomeAnd, if◌then◌else◌}
 use Rattle.std.specs.List.{All, Contains}
 use Rattle.fr_model.specs.Places.{Place, is_key, entry_of}
-use Rattle.fr_model.specs.Trackers.{Tracker, as_fields, as_elements, as_content, ContentKind, as_items, ItemsKind, as_entries, EntriesKind}
+use Rattle.fr_model.specs.Trackers.{Tracker, as_fields, as_elements, as_content, as_items, as_entries, EntriesKind}
 use Rattle.fr_frame.specs.declared.places.FrameOwner.{FrameOwner}
 use Rattle.fr_frame.specs.Bodies.{Body, entered_body, whole_body, begun_body}
 use Rattle.fr_frame.specs.Heap.{Node, Heap}

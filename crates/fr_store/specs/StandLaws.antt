@@ -6,7 +6,7 @@ use Rattle.fr_plan.specs.TypePlan.{Plan}
 use Rattle.fr_frame.specs.declared.places.FrameOwner.{FrameOwner}
 use Rattle.fr_frame.specs.declared.places.Slot.{Slot}
 use Rattle.fr_frame.specs.Heap.{Heap, depth_limit, heap_of, slots_occur}
-use Rattle.fr_frame.specs.Kids.{Kid, gone, there, at, tree_of, cell_of, kid_in, kid_from, kid_occurs, AreLeftRightly}
+use Rattle.fr_frame.specs.Kids.{Kid, at, tree_of, cell_of, kid_in, kid_from, kid_occurs, AreLeftRightly}
 use Rattle.fr_store.specs.HoldLaws.{AgreeBeside, Replaces, numbers_read, replaces_at, read_back}
 use Rattle.fr_store.specs.LeftLaws.{IsLeftAs, left_at, left_put_at}
 use Rattle.fr_store.specs.Stands.{Stands, kid_shown, tree_shown, cursor_shown, IsOpen}
@@ -65,11 +65,9 @@ all_kept heap other place new k reach all from serve =
 kid_first : (heap : Heap) (place : Place) (k : Kid) → Leads place k
     → kid_shown heap (slots_along place k) ≡ kid_in (kid_from depth_limit heap) (cell_of k)
 kid_first heap [] (at slot stored plot) leads = refl
-kid_first heap [] gone leads = absurd leads
-kid_first heap [] (there v) leads = absurd leads
+kid_first heap [] _ leads = absurd leads
 kid_first heap (i ∷ place) (at slot stored plot) leads = refl
-kid_first heap (i ∷ place) gone leads = absurd leads
-kid_first heap (i ∷ place) (there v) leads = absurd leads
+kid_first heap (i ∷ place) _ leads = absurd leads
 
 module _ (plan : Plan) (heap : Heap) (stack : List ℕ) (place : Place) (k : Kid) (stands : Stands plan heap stack place k) where
   pub kid_is : kid_shown heap stack ≡ k

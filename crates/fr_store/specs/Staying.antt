@@ -4,6 +4,7 @@ use Rattle.std.specs.Prelude.{◌≡◌, ◌≢◌}
 use Rattle.fr_model.specs.Finishing.{IsAbove}
 use Rattle.fr_model.specs.Places.{Place}
 use Rattle.fr_frame.specs.Kids.{Kid}
+use Rattle.fr_frame.specs.declared.places.Taker.{Taker}
 use Rattle.fr_store.specs.Places.{slot_at, IsPlaced}
 
 -- the place, where it lay in a slot, lies in the same slot still
@@ -21,3 +22,9 @@ StayPutButBeneath above before after = (place : Place) → (IsAbove above place 
 -- so does each place but this one
 abbrev pub StayPutBut : Place → (before after : Kid) → Type 0
 StayPutBut one before after = (place : Place) → place ≢ one → StaysPut before after place
+
+-- so does each place as the value of this one is handed over: of this one nothing is said where its value goes up
+abbrev pub StayPutAs : Taker → Place → (before after : Kid) → Type 0
+StayPutAs Taker.Above place before after = StayPutBut place before after
+StayPutAs Taker.Set place before after = StayPutBut place before after
+StayPutAs Taker.Itself place before after = AllStayPut before after

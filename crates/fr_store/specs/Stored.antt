@@ -23,7 +23,8 @@ pub record IsStoredChild (heap : Heap) (parent : ℕ) (i : ℕ) (child : ℕ) : 
   pub slot : child_slot heap parent i ≡ Some child
   pub stored : marked heap child ≡ true
 
--- the child to which this way leads from the place in a slot is in this slot, and is stored
+-- the child to which this way leads from the place in a slot is in this slot, and is stored: an item and a key are new, and the value under
+-- a key belongs to a dynamic object, no part of which is ever stored
 abbrev pub IsStoredBy : ChildWay → Heap → (parent : ℕ) → (child : ℕ) → Type 0
 IsStoredBy (ChildWay.Child i) heap parent child = IsStoredChild heap parent i child
 IsStoredBy _ heap parent child = ⊥

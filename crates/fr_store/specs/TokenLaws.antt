@@ -136,7 +136,8 @@ slots_weighed [] w t once = refl
 slots_weighed (slot ∷ slots) w t once =
     omega (arith, slot_found slot t, once 0, slots_weighed slots (λ n. w (suc n)) t (λ n. once (suc n)))
 
-used_within : (slots : List Slot) (n : ℕ) → IsSome (heap_of slots n) → n < length slots
+-- what is in use has a slot
+pub used_within : (slots : List Slot) (n : ℕ) → IsSome (heap_of slots n) → n < length slots
 used_within [] n used = absurd (cc)
 used_within (slot ∷ slots) zero used = omega arith
 used_within (slot ∷ slots) (suc n) used = let rest = used_within slots n used in omega arith

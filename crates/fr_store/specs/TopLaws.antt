@@ -14,7 +14,7 @@ use Rattle.fr_frame.specs.declared.places.SlotId.{SlotId}
 use Rattle.fr_frame.specs.Bodies.{Body, entered_body, whole_body, begun_body, body_occurs, linked, IsClosed, AreUnplaced, own_tree, trees_of}
 use Rattle.fr_frame.specs.Cells.{cells_occur}
 use Rattle.fr_frame.specs.Heap.{Node, Heap, with_slot, with_body, with_entered, entered_node, links, marked, stored_in, depth_limit}
-use Rattle.fr_frame.specs.Kids.{Kid, gone, there, at, Plot, entered_plot, whole_plot, begun_plot, Kids, no_kids, kid, MayHave, tree_of, tree_in, trees_in, cell_of, cells_in, body_in, plot_occurs, kids_occur, Holds, HoldsIn, HoldsAll, AreLeftRightly, AreLeftIn}
+use Rattle.fr_frame.specs.Kids.{Kid, gone, there, at, Plot, begun_plot, Kids, no_kids, kid, MayHave, tree_of, tree_in, trees_in, cell_of, cells_in, body_in, plot_occurs, kids_occur, Holds, HoldsIn, HoldsAll, AreLeftRightly, AreLeftIn}
 use Rattle.fr_store.specs.HoldLaws.{Replaces, holds_at, holds_frame_in, may_have}
 use Rattle.fr_store.specs.LeftLaws.{at_for_at}
 use Rattle.fr_store.specs.StandLaws.{stands_change}
@@ -122,9 +122,8 @@ unplaced_uses (kid (there v) ks) n closed = omega (arith, unplaced_uses ks n clo
 unplaced_uses (kid (at slot stored plot) ks) n closed = absurd closed.0
 
 pub closed_uses : (plot : Plot) (n : ℕ) → IsClosed (body_in plot) → uses_in plot n ≡ 0
-closed_uses entered_plot n closed = refl
-closed_uses (whole_plot v) n closed = refl
 closed_uses (begun_plot tracker kids) n closed = unplaced_uses kids n closed
+closed_uses _ n closed = refl
 
 pub unplaced_occur : (ks : Kids) (t : ℕ) → AreUnplaced (cells_in ks) → kids_occur ks t ≡ cells_occur (cells_in ks) t
 unplaced_occur no_kids t closed = refl
@@ -134,9 +133,8 @@ unplaced_occur (kid (at slot stored plot) ks) t closed = absurd closed.0
 
 -- its tokens are its own
 pub closed_occur : (plot : Plot) (t : ℕ) → IsClosed (body_in plot) → plot_occurs plot t ≡ body_occurs (body_in plot) t
-closed_occur entered_plot t closed = refl
-closed_occur (whole_plot v) t closed = refl
 closed_occur (begun_plot tracker kids) t closed = unplaced_occur kids t closed
+closed_occur _ t closed = refl
 
 unplaced_trees : (ks : Kids) → AreUnplaced (cells_in ks) → trees_in ks ≡ trees_of (cells_in ks)
 unplaced_trees no_kids closed = refl
@@ -146,9 +144,8 @@ unplaced_trees (kid (at slot stored plot) ks) closed = absurd closed.0
 
 -- its tree is its own
 pub closed_tree : (plot : Plot) → IsClosed (body_in plot) → tree_in plot ≡ own_tree (body_in plot)
-closed_tree entered_plot closed = refl
-closed_tree (whole_plot v) closed = refl
 closed_tree (begun_plot tracker kids) closed = ap (λ (ts : Trees). begun tracker ts) (unplaced_trees kids closed)
+closed_tree _ closed = refl
 
 pub unplaced_marked : (mark : Bool) (ks : Kids) → AreUnplaced (cells_in ks) → AllMarkedAmong mark ks
 unplaced_marked mark no_kids closed = tt
@@ -157,9 +154,8 @@ unplaced_marked mark (kid (there v) ks) closed = (tt, unplaced_marked mark ks cl
 unplaced_marked mark (kid (at slot stored plot) ks) closed = absurd closed.0
 
 pub closed_marked : (mark : Bool) (plot : Plot) → IsClosed (body_in plot) → AllMarkedIn mark plot
-closed_marked mark entered_plot closed = tt
-closed_marked mark (whole_plot v) closed = tt
 closed_marked mark (begun_plot tracker kids) closed = unplaced_marked mark kids closed
+closed_marked mark _ closed = tt
 
 pub unplaced_holds : (plan : Plan) (heap : Heap) (node : NodeId) (slot : ℕ) (tracker : Tracker) (i depth : ℕ) (ks : Kids) (count : ℕ)
     → count ≡ i + count_kids ks → MayHave tracker count → AreUnplaced (cells_in ks) → HoldsAll plan heap node slot tracker i depth ks
@@ -184,18 +180,16 @@ cells_count (kid k ks) = ap suc (cells_count ks)
 
 pub closed_holds : (plan : Plan) (heap : Heap) (node : NodeId) (slot depth : ℕ) (plot : Plot) → MayHaveIts (body_in plot)
     → IsClosed (body_in plot) → HoldsIn plan heap node slot depth plot
-closed_holds plan heap node slot depth entered_plot may closed = tt
-closed_holds plan heap node slot depth (whole_plot v) may closed = tt
 closed_holds plan heap node slot depth (begun_plot tracker kids) may closed =
     unplaced_holds plan heap node slot tracker 0 depth kids (length (cells_in kids)) (omega (arith, cells_count kids)) may closed
+closed_holds plan heap node slot depth _ may closed = tt
 
 -- what is held has no more than it may
 pub held_may_have : (plan : Plan) (heap : Heap) (node : NodeId) (slot depth : ℕ) (plot : Plot)
     → HoldsIn plan heap node slot depth plot → MayHaveIts (body_in plot)
-held_may_have plan heap node slot depth entered_plot holds = tt
-held_may_have plan heap node slot depth (whole_plot v) holds = tt
 held_may_have plan heap node slot depth (begun_plot tracker kids) holds =
     may_have plan heap node slot tracker 0 depth kids (length (cells_in kids)) (omega (arith, cells_count kids)) holds
+held_may_have plan heap node slot depth _ holds = tt
 
 -- nothing is both stored and not stored
 pub unplaced_by_marks : (ks : Kids) → AllMarkedAmong true ks → AllMarkedAmong false ks → AreUnplaced (cells_in ks)
@@ -207,11 +201,20 @@ unplaced_by_marks (kid (at slot stored plot) ks) marked unmarked =
     cc
 
 pub closed_by_marks : (plot : Plot) → AllMarkedIn true plot → AllMarkedIn false plot → IsClosed (body_in plot)
-closed_by_marks entered_plot marked unmarked = tt
-closed_by_marks (whole_plot v) marked unmarked = tt
 closed_by_marks (begun_plot tracker kids) marked unmarked = unplaced_by_marks kids marked unmarked
+closed_by_marks _ marked unmarked = tt
 
 -- The top.
+
+-- what is known of an open place, to which this way leads, and at which this was put
+abbrev pub open_node : Plan → Place → Kid → Body → Node
+open_node plan place k body = record {
+  node = node_along plan plan.root place k;
+  owner = owner_along FrameOwner.Root place k;
+  stored = false;
+  depth = length place;
+  body = body;
+}
 
 -- The place at which a builder works: it is in the last slot of the stack, and its children that are in slots are stored.
 pub record Top (plan : Plan) (heap : Heap) (stack : List ℕ) (place : Place) (k : Kid) : Type 0 where
@@ -220,14 +223,7 @@ pub record Top (plan : Plan) (heap : Heap) (stack : List ℕ) (place : Place) (k
   pub is : kid_at place k ≡ at slot false plot
   pub last : stack ≡ slots_above place k ++ slot ∷ []
   pub stored : AllMarkedIn true plot
-  pub here :
-      heap slot ≡ Some (record {
-        node = node_along plan plan.root place k;
-        owner = owner_along FrameOwner.Root place k;
-        stored = false;
-        depth = length place;
-        body = body_in plot;
-      })
+  pub here : heap slot ≡ Some (open_node plan place k (body_in plot))
   pub limit : length place < depth_limit
   pub children : HoldsIn plan heap (node_along plan plan.root place k) slot (suc (length place)) plot
 
@@ -324,13 +320,8 @@ module _ (plan : Plan) (heap : Heap) (stack : List ℕ) (place : Place) (k : Kid
 
   -- of whatever owner and depth it is held, these are they
   pub top_held : (node : NodeId) (owner : FrameOwner) (depth : ℕ) → Holds plan heap node owner depth (kid_at place k)
-      → ◌≡◌ {A = Node} (record { node = node; owner = owner; stored = false; depth = depth; body = body_in top.plot }) (record {
-        node = node_along plan plan.root place k;
-        owner = owner_along FrameOwner.Root place k;
-        stored = false;
-        depth = length place;
-        body = body_in top.plot;
-      })
+      → ◌≡◌ {A = Node} (record { node = node; owner = owner; stored = false; depth = depth; body = body_in top.plot })
+      (open_node plan place k (body_in top.plot))
   top_held node owner depth holds =
       let was = subst (λ (x : Kid). Holds plan heap node owner depth x) top.is holds in
       let both = sym was.0 ∙ top.here in
@@ -339,13 +330,7 @@ module _ (plan : Plan) (heap : Heap) (stack : List ℕ) (place : Place) (k : Kid
 -- Something else is put at the top: all other slots are as they were.
 pub top_replaced : (plan : Plan) (heap other : Heap) (stack : List ℕ) (place : Place) (k : Kid) (new : Plot)
     (stands : Stands plan heap stack place k) (top : Top plan heap stack place k) → KeepsChildren top.plot new
-    → other top.slot ≡ Some (record {
-      node = node_along plan plan.root place k;
-      owner = owner_along FrameOwner.Root place k;
-      stored = false;
-      depth = length place;
-      body = body_in new;
-    }) → ((m : ℕ) → m ≢ top.slot → other m ≡ heap m) → Stands plan other stack place (put_at place (at top.slot false new) k)
+    → other top.slot ≡ Some (open_node plan place k (body_in new)) → ((m : ℕ) → m ≢ top.slot → other m ≡ heap m) → Stands plan other stack place (put_at place (at top.slot false new) k)
 top_replaced plan heap other stack place k new stands top keeps here beside =
     let longer : Stands plan heap stack (place ++ []) k
     = subst (λ (p : Place). Stands plan heap stack p k) (sym (append-nil place)) stands in

@@ -1,27 +1,32 @@
 -- Laws of a turn, for proofs: a stored place that has no child in a slot leaves its slot, and its value goes into the place above.
-use Rattle.std.proofs.Common.{◌≡◌, ◌≢◌, ◌⊎◌, ℕ, zero, suc, ◌+◌, ◌<◌, ◌≤◌, Bool, true, false, List, [], ◌∷◌, ◌++◌, length, nat_eq, Option, Some, None, inl, inr, refl, sym, ◌∙◌, ap, subst, arith}
-use Rattle.std.specs.Prelude.{is_some}
+use Rattle.std.proofs.Common.{◌≡◌, ◌≢◌, ◌⊎◌, ℕ, suc, ◌+◌, ◌<◌, ◌≤◌, Bool, true, List, [], ◌∷◌, ◌++◌, length, nat_eq, Option, Some, None, inl, inr, refl, sym, ◌∙◌, ap, subst, arith}
 use Rattle.fr_shape.specs.Val.{Val}
 use Rattle.fr_model.specs.Finishing.{IsOffTheWay}
 use Rattle.fr_model.specs.Places.{Place}
 use Rattle.fr_model.specs.Trackers.{Tracker}
-use Rattle.fr_plan.specs.declared.nodes.NodeId.{NodeId}
 use Rattle.fr_plan.specs.TypePlan.{Plan}
 use Rattle.fr_frame.specs.declared.places.FrameOwner.{FrameOwner}
 use Rattle.fr_frame.specs.Bodies.{Body, begun_body, with_cell, unlinked, IsClosed}
 use Rattle.fr_frame.specs.Cells.{given, placed}
-use Rattle.fr_frame.specs.Heap.{Node, Heap, stored_in, marked, with_slot, with_body, without}
-use Rattle.fr_frame.specs.Kids.{Kid, gone, there, at, Plot, entered_plot, whole_plot, begun_plot, Kids, no_kids, kid, MayHave, cell_of, cells_in, body_in, child_node, child_owner, Holds, HoldsAll}
-use Rattle.fr_store.specs.HoldLaws.{AgreeBeside, Replaces, holds_at, holds_frame, may_have_all, replaces_at}
+use Rattle.fr_frame.specs.Heap.{Node, Heap, with_slot, with_body, without}
+use Rattle.fr_frame.specs.Kids.{Kid, gone, there, at, Plot, entered_plot, whole_plot, begun_plot, Kids, MayHave, cell_of, cells_in, body_in, child_owner, Holds}
+use Rattle.fr_store.specs.HoldLaws.{AgreeBeside, Replaces, holds_at, holds_put_nth, may_have_all, replaces_at}
 use Rattle.fr_store.specs.LeftLaws.{left_put_at, there_for_any}
 use Rattle.fr_store.specs.LeaveLaws.{below_root, kid_at_append, may_have_put, owner_append, put_append, unlinked_child, with_child, within_put}
 use Rattle.fr_store.specs.OffLaws.{along_off, leads_off, off_stored}
 use Rattle.fr_store.specs.Stands.{Stands}
 use Rattle.fr_store.specs.TopLaws.{body_here, body_other, slot_here, slot_other}
 use Rattle.fr_store.specs.Ways.{count_kids, kid_nth, kid_at, put_nth, put_at, counts_if, uses, uses_in, uses_among, Reaches, node_along, owner_along, owner_below}
-use Rattle.fr_store.specs.WayLaws.{counts_same, same_or_other, uses_at, uses_nth, uses_put_at}
+use Rattle.fr_store.specs.WayLaws.{counts_same, put_nth_twice, same_or_other, uses_at, uses_nth, uses_put_at}
 
 -- One slot after another.
+
+-- slot n is free, the place in slot q has this put at it, and all else is as it was
+pub record IsHandedUp (heap last : Heap) (n q : ℕ) (above : Node) (body : Body) : Type 0 where
+  pub found : heap q ≡ Some above
+  pub over : last q ≡ Some (record above { body = body })
+  pub free : last n ≡ None
+  pub other : (m : ℕ) → m ≢ q → m ≢ n → last m ≡ heap m
 
 -- a place's slot n is taken out of slot q, of which it is child i, once something else was put at it, and then a value is put there
 module _ (heap first mid last : Heap) (n q i : ℕ) (below above : Node) (body : Body) (tracker : Tracker) (kids : Kids) (v : Val)
@@ -50,44 +55,30 @@ module _ (heap first mid last : Heap) (n q i : ℕ) (below above : Node) (body :
       left m ∙ body_other (with_slot first n None) q (unlinked n i) m a ∙ slot_other first n None m b
       ∙ puts m ∙ slot_other heap n (Some (record below { body = body })) m b
 
-  module _ (ends : (m : ℕ) → last m ≡ with_body mid q (λ old. with_cell old i (given v)) m) where
-    pub last_over : last q ≡ Some (record above { body = begun_body tracker (cells_in (put_nth i (there v) kids)) })
-    last_over =
+  pub handed_up : ((m : ℕ) → last m ≡ with_body mid q (λ old. with_cell old i (given v)) m)
+      → IsHandedUp heap last n q above (begun_body tracker (cells_in (put_nth i (there v) kids)))
+  handed_up ends = record {
+    found = over;
+    over =
         ends q ∙ body_here mid q (λ old. with_cell old i (given v))
         (record above { body = begun_body tracker (cells_in (put_nth i gone kids)) }) mid_over
         ∙ ap (λ (b : Body). Some (record above { body = b }))
         (with_child tracker i (there v) (put_nth i gone kids) (may_have_put tracker i gone kids may)
-        (within_put i gone kids within) ∙ ap (λ (ks : Kids). begun_body tracker (cells_in ks)) (twice i kids))
-      where
-        twice : (j : ℕ) (ks : Kids) → put_nth j (there v) (put_nth j gone ks) ≡ put_nth j (there v) ks
-        twice j no_kids = refl
-        twice zero (kid k ks) = refl
-        twice (suc j) (kid k ks) = ap (λ (xs : Kids). kid k xs) (twice j ks)
+        (within_put i gone kids within) ∙ ap (λ (ks : Kids). begun_body tracker (cells_in ks)) (put_nth_twice i gone (there v) kids));
+    free = ends n ∙ body_other mid q (λ old. with_cell old i (given v)) n apart ∙ mid_here;
+    other = λ m a b. ends m ∙ body_other mid q (λ old. with_cell old i (given v)) m a ∙ mid_other m a b;
+  }
 
-    pub last_here : last n ≡ None
-    last_here = ends n ∙ body_other mid q (λ old. with_cell old i (given v)) n apart ∙ mid_here
-
-    pub last_other : (m : ℕ) → m ≢ q → m ≢ n → last m ≡ heap m
-    last_other m a b = ends m ∙ body_other mid q (λ old. with_cell old i (given v)) m a ∙ mid_other m a b
-
-    -- all others are in use as before
-    pub in_use_last : (m : ℕ) → m ≢ n → is_some (last m) ≡ is_some (heap m)
-    in_use_last m ne = go (same_or_other m q)
-      where
-        go : (m ≡ q) ⊎ (m ≢ q) → is_some (last m) ≡ is_some (heap m)
-        go (inl e) = ap (λ (x : ℕ). is_some (last x)) e ∙ ap is_some last_over ∙ ap is_some (sym over) ∙ ap (λ (x : ℕ). is_some (heap x)) (sym e)
-        go (inr other) = ap is_some (last_other m other ne)
-
-    -- none is stored that wasn't
-    pub marked_last : (m : ℕ) → marked last m ≡ true → marked heap m ≡ true
-    marked_last m is = go (same_or_other m n) (same_or_other m q)
-      where
-        go : (m ≡ n) ⊎ (m ≢ n) → (m ≡ q) ⊎ (m ≢ q) → marked heap m ≡ true
-        go (inl e) b =
-            let none : false ≡ true = ap stored_in (sym last_here) ∙ ap (marked last) (sym e) ∙ is in
-            cc
-        go (inr a) (inl e) = ap (marked heap) e ∙ ap stored_in over ∙ ap stored_in (sym last_over) ∙ ap (marked last) (sym e) ∙ is
-        go (inr a) (inr b) = ap stored_in (sym (last_other m b a)) ∙ is
+-- what is asked of nodes, whatever their bodies, has the same answer under each other number
+pub asked_still : {heap last : Heap} {n q : ℕ} {above : Node} {body : Body} (up : IsHandedUp heap last n q above body)
+    (asks : Option Node → Bool) → asks (Some (record above { body = body })) ≡ asks (Some above) → (m : ℕ) → m ≢ n
+    → asks (last m) ≡ asks (heap m)
+asked_still {heap} {last} {n} {q} {above} {body} up asks same m ne = go (same_or_other m q)
+  where
+    go : (m ≡ q) ⊎ (m ≢ q) → asks (last m) ≡ asks (heap m)
+    go (inl e) =
+        ap (λ (x : ℕ). asks (last x)) e ∙ ap asks up.over ∙ same ∙ ap asks (sym up.found) ∙ ap (λ (x : ℕ). asks (heap x)) (sym e)
+    go (inr a) = ap asks (up.other m a ne)
 
 -- The place above a stored one.
 
@@ -151,30 +142,6 @@ over_of here k n plot low reach is = split here refl
 
 -- What is held.
 
-frame_all : (plan : Plan) (heap other : Heap) (node : NodeId) (slot : ℕ) (tracker : Tracker) (i depth : ℕ) (ks : Kids)
-    → HoldsAll plan heap node slot tracker i depth ks → ((m : ℕ) → 0 < uses_among ks m → other m ≡ heap m)
-    → HoldsAll plan other node slot tracker i depth ks
-frame_all plan heap other node slot tracker i depth no_kids holds agree = holds
-frame_all plan heap other node slot tracker i depth (kid k ks) holds agree = (
-  holds_frame plan heap other (child_node plan node tracker i) (child_owner slot i) depth k holds.0
-      (λ m h. agree m (omega arith)),
-  frame_all plan heap other node slot tracker (suc i) depth ks holds.1 (λ m h. agree m (omega arith)),
-)
-
--- a value is put in the stead of a child
-holds_value : (plan : Plan) (heap other : Heap) (node : NodeId) (slot : ℕ) (tracker : Tracker) (first depth i : ℕ) (ks : Kids)
-    (v : Val) → HoldsAll plan heap node slot tracker first depth ks
-    → ((m : ℕ) → uses (kid_nth i ks) m < uses_among ks m → other m ≡ heap m)
-    → HoldsAll plan other node slot tracker first depth (put_nth i (there v) ks)
-holds_value plan heap other node slot tracker first depth i no_kids v holds agree = holds
-holds_value plan heap other node slot tracker first depth zero (kid k ks) v holds agree =
-    (tt, frame_all plan heap other node slot tracker (suc first) depth ks holds.1 (λ m h. agree m (omega arith)))
-holds_value plan heap other node slot tracker first depth (suc i) (kid k ks) v holds agree = (
-  holds_frame plan heap other (child_node plan node tracker first) (child_owner slot first) depth k holds.0
-      (λ m h. agree m (omega (arith, uses_nth i ks m))),
-  holds_value plan heap other node slot tracker (suc first) depth i ks v holds.1 (λ m h. agree m (omega arith)),
-)
-
 -- what is in the slot of a stored place
 abbrev pub due_node : Plan → Place → Kid → Plot → Node
 due_node plan here k plot = record {
@@ -195,8 +162,8 @@ over_node plan here k n plot over = record {
   body = begun_body over.tracker (cells_in over.kids);
 }
 
-module _ (plan : Plan) (heap : Heap) (stack : List ℕ) (cursor here : Place) (k : Kid) (n : ℕ) (plot : Plot)
-    (stands : Stands plan heap stack cursor k) (reach : Reaches here k) (is : kid_at here k ≡ at n true plot) where
+module _ {plan : Plan} {heap : Heap} {stack : List ℕ} {cursor : Place} {k : Kid} (stands : Stands plan heap stack cursor k)
+    (here : Place) (n : ℕ) (plot : Plot) (reach : Reaches here k) (is : kid_at here k ≡ at n true plot) where
   pub due_off : IsOffTheWay cursor here
   due_off = off_stored cursor here k n plot stands.leads is
 
@@ -246,11 +213,10 @@ module _ (plan : Plan) (heap : Heap) (stack : List ℕ) (cursor here : Place) (k
         absurd (omega (arith, one, counts_same n, child_uses n, uses_nth over.i over.kids n, once_above n))
 
     -- a value in the stead of the place
-    pub stands_turned : (other : Heap) (v : Val) → IsClosed (body_in plot) → other over.slot
-        ≡ Some (record (over_node plan here k n plot over) {
-          body = begun_body over.tracker (cells_in (put_nth over.i (there v) over.kids));
-        }) → ((m : ℕ) → m ≢ over.slot → m ≢ n → other m ≡ heap m) → Stands plan other stack cursor (put_at here (there v) k)
-    stands_turned other v closed found beside = record {
+    pub stands_turned : (other : Heap) (v : Val) → IsClosed (body_in plot) → IsHandedUp heap other n over.slot
+        (over_node plan here k n plot over) (begun_body over.tracker (cells_in (put_nth over.i (there v) over.kids)))
+        → Stands plan other stack cursor (put_at here (there v) k)
+    stands_turned other v closed up = record {
       holds =
           subst (λ (x : Kid). Holds plan other plan.root FrameOwner.Root 0 x) (sym put)
           (replaces_at plan heap other over.above new k (ap cell_of (sym over.is)) agree replaces plan.root
@@ -280,7 +246,7 @@ module _ (plan : Plan) (heap : Heap) (stack : List ℕ) (cursor here : Place) (k
             go (inr x) (inl e) =
                 let one : counts_if (nat_eq n m) ≡ 1 = ap (λ (y : ℕ). counts_if (nat_eq n y)) e ∙ counts_same n in
                 absurd (omega (arith, one, b))
-            go (inr x) (inr y) = beside m x y
+            go (inr x) (inr y) = up.other m x y
 
         agree : AgreeBeside heap other k (kid_at over.above k)
         agree m h =
@@ -299,10 +265,10 @@ module _ (plan : Plan) (heap : Heap) (stack : List ℕ) (cursor here : Place) (k
               depth = depth;
               body = begun_body over.tracker (cells_in over.kids);
             }) ≡ Some (over_node plan here k n plot over) = sym was.0 ∙ over_found in (
-              found ∙ sym (ap (λ (x : Option Node). with_kids x) same),
+              up.over ∙ sym (ap (λ (x : Option Node). with_kids x) same),
               was.1,
-              holds_value plan heap other node over.slot over.tracker 0 (suc depth) over.i over.kids v was.2 (λ m h.
-                  elsewhere m (omega (arith, once_above m, child_uses m)) (omega (arith, once_above m, child_uses m))),
+              holds_put_nth plan heap other node over.slot over.tracker 0 (suc depth) over.kids over.i over.i (there v) (omega arith)
+                  (λ m h. elsewhere m (omega (arith, once_above m, child_uses m)) (omega (arith, once_above m, child_uses m))) was.2 tt,
             )
           where
             with_kids : Option Node → Option Node

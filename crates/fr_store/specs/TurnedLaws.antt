@@ -1,5 +1,5 @@
 -- Laws of a turn in slots, for proofs: from what its calls say to what it owes.
-use Rattle.std.proofs.Common.{◌≡◌, ◌≢◌, ◌⊎◌, ℕ, zero, suc, ◌<◌, true, false, List, [], ◌∷◌, append-nil, length, slice_get, Option, Some, None, option_map, unwrap_or, inl, inr, refl, sym, ◌∙◌, ap, subst, arith}
+use Rattle.std.proofs.Common.{◌≡◌, ◌≢◌, ◌⊎◌, ℕ, zero, suc, ◌<◌, true, false, List, [], ◌∷◌, append-nil, length, slice_get, Option, Some, option_map, unwrap_or, inl, inr, refl, sym, ◌∙◌, ap, subst, arith}
 use Rattle.std.specs.Option.{option_and_then}
 use Rattle.std.specs.Prelude.{is_some, IsSome, IsSomeAnd}
 use Rattle.fr_shape.specs.declared.error.ReflectErrorKind.{ReflectErrorKind}
@@ -27,22 +27,22 @@ use Rattle.fr_frame.specs.Cells.{Cell, given, placed}
 use Rattle.fr_frame.specs.Changes.{IfInUse, IsInUse, Shows}
 use Rattle.fr_frame.specs.Completing.{shape_of, FillsAt, IsFull, IsPlanFor, MayComplete}
 use Rattle.fr_frame.specs.Defaults.{WhyNotDefault}
-use Rattle.fr_frame.specs.Heap.{Node, Heap, gives, held_by, heap_of, slots_occur, with_body, without}
+use Rattle.fr_frame.specs.Heap.{Node, Heap, gives, held_by, heap_of, slots_occur, stored_in, with_body, without}
 use Rattle.fr_frame.specs.Kids.{Kid, there, MayHave, tree_of, cell_of, cells_in, kid_occurs, child_owner}
 use Rattle.fr_store.specs.ClosingLaws.{closes_with, completes_still}
 use Rattle.fr_store.specs.LeaveLaws.{cell_of_child}
 use Rattle.fr_store.specs.Moves.{IsOpenAt, cursor_in, tree_in_slots}
 use Rattle.fr_store.specs.OffLaws.{reach_place}
 use Rattle.fr_store.specs.ShapeLaws.{IsOfShape, Along, along, root_shaped}
-use Rattle.fr_store.specs.StandLaws.{cursor_is, kid_is, stands_shown, tree_is}
+use Rattle.fr_store.specs.StandLaws.{cursor_is, kid_is, open_from, tree_is}
 use Rattle.fr_store.specs.Stands.{IsOpen, Stands}
 use Rattle.fr_store.specs.TokenLaws.{tokens_held}
 use Rattle.fr_store.specs.TopLaws.{closed_tree, closed_uses, slot_here, slot_other}
-use Rattle.fr_store.specs.TurnLaws.{Over, due_apart, due_found, due_node, due_off, due_over, in_use_last, last_here, last_other, last_over, marked_last, over_found, over_may_have, over_node, stands_turned}
+use Rattle.fr_store.specs.TurnLaws.{IsHandedUp, Over, asked_still, due_apart, due_found, due_node, due_off, due_over, handed_up, over_found, over_may_have, over_node, stands_turned}
 use Rattle.fr_store.specs.Turning.{HasTurned, IsLackingAt, KeepsTheRest, MayTurn, kid_here}
 use Rattle.fr_store.specs.Turns.{CompletesAsBefore, root_shape}
 use Rattle.fr_store.specs.Walks.{IsStoredAt}
-use Rattle.fr_store.specs.Ways.{count_kids, kid_nth, put_at, uses, Leads, Reaches, node_along}
+use Rattle.fr_store.specs.Ways.{count_kids, kid_nth, put_at, put_nth, uses, Leads, Reaches, node_along}
 use Rattle.fr_store.specs.WayLaws.{counts_other, leads_reach, same_or_other, tree_of_at, tree_put_at, uses_put_at}
 
 -- A place of a plan.
@@ -99,11 +99,7 @@ pub open_shown : (plan : Plan) (slots : List Slot) (stack : List ℕ) (place : P
     → Stands plan (heap_of slots) stack place k → ((t : ℕ) → slots_occur slots t ≡ kid_occurs k t)
     → ((n : ℕ) → IsSome (heap_of slots n) → 0 < uses k n) → tree_of k ≡ tree → IsOpenAt plan slots stack place tree
 open_shown plan slots stack place k tree stands tokens all is = record {
-  open_still = record {
-    stands = stands_shown plan (heap_of slots) stack place k stands;
-    tokens = λ t. tokens t ∙ ap (λ (x : Kid). kid_occurs x t) (sym (kid_is plan (heap_of slots) stack place k stands));
-    all = λ n used. subst (λ (x : Kid). 0 < uses x n) (sym (kid_is plan (heap_of slots) stack place k stands)) (all n used);
-  };
+  open_still = open_from plan slots stack place k stands tokens all;
   cursor = cursor_is plan (heap_of slots) stack place k stands;
   built = tree_is plan (heap_of slots) stack place k stands ∙ is;
 }
@@ -115,17 +111,13 @@ module _ (plan : Plan) (before : List Slot) (stack : List ℕ) (n : ℕ) (open_n
 
   pub found : heap_of before n ≡ Some below
   unfolding below
-  found =
-      due_found plan (heap_of before) stack (cursor_in before stack) due.place (kid_here before stack) n due.plot
-      open_now.stands due.reaches due.is
+  found = due_found open_now.stands due.place n due.plot due.reaches due.is
 
   pub due_in_use : IsInUse before n
   due_in_use = ap is_some found
 
   pub over : Over due.place (kid_here before stack) n due.plot
-  over =
-      due_over plan (heap_of before) stack (cursor_in before stack) due.place (kid_here before stack) n due.plot
-      open_now.stands due.reaches due.is
+  over = due_over open_now.stands due.place n due.plot due.reaches due.is
 
   -- what is said of the place in it
   said : (So : Node → Type 0) → IfInUse before n So → So below
@@ -194,27 +186,21 @@ module _ (plan : Plan) (before : List Slot) (stack : List ℕ) (n : ℕ) (open_n
       fills = said (λ (x : Node). FillsAt deferred_column means table plan before first n x) filled
 
       apart : n ≢ over.slot
-      apart =
-          due_apart plan (heap_of before) stack (cursor_in before stack) due.place (kid_here before stack) n due.plot
-          open_now.stands due.reaches due.is over
+      apart = due_apart open_now.stands due.place n due.plot due.reaches due.is over
 
       above : Node
       above = over_node plan due.place (kid_here before stack) n due.plot over
 
       above_found : heap_of before over.slot ≡ Some above
       unfolding above
-      above_found =
-          over_found plan (heap_of before) stack (cursor_in before stack) due.place (kid_here before stack) n due.plot
-          open_now.stands due.reaches due.is over
+      above_found = over_found open_now.stands due.place n due.plot due.reaches due.is over
 
       above_begun : above.body ≡ begun_body over.tracker (cells_in over.kids)
       unfolding above
       above_begun = refl
 
       may : MayHave over.tracker (count_kids over.kids)
-      may =
-          over_may_have plan (heap_of before) stack (cursor_in before stack) due.place (kid_here before stack) n due.plot
-          open_now.stands due.reaches due.is over
+      may = over_may_have open_now.stands due.place n due.plot due.reaches due.is over
 
       child : cell_of (kid_nth over.i over.kids) ≡ placed n
       child = ap cell_of over.child
@@ -260,42 +246,31 @@ module _ (plan : Plan) (before : List Slot) (stack : List ℕ) (n : ℕ) (open_n
             → Shows last (gives x.owner w (without (heap_of first) n x.owner)))) first_found handed v fills.filled.held m
             ∙ ap (λ (o : FrameOwner). gives o v mid m) owner
 
+        handed_over : IsHandedUp (heap_of before) (heap_of last) n over.slot above
+            (begun_body over.tracker (cells_in (put_nth over.i (there v) over.kids)))
+        handed_over =
+            handed_up (heap_of before) (heap_of first) mid (heap_of last) n over.slot over.i below above fills.body over.tracker
+            over.kids v apart found above_found above_begun may over.within child owner fills.becomes (λ m. refl) ends
+
         kid_after : Kid
         kid_after = put_at due.place (there v) (kid_here before stack)
 
         stands_after : Stands plan (heap_of last) stack (cursor_in before stack) kid_after
         unfolding kid_after above
         stands_after =
-            stands_turned plan (heap_of before) stack (cursor_in before stack) due.place (kid_here before stack) n due.plot
-            open_now.stands due.reaches due.is over (heap_of last) v due.closed
-            (last_over (heap_of before) (heap_of first) mid (heap_of last) n over.slot over.i below above fills.body
-            over.tracker over.kids v apart found above_found above_begun may over.within child owner fills.becomes (λ m. refl) ends)
-            (last_other (heap_of before) (heap_of first) mid (heap_of last) n over.slot over.i below above
-            fills.body over.tracker over.kids v apart found above_found above_begun may over.within child owner fills.becomes (λ m. refl)
-            ends)
+            stands_turned open_now.stands due.place n due.plot due.reaches due.is over (heap_of last) v due.closed handed_over
 
         -- each slot in use is that of a place
         all_after : (m : ℕ) → IsSome (heap_of last m) → 0 < uses kid_after m
         unfolding kid_after
         all_after m used = go (same_or_other m n)
           where
-            free : heap_of last n ≡ None
-            free =
-                last_here (heap_of before) (heap_of first) mid (heap_of last) n over.slot over.i below above fills.body
-                over.tracker over.kids v apart found above_found above_begun may over.within child owner fills.becomes (λ m. refl) ends
-
-            as_before : m ≢ n → is_some (heap_of last m) ≡ is_some (heap_of before m)
-            as_before =
-                in_use_last (heap_of before) (heap_of first) mid (heap_of last) n over.slot over.i below above
-                fills.body over.tracker over.kids v apart found above_found above_begun may over.within child owner fills.becomes
-                (λ m. refl) ends m
-
             go : (m ≡ n) ⊎ (m ≢ n) → 0 < uses (put_at due.place (there v) (kid_here before stack)) m
             go (inl e) =
-                let none : false ≡ true = sym (ap (λ (x : ℕ). is_some (heap_of last x)) e ∙ ap is_some free) ∙ used in
+                let none : false ≡ true = sym (ap (λ (x : ℕ). is_some (heap_of last x)) e ∙ ap is_some handed_over.free) ∙ used in
                 absurd (cc)
             go (inr ne) =
-                let served = open_now.all m (sym (as_before ne) ∙ used) in
+                let served = open_now.all m (sym (asked_still handed_over is_some refl m ne) ∙ used) in
                 let replaced = uses_put_at due.place (there v) (kid_here before stack) m due.reaches in
                 let is = ap (λ (x : Kid). uses x m) due.is in
                 let other = counts_other n m (λ e. ne (sym e)) in
@@ -323,17 +298,9 @@ module _ (plan : Plan) (before : List Slot) (stack : List ℕ) (n : ℕ) (open_n
           meant = makes;
           stands = open_after;
           here = kid_is_after;
-          free =
-              last_here (heap_of before) (heap_of first) mid (heap_of last) n over.slot over.i below above fills.body
-              over.tracker over.kids v apart found above_found above_begun may over.within child owner fills.becomes (λ m. refl) ends;
-          others =
-              in_use_last (heap_of before) (heap_of first) mid (heap_of last) n over.slot over.i below above
-              fills.body over.tracker over.kids v apart found above_found above_begun may over.within child owner fills.becomes
-              (λ m. refl) ends;
-          marks =
-              marked_last (heap_of before) (heap_of first) mid (heap_of last) n over.slot over.i below above
-              fills.body over.tracker over.kids v apart found above_found above_begun may over.within child owner fills.becomes
-              (λ m. refl) ends;
+          free = handed_over.free;
+          others = asked_still handed_over is_some refl;
+          marks = asked_still handed_over stored_in refl;
         }
 
         closing : Closes means table (root_shape plan) due.place v (tree_in_slots before stack)
@@ -373,6 +340,4 @@ module _ (plan : Plan) (before : List Slot) (stack : List ℕ) (n : ℕ) (open_n
                 (tree_in_slots before stack) closing has)
 
             off : IsOffTheWay (cursor_in before stack) due.place
-            off =
-                due_off plan (heap_of before) stack (cursor_in before stack) due.place (kid_here before stack) n due.plot
-                open_now.stands due.reaches due.is
+            off = due_off open_now.stands due.place n due.plot due.reaches due.is

@@ -54,7 +54,7 @@ pub record HasTurned (means : Meanings) (table : Table) (plan : Plan) (before : 
   pub here : kid_here after stack ≡ put_at place (there value) (kid_here before stack)
   pub free : heap_of after slot ≡ None
   pub others : (n : ℕ) → n ≢ slot → is_some (heap_of after n) ≡ is_some (heap_of before n)
-  pub marks : (n : ℕ) → marked (heap_of after) n ≡ true → marked (heap_of before) n ≡ true
+  pub marks : (n : ℕ) → n ≢ slot → marked (heap_of after) n ≡ marked (heap_of before) n
 
 -- A turn leaves the rest as it was: each place that is stored still completes as before, so does the one at which the builder
 -- works, and so does the whole along the way there.

@@ -1,12 +1,13 @@
 -- The order in which stored places are completed: the longest path first, then step by step.
 use Rattle.std.specs.Prelude.{◌≡◌, ℕ, true, List, [], ◌∷◌}
-use Rattle.std.specs.List.{All, Contains}
+use Rattle.std.specs.List.{Contains}
 use Rattle.std.specs.declared.cmp.Ordering.{Ordering}
 use Rattle.fr_path.specs.Order.{walk_order}
 use Rattle.fr_model.specs.Paths.{steps_in}
 use Rattle.fr_model.specs.Places.{Place}
 use Rattle.fr_model.specs.Tree.{Tree}
 use Rattle.fr_frame.specs.Kids.{Kid, at, Plot, tree_of}
+use Rattle.fr_store.specs.Places.{Pairs}
 use Rattle.fr_store.specs.Ways.{kid_at, Reaches}
 
 -- at this place lies a stored place, in this slot
@@ -27,8 +28,7 @@ ComesBefore tree first second = walk_order (steps_in first tree) (steps_in secon
 
 -- each of these places comes before all that follow
 abbrev pub AreInWalkOrder : Tree → List Place → Type 0
-AreInWalkOrder tree [] = Unit {0}
-AreInWalkOrder tree (place ∷ places) = All (λ (other : Place). ComesBefore tree place other) places × AreInWalkOrder tree places
+AreInWalkOrder tree places = Pairs (ComesBefore tree) places
 
 -- These slots are those of all stored places, in the order of the walk.
 pub record IsWalk (k : Kid) (walk : List ℕ) : Type 0 where

@@ -1,9 +1,9 @@
 //! Going on to a child of the place at which a builder works.
-ghost use Rattle.fr_store.specs.Common.{AllStayPut, AtTop, IsKept, IsOpen, IsOpenAt, OnErr, OnOk, SameMarks, SameTokens, Shows, StoresNoMore, [], around_some, as_tracker, base_of_tracker, changed_here, cursor_in, def_of, false, heap_of, kid_here, length, opened_as, shape_of, tree_here, ℕ};
-ghost use Rattle.fr_frame.specs.Bodies.{HoldsSome, MayOpen};
+ghost use Rattle.fr_store.specs.Common.{AllStayPut, AtTop, IsKept, IsOpen, IsOpenAt, OnErr, OnOk, SameMarks, SameTokens, Shows, MayHave, StoresNoMore, [], as_tracker, base_of_tracker, changed_here, cursor_in, def_of, false, heap_of, kid_here, length, opened_as, shape_of, tree_here, ℕ};
+ghost use Rattle.fr_frame.specs.Bodies.{MayOpen};
 ghost use Rattle.std.specs.Prelude.{IfSome, IsNone, ◌++◌, ◌<◌, ◌∷◌, ◌≡◌};
 ghost use Rattle.fr_frame.specs.Heap.{with_mark};
-ghost use Rattle.fr_store.specs.Moves.{child_number, entered_by, node_by, MayEnter, TakesMany};
+ghost use Rattle.fr_store.specs.Moves.{child_number, entered_by, node_by, MayEnter};
 ghost use Rattle.fr_store.specs.Stored.{IsStoredBy};
 ghost use Rattle.fr_frame.specs.declared.places.ChildWay.{ChildWay as Way};
 
@@ -40,9 +40,10 @@ fn take_stored(
 
 impl Stack {
     /// Begins the place on top, so that its children can be entered: an entered one has none of so
-    /// many children yet, of a whole one each has its part of the value, those of a list or a set
-    /// being its items and those of a map its keys and values in turn, a begun one stays as it is.
-    /// A map that holds a value is begun over its entries.
+    /// many children yet, of a whole one each has its part of the value (what an option holds, the
+    /// items of a list, a set or a dynamic array, keys and values in turn of a map, the values of
+    /// an object), a begun one stays as it is. A map that holds a value is begun over its entries,
+    /// an object under its keys.
     pub fn begin(
         &self,
         slots: &mut Slots,
@@ -52,7 +53,7 @@ impl Stack {
     ) -> Result<(), OutOfMemory>
         requires is_open { IsOpen plan.now slots.old self.now }
         requires may_open { AtTop slots.old self.now (λ at. MayOpen (as_tracker tracker) at.body) }
-        requires many { TakesMany (as_tracker tracker) }
+        requires may_have { MayHave (as_tracker tracker) count }
         requires base { base_of_tracker (as_tracker tracker) ≡ 0 }
         ensures begun { OnOk result (IsOpenAt plan.now slots.new self.now
             (cursor_in slots.old self.now)
@@ -65,26 +66,6 @@ impl Stack {
         let _plan = plan;
         match self.top() {
             Some(place) => place.begin(slots, tracker, count),
-            None => unreachable!(),
-        }
-    }
-
-    /// Begins the option on top, which is a whole `Some`, in place: its content stays as it is, and
-    /// can be entered.
-    pub fn open_some(&self, slots: &mut Slots, plan: &TypePlanCore) -> Result<(), OutOfMemory>
-        requires is_open { IsOpen plan.now slots.old self.now }
-        requires holds_some { AtTop slots.old self.now (λ at. HoldsSome at.body) }
-        ensures opened { OnOk result (IsOpenAt plan.now slots.new self.now
-            (cursor_in slots.old self.now)
-            (changed_here around_some slots.old self.now)) }
-        ensures places { AllStayPut (kid_here slots.old self.now) (kid_here slots.new self.now) }
-        ensures refused { OnErr result (Shows slots.new (heap_of slots.old)) }
-        ensures tokens { SameTokens slots.old slots.new }
-        ensures marks { SameMarks slots.old slots.new }
-    {
-        let _plan = plan;
-        match self.top() {
-            Some(place) => place.open_some(slots),
             None => unreachable!(),
         }
     }

@@ -7,7 +7,7 @@ ghost use Rattle.fr_store.specs.Turning.{becomes_whole, kid_here, CameByTurns, F
 ghost use Rattle.fr_store.specs.Turns.{IsFinished};
 
 use crate::{FrameStore, Stack};
-use fr_frame::{ItemsKind, Piece, SlotId, Slots, Tracker};
+use fr_frame::{ItemsKind, Piece, SlotId, Slots, Taker, Tracker};
 use fr_model::{law_closing, law_completes, law_failing};
 use fr_plan::{TypePlanCore, law_plan_lookups};
 use fr_shape::{Hooks, Ledger, OutOfMemory, ReflectErrorKind, ShapeTable};
@@ -45,7 +45,7 @@ pub(crate) fn turn<H: Hooks>(
     law_plan_lookups();
     let _stack = stack;
     place.complete_by_defaults(slots, table, plan, hooks)?;
-    match place.hand_up(slots, ledger) {
+    match place.hand_over(slots, Taker::Above, ledger) {
         Ok(()) => Ok(()),
         Err(OutOfMemory) => Err(ReflectErrorKind::OutOfMemory),
     }
@@ -144,7 +144,7 @@ fn complete_top<H: Hooks>(
     if !whole {
         return Ok(());
     }
-    match top.make_whole(slots, ledger) {
+    match top.hand_over(slots, Taker::Itself, ledger) {
         Ok(()) => Ok(()),
         Err(OutOfMemory) => Err(ReflectErrorKind::OutOfMemory),
     }

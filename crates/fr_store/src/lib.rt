@@ -3,7 +3,6 @@
 #![tactic(auto)]
 
 mod beneath;
-mod dynamic_places;
 mod ending;
 mod entering;
 mod finishing;

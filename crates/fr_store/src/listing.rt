@@ -92,7 +92,7 @@ pub(crate) fn walk_beneath(
     let _plan = plan;
     let _stack = stack;
     let mut queue = Vec::new(alloc);
-    queue.push(top.0)?;
+    add_children(slots, top, &mut queue)?;
     let mut head = 0;
     while head < queue.len() {
         let place = SlotId(queue[head]);
@@ -100,6 +100,5 @@ pub(crate) fn walk_beneath(
         head += 1;
     }
     queue.reverse();
-    queue.pop();
     Ok(queue)
 }

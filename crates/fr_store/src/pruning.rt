@@ -14,7 +14,6 @@ fn count_among(piece: &Piece) -> usize
 {
     match piece {
         Piece::Begun(_, children) => children.len(),
-        Piece::Object(_, children) => children.len(),
         Piece::Entered | Piece::Whole(_) => 0,
     }
 }

@@ -1,5 +1,5 @@
 //! Beginning anew at the place at which a builder works.
-ghost use Rattle.std.specs.Prelude.{◌≡◌};
+ghost use Rattle.std.specs.Prelude.{IsOk, ◌≡◌};
 ghost use Rattle.fr_store.specs.Common.{Conserved, IsKept, IsOpen, IsOpenAt, MayHave, OnErr, OnOk, Room, RoseBy, StayPutButBeneath, StoresNoMore, as_tracker, base_of_tracker, begun, changed_here, cursor_in, holes, kid_here, slots_occur, tokens_here};
 
 use crate::{FrameStore, Stack};
@@ -10,7 +10,7 @@ use fr_shape::{Ledger, OutOfMemory};
 impl Stack {
     /// Begins the place on top anew, with so many children, none of them there yet: all that was
     /// put there and all that is stored beneath it is released. Where there is no memory for the
-    /// children, some of it may be released.
+    /// children, some of it may be released. No children take no memory.
     pub fn restart(
         &self,
         slots: &mut Slots,
@@ -32,6 +32,7 @@ impl Stack {
             (kid_here slots.old self.now) (kid_here slots.new self.now)) }
         ensures released { OnOk result
             (RoseBy (tokens_here slots.old self.now) ledger.old ledger.new) }
+        ensures memory { count ≡ 0 → IsOk result }
         ensures kept { IsKept store.new slots.new }
         ensures marks { StoresNoMore slots.old slots.new }
         ensures tokens { OnErr result (Conserved (slots_occur slots.old) ledger.old

@@ -34,6 +34,7 @@ fn order_of(tracker: &Tracker, i: u32) -> u32
 {
     match tracker {
         Tracker::Entries(EntriesKind::Map(_)) => order_in_map(i),
+        Tracker::Entries(EntriesKind::Object(_)) => i,
         Tracker::Fields(_) | Tracker::Elements | Tracker::Content(_) | Tracker::Items(_) => i,
     }
 }
@@ -44,7 +45,7 @@ fn order_among(piece: &Piece, i: u32) -> u32
 {
     match piece {
         Piece::Begun(tracker, _) => order_of(tracker, i),
-        Piece::Entered | Piece::Whole(_) | Piece::Object(_, _) => i,
+        Piece::Entered | Piece::Whole(_) => i,
     }
 }
 

@@ -1,7 +1,7 @@
 use Rattle.std.proofs.Common.{◌≡◌, ◌⊎◌, refl, subst, sym}
 use Rattle.std.proofs.lemmas.Result.{err_from_is_err_and}
 use Rattle.fr_store.specs.Common.{LacksHere, ReflectErrorKind, top_in_use}
-use Rattle.fr_store.specs.HereLaws.{finished_begun, finished_whole, nothing_begun, nothing_whole, top_may_complete, top_refused}
+use Rattle.fr_store.proofs.DoneLaws.{done_begun, done_whole, top_may_complete, top_refused}
 use Rattle.fr_store.proofs.TakenLaws.{closed_room, filled_valued}
 use Rattle.fr_store.proofs.finishing.complete_top.Goals as goal
 
@@ -15,8 +15,8 @@ complete_by_defaults-requires-clause-place g c =
     c.requires.strict c.law_plan_lookups.ensures.agree c.law_plan_lookups.ensures.paths c.args.table.now c.requires.checked
     c.requires.plan c.requires.suits
 
-pub make_whole-requires-clause-complete : goal.make_whole-requires-clause-complete
-make_whole-requires-clause-complete g c =
+pub hand_over-requires-clause-complete : goal.hand_over-requires-clause-complete
+hand_over-requires-clause-complete g c =
     filled_valued (g.H.Hooks.means c.args.hooks.now) c.args.table.now c.args.plan.now c.args.slots.now
     c.complete_by_defaults.new.slots c.in-Some.top.0 c.in_ok-complete_by_defaults.ensures.filled
 
@@ -33,34 +33,34 @@ returns-in_err-complete_by_defaults-clause-why g c =
 
 pub returns-then-not-whole-clause-finished : goal.returns-then-not-whole-clause-finished
 returns-then-not-whole-clause-finished g c =
-    finished_begun c.args.plan.now c.args.slots.now c.args.stack.now c.requires.is_open c.in-Some.top.0 c.in-Some.ensures.last
+    (done_begun c.args.plan.now c.args.slots.now c.args.stack.now c.requires.is_open c.in-Some.top.0 c.in-Some.ensures.last
     c.requires.strict c.law_plan_lookups.ensures.agree c.law_plan_lookups.ensures.paths c.args.table.now c.requires.checked
     c.requires.plan c.requires.suits (g.H.Hooks.means c.args.hooks.now) c.complete_by_defaults.new.slots
-    c.in_ok-complete_by_defaults.ensures.filled c.in_ok-complete_by_defaults.ensures.tracker c.if-not-whole.ensures
+    c.in_ok-complete_by_defaults.ensures.filled c.in_ok-complete_by_defaults.ensures.tracker c.if-not-whole.ensures).0
 
 pub returns-then-not-whole-clause-strict : goal.returns-then-not-whole-clause-strict
 returns-then-not-whole-clause-strict g c =
-    nothing_begun c.args.plan.now c.args.slots.now c.args.stack.now c.requires.is_open c.in-Some.top.0 c.in-Some.ensures.last
+    (done_begun c.args.plan.now c.args.slots.now c.args.stack.now c.requires.is_open c.in-Some.top.0 c.in-Some.ensures.last
     c.requires.strict c.law_plan_lookups.ensures.agree c.law_plan_lookups.ensures.paths c.args.table.now c.requires.checked
     c.requires.plan c.requires.suits (g.H.Hooks.means c.args.hooks.now) c.complete_by_defaults.new.slots
-    c.in_ok-complete_by_defaults.ensures.filled c.in_ok-complete_by_defaults.ensures.tracker c.if-not-whole.ensures
+    c.in_ok-complete_by_defaults.ensures.filled c.in_ok-complete_by_defaults.ensures.tracker c.if-not-whole.ensures).1
 
 pub returns-in-Ok-clause-finished : goal.returns-in-Ok-clause-finished
 returns-in-Ok-clause-finished g c =
-    finished_whole c.args.plan.now c.args.slots.now c.args.stack.now c.requires.is_open c.in-Some.top.0 c.in-Some.ensures.last
+    (done_whole c.args.plan.now c.args.slots.now c.args.stack.now c.requires.is_open c.in-Some.top.0 c.in-Some.ensures.last
     c.requires.strict c.law_plan_lookups.ensures.agree c.law_plan_lookups.ensures.paths c.args.table.now c.requires.checked
     c.requires.plan c.requires.suits (g.H.Hooks.means c.args.hooks.now) c.complete_by_defaults.new.slots
-    c.in_ok-complete_by_defaults.ensures.filled c.make_whole.new.slots c.in-Ok.ensures.whole c.if-not-whole.ensures
+    c.in_ok-complete_by_defaults.ensures.filled c.hand_over.new.slots c.in-Ok.ensures.handed c.if-not-whole.ensures).0
 
 pub returns-in-Ok-clause-strict : goal.returns-in-Ok-clause-strict
 returns-in-Ok-clause-strict g c =
-    nothing_whole c.args.plan.now c.args.slots.now c.args.stack.now c.requires.is_open c.in-Some.top.0 c.in-Some.ensures.last
+    (done_whole c.args.plan.now c.args.slots.now c.args.stack.now c.requires.is_open c.in-Some.top.0 c.in-Some.ensures.last
     c.requires.strict c.law_plan_lookups.ensures.agree c.law_plan_lookups.ensures.paths c.args.table.now c.requires.checked
     c.requires.plan c.requires.suits (g.H.Hooks.means c.args.hooks.now) c.complete_by_defaults.new.slots
-    c.in_ok-complete_by_defaults.ensures.filled c.make_whole.new.slots c.in-Ok.ensures.whole c.if-not-whole.ensures
+    c.in_ok-complete_by_defaults.ensures.filled c.hand_over.new.slots c.in-Ok.ensures.handed c.if-not-whole.ensures).1
 
-pub make_whole-requires-clause-room : goal.make_whole-requires-clause-room
-make_whole-requires-clause-room g c =
+pub hand_over-requires-clause-room : goal.hand_over-requires-clause-room
+hand_over-requires-clause-room g c =
     closed_room c.args.plan.now c.args.slots.now c.complete_by_defaults.new.slots c.args.stack.now c.in-Some.top.0
     c.args.ledger.now c.args.ledger.now c.requires.is_open c.requires.room c.complete_by_defaults.ensures.tokens refl
     c.complete_by_defaults.ensures.closed

@@ -26,21 +26,21 @@ returns-in_err-complete_by_defaults-clause-why g c =
     c.requires.suits (g.H.Hooks.means c.args.hooks.now) c.in_err-complete_by_defaults.field-0.0
     c.in_err-complete_by_defaults.ensures.why))
 
-pub hand_up-requires-clause-owned : goal.hand_up-requires-clause-owned
-hand_up-requires-clause-owned g c =
+pub hand_over-requires-clause-may : goal.hand_over-requires-clause-may
+hand_over-requires-clause-may g c =
     owned_first c.args.plan.now c.args.slots.now c.args.stack.now c.args.place.0 c.requires.is_open c.requires.due
     c.law_plan_lookups.ensures.agree c.law_plan_lookups.ensures.paths c.args.table.now c.requires.checked c.requires.plan
     c.requires.suits (g.H.Hooks.means c.args.hooks.now) c.complete_by_defaults.new.slots
     c.complete_by_defaults.new.slots c.in_ok-complete_by_defaults.ensures.filled
 
-pub hand_up-requires-clause-room : goal.hand_up-requires-clause-room
-hand_up-requires-clause-room g c =
+pub hand_over-requires-clause-room : goal.hand_over-requires-clause-room
+hand_over-requires-clause-room g c =
     closed_room c.args.plan.now c.args.slots.now c.complete_by_defaults.new.slots c.args.stack.now c.args.place.0
     c.args.ledger.now c.args.ledger.now c.requires.is_open c.requires.room c.complete_by_defaults.ensures.tokens refl
     c.complete_by_defaults.ensures.closed
 
-pub hand_up-requires-clause-complete : goal.hand_up-requires-clause-complete
-hand_up-requires-clause-complete g c =
+pub hand_over-requires-clause-complete : goal.hand_over-requires-clause-complete
+hand_over-requires-clause-complete g c =
     filled_valued (g.H.Hooks.means c.args.hooks.now) c.args.table.now c.args.plan.now c.args.slots.now
     c.complete_by_defaults.new.slots c.args.place.0 c.in_ok-complete_by_defaults.ensures.filled
 
@@ -49,12 +49,12 @@ returns-in-Ok-clause-turned g c =
     has_turned c.args.plan.now c.args.slots.now c.args.stack.now c.args.place.0 c.requires.is_open c.requires.due
     c.law_plan_lookups.ensures.agree c.law_plan_lookups.ensures.paths c.args.table.now c.requires.checked c.requires.plan
     c.requires.suits (g.H.Hooks.means c.args.hooks.now) c.complete_by_defaults.new.slots
-    c.hand_up.new.slots c.in_ok-complete_by_defaults.ensures.filled c.in-Ok.ensures.handed
+    c.hand_over.new.slots c.in_ok-complete_by_defaults.ensures.filled c.in-Ok.ensures.handed
 
 pub returns-in-Ok-clause-rest : goal.returns-in-Ok-clause-rest
 returns-in-Ok-clause-rest g c =
     keeps_the_rest c.args.plan.now c.args.slots.now c.args.stack.now c.args.place.0 c.requires.is_open c.requires.due
     c.law_plan_lookups.ensures.agree c.law_plan_lookups.ensures.paths c.args.table.now c.requires.checked c.requires.plan
     c.requires.suits (g.H.Hooks.means c.args.hooks.now) c.complete_by_defaults.new.slots
-    c.hand_up.new.slots c.in_ok-complete_by_defaults.ensures.filled c.in-Ok.ensures.handed c.law_closing.ensures.completion c.law_closing.ensures.failures
+    c.hand_over.new.slots c.in_ok-complete_by_defaults.ensures.filled c.in-Ok.ensures.handed c.law_closing.ensures.completion c.law_closing.ensures.failures
     c.law_closing.ensures.finish c.law_closing.ensures.failures_off

@@ -1,13 +1,13 @@
-use Rattle.std.proofs.Common.{◌≤◌, ◌<◌, ◌-◌, ◌∙◌, ◌++◌, ℕ, List, [], ◌∷◌, length, take, sym, ap, subst, arith}
-use Rattle.fr_store.specs.Common.{kid_on_top}
-use Rattle.fr_store.proofs.BeneathQueue.{IsQueueBeneath}
-use Rattle.fr_store.proofs.BeneathSteps.{steps_begin, steps_end, steps_few, steps_on}
+use Rattle.std.proofs.Common.{◌≤◌, ◌<◌, ◌∙◌, ◌++◌, ℕ, List, length, sym, ap, subst, arith}
+use Rattle.fr_store.specs.Common.{heap_of, kid_on_top, IsWalk}
+use Rattle.fr_store.proofs.BeneathSteps.{IsQueueBeneath, slots_below, steps_begin, steps_end, steps_few, steps_on}
 use Rattle.fr_store.proofs.listing.walk_beneath.Goals as goal
 
 pub loop-head-init : goal.loop-head-init
 loop-head-init c =
-    subst (λ (l : List ℕ). IsQueueBeneath (kid_on_top c.args.slots.now c.args.stack.now) l 0)
-    (sym (c.in_ok-push.ensures.items ∙ ap (λ (l : List ℕ). l ++ c.args.top.0 ∷ []) c.new-queue.ensures.items))
+    subst (λ (l : List ℕ). IsQueueBeneath c.args.slots.now c.args.stack.now l 0)
+    (sym (c.in_ok-add_children.ensures.added
+    ∙ ap (λ (l : List ℕ). l ++ slots_below (heap_of c.args.slots.now) c.args.top.0) c.new-queue.ensures.items))
     (steps_begin c.args.plan.now c.args.slots.now c.args.stack.now c.requires.is_open c.args.top.0 c.requires.last)
 
 pub loop-head-smaller : goal.loop-head-smaller
@@ -24,8 +24,8 @@ loop-head-preserved c =
     let long = c.len.ensures in
     let within : c.loop-head.head < length c.loop-head.queue.items = omega arith in
     steps_on c.args.plan.now c.args.slots.now c.args.stack.now c.requires.is_open c.loop-head.queue.items c.loop-head.head
-    c.loop-head.invariant within c.index.result.now c.index.result.now c.index.ensures c.add_children.new.queue.items
-    c.in_ok-add_children.ensures.added
+    c.loop-head.invariant within c.index.result.now c.index.ensures c.add_children-in-loop-head.new.queue.items
+    c.in_ok-add_children-2.ensures.added
 
 pub returns : goal.returns
 returns c =
@@ -34,8 +34,7 @@ returns c =
     let over : length c.loop-head.queue.items ≤ c.loop-head.head = omega arith in
     record {
       walk =
-          steps_end c.args.plan.now c.args.slots.now c.args.stack.now c.requires.is_open c.loop-head.queue.items c.loop-head.head
-          c.loop-head.invariant over c.pop.new.self.items (c.pop.ensures.rest
-          ∙ ap (λ (n : ℕ). take n c.reverse.new.self.items) (omega arith)
-          ∙ ap (λ (l : List ℕ). take (length l - 1) l) c.reverse.ensures.items);
+          subst (IsWalk (kid_on_top c.args.slots.now c.args.stack.now)) (sym c.reverse.ensures.items)
+          (steps_end c.args.plan.now c.args.slots.now c.args.stack.now c.requires.is_open c.loop-head.queue.items
+          c.loop-head.head c.loop-head.invariant over);
     }

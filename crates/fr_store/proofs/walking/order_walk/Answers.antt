@@ -1,6 +1,6 @@
-use Rattle.std.proofs.Common.{◌≡◌, ◌∙◌, List, ℕ, length, get_or, take, reverse, sym, ap, subst, arith}
+use Rattle.std.proofs.Common.{◌≡◌, ◌∙◌, List, ℕ, length, get_or, take, reverse, inl, sym, ap, subst, arith}
 use Rattle.std.proofs.lemmas.List.{take_at}
-use Rattle.fr_store.specs.Common.{IsSpread, IsWalk, cursor_shown, heap_of, kid_shown, slot_of}
+use Rattle.fr_store.specs.Common.{FrameOwner, IsSpread, IsWalk, cursor_shown, heap_of, kid_shown, slot_of}
 use Rattle.fr_store.proofs.PairLaws.{in_map}
 use Rattle.std.proofs.lemmas.List.Elements.{Contains-get_or}
 use Rattle.fr_store.proofs.StoredLaws.{are_all_stored, stored_owned}
@@ -36,7 +36,8 @@ returns c =
     record {
       walk =
           subst (IsWalk k) (sym (c.reverse.ensures.items ∙ ap (λ (l : List ℕ). reverse l) items))
-          (walk_of c.args.plan.now (heap_of c.args.slots.now) c.args.stack.now
-          (cursor_shown (heap_of c.args.slots.now) c.args.stack.now) k c.requires.is_open.stands
+          (walk_of c.args.plan.now (heap_of c.args.slots.now) c.args.plan.now.root FrameOwner.Root 0 k
+          c.requires.is_open.stands.holds c.requires.is_open.stands.left
+          (inl (cursor_shown (heap_of c.args.slots.now) c.args.stack.now, c.requires.is_open.stands.leads))
           (take (length c.args.places.now) c.spread.new.order) spread);
     }

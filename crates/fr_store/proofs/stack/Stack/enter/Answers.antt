@@ -1,5 +1,5 @@
-use Rattle.std.proofs.Common.{◌≡◌, ◌∙◌, ◌++◌, ◌∷◌, [], ◌<◌, ℕ, List, None, refl, sym, subst, ap}
-use Rattle.fr_store.specs.Common.{AllStayPut, IfInUse, IsOpenAt, Node, SameMarks, SameTokens, Shows, Slot, changed_here, child_owner, cursor_in, def_of, depth_below, depth_limit, heap_of, kid_here, marked, shape_of, tree_here, with_entered}
+use Rattle.std.proofs.Common.{◌≡◌, ◌∙◌, ◌++◌, ◌∷◌, [], ◌<◌, List, None, refl, sym, subst}
+use Rattle.fr_store.specs.Common.{AllStayPut, IfInUse, IsOpenAt, Node, SameMarks, SameTokens, Shows, Slot, changed_here, child_owner, cursor_in, def_of, depth_below, depth_limit, heap_of, kid_here, shape_of, tree_here, with_entered}
 use Rattle.fr_frame.specs.Growing.{MayEnter as MayBeEntered, number_by, widened}
 use Rattle.fr_store.specs.Moves.{child_number, entered_by}
 use Rattle.fr_store.proofs.ChildWays.{again, enters, kept_marked, may_be_entered}

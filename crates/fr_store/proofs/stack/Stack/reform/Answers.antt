@@ -12,7 +12,6 @@ pub returns-clause-reformed : goal.returns-clause-reformed
 returns-clause-reformed c =
     open_reformed c.args.plan.now c.args.slots.now c.reform.new.slots c.args.self.now c.requires.is_open c.in-Some.place.0
     c.in-Some.ensures.last (as_tracker c.args.tracker) c.requires.tracker c.requires.slice c.reform.ensures.reformed
-    c.reform.ensures.tokens
 
 pub returns-clause-places : goal.returns-clause-places
 returns-clause-places c =

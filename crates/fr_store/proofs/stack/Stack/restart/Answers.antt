@@ -1,6 +1,7 @@
-use Rattle.std.proofs.Common.{◌≡◌, ◌+◌, List, ℕ, sym, subst}
-use Rattle.fr_store.specs.Common.{Conserved, Err, IfInUse, IsKept, Node, Ok, OnErr, OnOk, Result, RoseBy, Shows, Slot, StoresNoMore, as_tracker, beneath, body_occurs, heap_of, slots_occur, slotted_occur, tokens_here, with_body}
-use Rattle.fr_frame.specs.Bodies.{restarted}
+use Rattle.std.proofs.Common.{List, ℕ, sym, subst}
+use Rattle.std.proofs.lemmas.Result.{on_ok_weaker}
+use Rattle.fr_store.specs.Common.{Conserved, IsKept, Slot, StoresNoMore, as_tracker, beneath, heap_of, slots_occur, slotted_occur}
+use Rattle.fr_store.proofs.Outcomes.{both_ok, both_refused, either_way}
 use Rattle.fr_store.proofs.ReleasedLaws.{conserved_by}
 use Rattle.fr_store.proofs.RestartLaws.{restart_kept, restart_marks, restart_open, restart_stay}
 use Rattle.fr_store.proofs.SetLaws.{top_rooted, prune_room, pruned_in_use, put_room, set_rose}
@@ -25,58 +26,30 @@ restart-requires-clause-room c =
     put_room c.args.plan.now c.args.slots.now c.args.self.now c.requires.is_open c.in-Some.place.0 c.in-Some.ensures.last
     c.prune.new.slots c.prune.ensures.pruned c.args.ledger.now c.prune.new.ledger c.requires.room c.prune.ensures.released
 
--- what is so where it went well, and where there was no memory
-on_ok : {A E : Type 0} (result : Result A E) (So Then : Type 0) → (So → Then) → OnOk result So → OnOk result Then
-on_ok (Ok x) So Then step so = step so
-on_ok (Err e) So Then step so = tt
-
-on_ok_both : {A E : Type 0} (result : Result A E) (So Too Then : Type 0) → (So → Too → Then) → OnOk result So → OnOk result Too
-    → OnOk result Then
-on_ok_both (Ok x) So Too Then step so too = step so too
-on_ok_both (Err e) So Too Then step so too = tt
-
-on_err_both : {A E : Type 0} (result : Result A E) (So Too Then : Type 0) → (So → Too → Then) → OnErr result So
-    → OnErr result Too → OnErr result Then
-on_err_both (Ok x) So Too Then step so too = tt
-on_err_both (Err e) So Too Then step so too = step so too
-
-either_way : {A E : Type 0} (result : Result A E) (So Else Then : Type 0) → (So → Then) → (Else → Then) → OnOk result So
-    → OnErr result Else → Then
-either_way (Ok x) So Else Then step back so refused = step so
-either_way (Err e) So Else Then step back so refused = back refused
-
 pub returns-clause-restarted : goal.returns-clause-restarted
 returns-clause-restarted c =
-    on_ok_both c.restart.result (Shows c.restart.new.slots
-    (with_body (heap_of c.prune.new.slots) c.in-Some.place.0 (restarted (as_tracker c.args.tracker) c.args.count)))
-    (IfInUse c.prune.new.slots c.in-Some.place.0
-    (λ (found : Node). (t : ℕ) → slots_occur c.prune.new.slots t ≡ slots_occur c.restart.new.slots t + body_occurs found.body t))
-    _ (λ shows tokens. restart_open c.args.plan.now c.args.slots.now c.args.self.now c.requires.is_open c.in-Some.place.0
+    both_ok c.restart.result
+    (λ shows tokens. restart_open c.args.plan.now c.args.slots.now c.args.self.now c.requires.is_open c.in-Some.place.0
     c.in-Some.ensures.last c.prune.new.slots c.prune.ensures.pruned (as_tracker c.args.tracker) c.args.count c.requires.may_have
     c.requires.base c.restart.new.slots shows c.prune.ensures.tokens tokens) c.restart.ensures.restarted c.restart.ensures.tokens
 
 pub returns-clause-places : goal.returns-clause-places
 returns-clause-places c =
-    on_ok c.restart.result (Shows c.restart.new.slots
-    (with_body (heap_of c.prune.new.slots) c.in-Some.place.0 (restarted (as_tracker c.args.tracker) c.args.count))) _
+    on_ok_weaker c.restart.result
     (λ shows. restart_stay c.args.plan.now c.args.slots.now c.args.self.now c.requires.is_open c.in-Some.place.0
     c.in-Some.ensures.last c.prune.new.slots c.prune.ensures.pruned (as_tracker c.args.tracker) c.args.count c.requires.may_have
     c.requires.base c.restart.new.slots shows) c.restart.ensures.restarted
 
 pub returns-clause-released : goal.returns-clause-released
 returns-clause-released c =
-    on_ok c.restart.result (IfInUse c.prune.new.slots c.in-Some.place.0
-    (λ (found : Node). RoseBy (body_occurs found.body) c.prune.new.ledger c.restart.new.ledger))
-    (RoseBy (tokens_here c.args.slots.now c.args.self.now) c.args.ledger.now c.restart.new.ledger)
+    on_ok_weaker c.restart.result
     (λ rose. set_rose c.args.plan.now c.args.slots.now c.args.self.now c.requires.is_open c.in-Some.place.0
     c.in-Some.ensures.last c.prune.new.slots c.prune.ensures.pruned c.args.ledger.now c.prune.new.ledger
     c.restart.new.ledger c.prune.ensures.released rose) c.restart.ensures.released
 
 pub returns-clause-kept : goal.returns-clause-kept
 returns-clause-kept c =
-    either_way c.restart.result (Shows c.restart.new.slots
-    (with_body (heap_of c.prune.new.slots) c.in-Some.place.0 (restarted (as_tracker c.args.tracker) c.args.count)))
-    (c.restart.new.slots ≡ c.prune.new.slots) (IsKept c.prune.new.self c.restart.new.slots)
+    either_way c.restart.result
     (λ shows. restart_kept c.args.plan.now c.args.slots.now c.args.self.now c.requires.is_open c.in-Some.place.0
     c.in-Some.ensures.last c.prune.new.slots c.prune.ensures.pruned (as_tracker c.args.tracker) c.args.count c.requires.may_have
     c.requires.base c.restart.new.slots shows c.prune.new.self c.prune.ensures.kept)
@@ -85,9 +58,7 @@ returns-clause-kept c =
 
 pub returns-clause-marks : goal.returns-clause-marks
 returns-clause-marks c =
-    either_way c.restart.result (Shows c.restart.new.slots
-    (with_body (heap_of c.prune.new.slots) c.in-Some.place.0 (restarted (as_tracker c.args.tracker) c.args.count)))
-    (c.restart.new.slots ≡ c.prune.new.slots) (StoresNoMore c.args.slots.now c.restart.new.slots)
+    either_way c.restart.result
     (λ shows. restart_marks c.args.plan.now c.args.slots.now c.args.self.now c.requires.is_open c.in-Some.place.0
     c.in-Some.ensures.last c.prune.new.slots c.prune.ensures.pruned (as_tracker c.args.tracker) c.args.count c.requires.may_have
     c.requires.base c.restart.new.slots shows c.prune.ensures.marks)
@@ -96,8 +67,7 @@ returns-clause-marks c =
 
 pub returns-clause-tokens : goal.returns-clause-tokens
 returns-clause-tokens c =
-    on_err_both c.restart.result (c.restart.new.slots ≡ c.prune.new.slots) (c.restart.new.ledger ≡ c.prune.new.ledger)
-    (Conserved (slots_occur c.args.slots.now) c.args.ledger.now (slots_occur c.restart.new.slots) c.restart.new.ledger)
+    both_refused c.restart.result
     (λ slots ledger. subst
     (λ (s : List Slot). Conserved (slots_occur c.args.slots.now) c.args.ledger.now (slots_occur s) c.restart.new.ledger)
     (sym slots) (subst

@@ -29,38 +29,30 @@ prune-requires t c =
     let found : slot_at (cells_found (heap_of c.loop-i.slots c.args.place.0)) c.loop-i.i ≡ Some c.in-Some.child.0
     = sym c.in-Some.ensures in (
       omega
-          (arith, c.decreases, next_falls c.args.place.0 c.args.slots.now c.requires.rooted c.args.ledger.now c.loop-i.i c.loop-i.self c.loop-i.slots c.loop-i.ledger c.loop-i.invariant c.in-Some.child.0 found),
+          (arith, c.decreases, next_falls c.loop-i.invariant c.requires.rooted c.in-Some.child.0 found),
       (
-        next_rooted c.args.place.0 c.args.slots.now c.requires.rooted c.args.ledger.now c.loop-i.i c.loop-i.self
-            c.loop-i.slots c.loop-i.ledger c.loop-i.invariant c.in-Some.child.0 found,
+        next_rooted c.loop-i.invariant c.requires.rooted c.in-Some.child.0 found,
         (
           c.loop-i.invariant.kept,
-          next_room c.args.place.0 c.args.slots.now c.requires.rooted c.args.ledger.now c.loop-i.i c.loop-i.self
-              c.loop-i.slots c.loop-i.ledger c.loop-i.invariant c.in-Some.child.0 found c.requires.room,
+          next_room c.loop-i.invariant c.requires.rooted c.in-Some.child.0 found c.requires.room,
         ),
       ),
     )
 
 pub remove-requires : goal.remove-requires
 remove-requires t c =
-    next_stored c.args.place.0 c.args.slots.now c.requires.rooted c.args.ledger.now c.loop-i.i c.loop-i.self c.loop-i.slots
-    c.loop-i.ledger c.loop-i.invariant c.in-Some.child.0 (sym c.in-Some.ensures) c.requires.room c.prune.new.self
-    c.prune.new.slots c.prune.new.ledger c.prune.ensures.pruned c.prune.ensures.released c.prune.ensures.tokens
-    c.prune.ensures.kept c.prune.ensures.marks
+    next_stored c.loop-i.invariant c.requires.rooted c.in-Some.child.0 (sym c.in-Some.ensures) c.prune.new.slots
+    c.prune.ensures.pruned c.prune.new.self c.prune.ensures.kept
 
 pub release_frame-requires-clause-in_use : goal.release_frame-requires-clause-in_use
 release_frame-requires-clause-in_use t c =
-    next_in_use c.args.place.0 c.args.slots.now c.requires.rooted c.args.ledger.now c.loop-i.i c.loop-i.self c.loop-i.slots
-    c.loop-i.ledger c.loop-i.invariant c.in-Some.child.0 (sym c.in-Some.ensures) c.requires.room c.prune.new.self
-    c.prune.new.slots c.prune.new.ledger c.prune.ensures.pruned c.prune.ensures.released c.prune.ensures.tokens
-    c.prune.ensures.kept c.prune.ensures.marks
+    next_in_use c.loop-i.invariant c.requires.rooted c.in-Some.child.0 (sym c.in-Some.ensures) c.prune.new.slots
+    c.prune.ensures.pruned
 
 pub release_frame-requires-clause-room : goal.release_frame-requires-clause-room
 release_frame-requires-clause-room t c =
-    frame_room c.args.place.0 c.args.slots.now c.requires.rooted c.args.ledger.now c.loop-i.i c.loop-i.self c.loop-i.slots
-    c.loop-i.ledger c.loop-i.invariant c.in-Some.child.0 (sym c.in-Some.ensures) c.requires.room c.prune.new.self
-    c.prune.new.slots c.prune.new.ledger c.prune.ensures.pruned c.prune.ensures.released c.prune.ensures.tokens
-    c.prune.ensures.kept c.prune.ensures.marks
+    frame_room c.loop-i.invariant c.requires.rooted c.in-Some.child.0 (sym c.in-Some.ensures) c.prune.new.slots
+    c.prune.ensures.pruned c.requires.room c.prune.new.ledger c.prune.ensures.released
 
 pub loop-i-preserved : goal.loop-i-preserved
 loop-i-preserved t c =
@@ -68,33 +60,27 @@ loop-i-preserved t c =
       | in-Some w ↦ pruning_same (suc c.loop-i.i) c.args.place.0 (c.loop-i.i + 1) w.remove.new.self c.match-slot_of_child.self
           c.args.slots.now w.release_frame.new.slots c.match-slot_of_child.slots c.args.ledger.now w.release_frame.new.ledger
           c.match-slot_of_child.ledger (omega arith) w.self-is w.slots-is w.ledger-is
-          (pruning_child c.args.place.0 c.args.slots.now c.requires.rooted c.args.ledger.now c.loop-i.i c.loop-i.self
-          c.loop-i.slots c.loop-i.ledger c.loop-i.invariant w.in-Some.child.0 (sym w.in-Some.ensures) c.requires.room
-          w.prune.new.self w.prune.new.slots w.prune.new.ledger w.prune.ensures.pruned w.prune.ensures.released
-          w.prune.ensures.tokens w.prune.ensures.kept w.prune.ensures.marks w.remove.new.self w.release_frame.new.slots
-          w.release_frame.new.ledger w.remove.ensures.rest w.release_frame.ensures.left w.release_frame.ensures.released
-          w.release_frame.ensures.tokens)
+          (pruning_child c.loop-i.invariant c.requires.rooted w.in-Some.child.0 (sym w.in-Some.ensures) w.prune.new.slots
+          w.prune.ensures.pruned w.prune.new.self w.prune.new.ledger w.prune.ensures.released w.prune.ensures.tokens
+          w.prune.ensures.kept w.prune.ensures.marks w.remove.new.self w.release_frame.new.slots w.release_frame.new.ledger
+          w.remove.ensures.rest w.release_frame.ensures.left w.release_frame.ensures.released w.release_frame.ensures.tokens)
       | in_default w ↦ pruning_same (suc c.loop-i.i) c.args.place.0 (c.loop-i.i + 1) c.loop-i.self c.match-slot_of_child.self
           c.args.slots.now c.loop-i.slots c.match-slot_of_child.slots c.args.ledger.now c.loop-i.ledger
           c.match-slot_of_child.ledger (omega arith) w.self-is w.slots-is w.ledger-is
-          (pruning_skips c.args.place.0 c.args.slots.now c.requires.rooted c.args.ledger.now c.loop-i.i c.loop-i.self
-          c.loop-i.slots c.loop-i.ledger c.loop-i.invariant (sym w.in_default.ensures))
+          (pruning_skips c.loop-i.invariant c.requires.rooted (sym w.in_default.ensures))
     ]
 
 pub returns-clause-pruned : goal.returns-clause-pruned
 returns-clause-pruned t c =
-    pruned_now c.args.place.0 c.args.slots.now c.requires.rooted c.args.ledger.now c.loop-i.i c.loop-i.self c.loop-i.slots
-    c.loop-i.ledger c.loop-i.invariant (omega (arith, c.loop-i.auto.i-end, c.loop-i-test.false, c.count_children-i-end.ensures))
+    pruned_now c.loop-i.invariant c.requires.rooted (omega (arith, c.loop-i.auto.i-end, c.loop-i-test.false, c.count_children-i-end.ensures))
 
 pub returns-clause-released : goal.returns-clause-released
 returns-clause-released t c =
-    released_now c.args.place.0 c.args.slots.now c.requires.rooted c.args.ledger.now c.loop-i.i c.loop-i.self c.loop-i.slots
-    c.loop-i.ledger c.loop-i.invariant (omega (arith, c.loop-i.auto.i-end, c.loop-i-test.false, c.count_children-i-end.ensures))
+    released_now c.loop-i.invariant c.requires.rooted (omega (arith, c.loop-i.auto.i-end, c.loop-i-test.false, c.count_children-i-end.ensures))
 
 pub returns-clause-tokens : goal.returns-clause-tokens
 returns-clause-tokens t c =
-    tokens_now c.args.place.0 c.args.slots.now c.requires.rooted c.args.ledger.now c.loop-i.i c.loop-i.self c.loop-i.slots
-    c.loop-i.ledger c.loop-i.invariant (omega (arith, c.loop-i.auto.i-end, c.loop-i-test.false, c.count_children-i-end.ensures))
+    tokens_now c.loop-i.invariant c.requires.rooted (omega (arith, c.loop-i.auto.i-end, c.loop-i-test.false, c.count_children-i-end.ensures))
 
 pub returns-clause-kept : goal.returns-clause-kept
 returns-clause-kept t c = c.loop-i.invariant.kept
