@@ -1,12 +1,12 @@
 -- The place above the one at which a builder works: whether it is a set, by the slot that the place on top knows as its owner's.
 use Rattle.std.proofs.Common.{◌≡◌, ◌+◌, ℕ, length, Bool, false, List, [], ◌∷◌, ◌++◌, Some, None, option_map, refl, sym, ◌∙◌, ap, subst}
-use Rattle.fr_partial.specs.Common.{Body, Cell, FrameOwner, IsLast, IsOpen, Kid, Node, Place, Plan, Slot, Tracker, Tree, Trees, at, begun, begun_body, begun_plot, body_of, cursor_in, entered_body, entered_plot, gone, heap_of, is_begun_dynamic, is_root, is_set, kid_shown, node_along, own_tree, tree_at, tree_of, trees_in, trees_of, up, whole_plot}
+use Rattle.fr_partial.specs.Common.{Body, Cell, FrameOwner, IsLast, IsOpen, Kid, Node, Place, Plan, Slot, Tracker, Tree, Trees, at, begun, begun_body, begun_plot, body_of, cursor_in, entered_body, entered_plot, heap_of, is_begun_dynamic, is_root, is_set, kid_shown, node_along, own_tree, tree_at, tree_of, trees_in, trees_of, up, whole_plot}
 use Rattle.fr_frame.specs.declared.places.Place.{Place as Entry}
 use Rattle.fr_frame.specs.declared.places.SlotId.{SlotId}
 use Rattle.fr_frame.specs.Heap.{node_of}
 use Rattle.fr_frame.specs.Outlines.{outline, outlined}
 use Rattle.fr_frame.specs.OutlineLaws.{found_outline, none_found as no_outline}
-use Rattle.fr_frame.specs.Kids.{there, cells_in, child_owner, Holds}
+use Rattle.fr_frame.specs.Kids.{cells_in, child_owner, Holds}
 use Rattle.fr_store.specs.HoldLaws.{holds_at}
 use Rattle.fr_store.specs.LeaveLaws.{below_root, owner_append, up_append}
 use Rattle.fr_store.specs.Moves.{tree_in_slots}

@@ -1,7 +1,7 @@
 -- A place by itself, as it is completed: what it takes memory for, and how many children it may have.
 use Rattle.std.proofs.Common.{◌≡◌, ℕ, Bool, true, false, ◌||◌, List, [], ◌∷◌, length, Option, Some, None, inl, inr, refl, sym, ◌∙◌, ap, subst}
 use Rattle.std.specs.Prelude.{is_none}
-use Rattle.fr_partial.specs.Common.{Body, Cell, ContentKind, ItemsKind, KeepsTracker, MayHave, MayHaveIts, Meanings, ReflectErrorKind, Rules, Table, Tracker, Val, Vals, WhyNot, absent, as_content, as_items, begun, begun_body, entered_body, given, needs_none_by, own_tree, placed, takes_memory, takes_no_memory, trees_of, whole_body}
+use Rattle.fr_partial.specs.Common.{Body, Cell, ItemsKind, KeepsTracker, MayHave, MayHaveIts, Meanings, ReflectErrorKind, Rules, Table, Tracker, Val, Vals, WhyNot, as_content, as_items, begun, begun_body, entered_body, given, needs_none_by, own_tree, takes_memory, takes_no_memory, trees_of, whole_body}
 use Rattle.fr_model.specs.Places.{one_more}
 use Rattle.fr_frame.specs.Bodies.{boxes, gathers}
 use Rattle.fr_frame.specs.Cells.{values_of}

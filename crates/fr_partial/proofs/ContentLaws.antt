@@ -82,7 +82,7 @@ side_full def tracker side h = by_side (λ (f : Tracker). IsFullAs def f 1) (has
 pub content_goes : (site : Site) (call : Call) (tracker : Started) (beginning wanted : Beginning) (kept : Option Tree)
     → value_brought call ≡ None → is_around (as_tracker tracker) ≡ true
     → IsFullAs (def_of site.shapes (shape_at site)) (as_tracker tracker) 1 → beginning ≡ wanted
-    → MayBegin wanted (as_tracker tracker) (cursor_tree site.state) → kept_by wanted (cursor_tree site.state) ≡ kept
+    → MayBegin wanted (as_tracker tracker) (cursor_tree site.state) → kept_by wanted (as_tracker tracker) (cursor_tree site.state) ≡ kept
     → ((hooks : Meanings) → step hooks site.shapes site.root site.state call
     ≡ Ok (enters site.shapes (shape_at site) site.state (Onward.Content (as_tracker tracker) kept)))
     → ComesTo site call (Move.Go (Way.Content tracker beginning))
@@ -91,7 +91,7 @@ content_goes site call tracker beginning wanted kept none around full is may kep
     (around, full, subst (λ (b : Beginning). MayBegin b (as_tracker tracker) (cursor_tree site.state)) (sym is) may) (λ hooks.
     means hooks
     ∙ ap (λ (k : Option Tree). Ok (enters site.shapes (shape_at site) site.state (Onward.Content (as_tracker tracker) k)))
-    (sym (ap (λ (b : Beginning). kept_by b (cursor_tree site.state)) is ∙ kept_is)))
+    (sym (ap (λ (b : Beginning). kept_by b (as_tracker tracker) (cursor_tree site.state)) is ∙ kept_is)))
 
 -- A place of such a definition has one content.
 

@@ -1,6 +1,6 @@
 -- Entering a child: the place may be begun, is begun around it, and the child's node is the plan's.
 use Rattle.std.proofs.Common.{◌≡◌, ℕ, zero, suc, ◌<◌, true, List, [], ◌∷◌, length, Option, Some, None, nat_lt, nat_le, if◌then◌else◌, option_map, unwrap_or, refl, sym, ◌∙◌, ap, subst, arith}
-use Rattle.fr_partial.specs.Common.{Def, Field, HasChild, IsFullAs, IsOfShape, Kid, Leads, MayOpen, Mode, NodeId, Operation, Place, Plan, Plot, Suits, Table, Tracker, Tree, TypePlanNode, Val, Vals, as_fields, at, begun, begun_plot, body_in, change_at, child_node, child_tree, count_trees, def_of, entered, entered_plot, field_refusal, fits, hole, holes, is_some, no_vals, node_along, opened_as, opened_value, option_or, parts_as, selected, shape_of, tree_in, tree_nth, tree_of, trees_in, unit, whole, whole_plot}
+use Rattle.fr_partial.specs.Common.{Def, Field, HasChild, IsFullAs, IsOfShape, Kid, Leads, MayOpen, Mode, NodeId, Operation, Place, Plan, Plot, Suits, Table, Tracker, Tree, TypePlanNode, Val, Vals, as_fields, at, begun, begun_plot, body_in, change_at, child_node, child_tree, count_trees, def_of, entered_plot, field_refusal, fits, holes, is_some, no_vals, node_along, opened_as, opened_value, option_or, parts_as, selected, shape_of, tree_in, tree_nth, tree_of, trees_in, unit, whole, whole_plot}
 use Rattle.fr_shape.specs.declared.shape.StructDef.{StructDef}
 use Rattle.fr_shape.specs.Fits.{fields_fit, count_vals}
 use Rattle.fr_shape.specs.Val.{product, first}

@@ -1,12 +1,13 @@
 -- Handing over the value that the place on top holds: whether it may be, what comes of it, and the path and the state then.
 use Rattle.std.proofs.Common.{◌≡◌, ℕ, Bool, true, false, List, [], ◌∷◌, ◌++◌, Result, Ok, Err, OnOk, Some, None, Option, IsErr, IsSome, IsOk, inl, inr, refl, sym, ◌∙◌, ap, subst}
-use Rattle.fr_partial.specs.Common.{AreOpen, AtTop, Became, Body, Frames, HoldsItsValue, IsOpenAt, IsServed, IsSomeAnd, MayReceive, Meanings, Node, PathStep, Place, Plan, ReflectErrorKind, Rules, SameMarks, Slot, State, Table, Tree, Val, body_in, change_at, complete, cursor_tree, heap_of, is_root, is_set, is_some, mode_of, needs_none_by, one_more_call, open_top, path_of, strict_column, takes_memory, takes_no_memory, top_place, top_shape, top_tree, tree_at, up, value_of, whole, whole_tree}
+use Rattle.fr_partial.specs.Common.{AreOpen, AtTop, Became, Body, Frames, HoldsItsValue, IsOpenAt, IsServed, IsSomeAnd, MayReceive, Meanings, Node, PathStep, Place, Plan, ReflectErrorKind, Rules, SameMarks, Slot, State, Table, Tree, Val, body_in, change_at, complete, cursor_tree, heap_of, is_root, is_set, is_some, needs_none_by, one_more_call, open_top, path_of, strict_column, takes_memory, takes_no_memory, top_place, top_shape, top_tree, tree_at, up, value_of, whole, whole_tree}
 use Rattle.fr_model.specs.Collections.{number_in, with_ended_item}
 use Rattle.fr_model.specs.PathLaws.{ChangingKeepsThePath, LeadAbove, LeavingDropsAStep, PathIsAsDeep}
 use Rattle.fr_model.specs.Paths.{steps_in}
 use Rattle.fr_store.specs.LeaveLaws.{below_root}
-use Rattle.fr_partial.specs.declared.moves.Taker.{Taker}
-use Rattle.fr_partial.specs.Ending.{column_of, place_then, tree_then, Handed, IsCompleted, IsHandedOver, IsPathThen, IsUncompleted}
+use Rattle.fr_frame.specs.declared.places.Taker.{Taker}
+use Rattle.fr_store.specs.Moves.{place_then, tree_then}
+use Rattle.fr_partial.specs.Ending.{column_of, Handed, IsCompleted, IsHandedOver, IsPathThen, IsUncompleted}
 use Rattle.fr_partial.specs.Moving.{completes, handed, handed_if, is_late_by, MayTake}
 use Rattle.fr_partial.proofs.HereLaws.{top_body}
 use Rattle.fr_partial.proofs.KeepLaws.{became_after, became_marked}
@@ -20,15 +21,14 @@ some_then (Some a) then holds = then a holds
 some_then None then holds = holds
 
 -- a value was handed over, by slots in which the same places are stored
-pub handed_over : {A E : Type 0} (result : Result A E) {taker by : Taker} {plan : Plan} {frames : Frames} (slots : List Slot)
-    (stack : List ℕ) → taker ≡ by → AreOpen plan frames → SameMarks frames.slots slots
+pub handed_over : {A E : Type 0} (result : Result A E) (taker : Taker) {plan : Plan} {frames : Frames} (slots : List Slot)
+    (stack : List ℕ) → AreOpen plan frames → SameMarks frames.slots slots
     → OnOk result (AtTop frames.slots frames.stack (λ at. (v : Val) → value_of at.body ≡ Some v
-    → IsOpenAt plan slots stack (place_then by (top_place frames)) (tree_then by (top_place frames) v (whole_tree frames))))
+    → IsOpenAt plan slots stack (place_then taker (top_place frames)) (tree_then taker (top_place frames) v (whole_tree frames))))
     → OnOk result (IsHandedOver taker plan frames (record frames { slots = slots; stack = stack }))
-handed_over (Err e) slots stack is shown marks over = over
-handed_over (Ok done) {taker} {by} {plan} {frames} slots stack is shown marks over =
-    subst (λ (x : Taker). IsHandedOver x plan frames (record frames { slots = slots; stack = stack })) (sym is) (λ n last.
-    some_then (heap_of frames.slots n) (λ (at : Node) ended v held. became_marked shown marks (ended v held)) (over n last))
+handed_over (Err e) taker slots stack shown marks over = over
+handed_over (Ok done) taker {plan} {frames} slots stack shown marks over =
+    λ n last. some_then (heap_of frames.slots n) (λ (at : Node) ended v held. became_marked shown marks (ended v held)) (over n last)
 
 -- what stood there before doesn't matter
 handed_twice : (taker : Taker) (now : Tree) (v : Val) (frames : Frames) → MayReceive taker frames
@@ -52,7 +52,7 @@ module _ {rules : Rules} {means : Meanings} {plan : Plan} {before between : Fram
         ∙ ap (λ (t : Tree). is_set (tree_at (up (top_place before)) t)) holds.changed.stands.built
         ∙ set_stays (top_place before) (λ old. holds.now) (whole_tree before) may.0 ∙ may.1,
   )
-  may_receive Taker.Itself may = ap (λ (f : Frames). mode_of f.mode) holds.changed.same ∙ may
+  may_receive Taker.Itself may = tt
 
   at_top : (So : Body → Type 0) → AtTop between.slots between.stack (λ at. So at.body)
       → So (body_in (open_top plan between.slots between.stack holds.changed.stands.open_still).plot)

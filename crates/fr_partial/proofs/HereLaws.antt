@@ -1,22 +1,11 @@
 -- The body of the place on top, by what stands there.
 use Rattle.std.proofs.Common.{◌≡◌, ℕ, false, List, Option, Some, IsSome, is_some, sym, ◌∙◌, ap, subst}
-use Rattle.fr_partial.specs.Common.{AtTop, Body, Def, IsOpen, IsSomeAnd, IsWholeSome, MayOpen, MayOpenAs, Node, Plan, Plot, Slot, Tracker, Tree, Val, begun_plot, body_in, entered_plot, open_top, takes_memory, tree_here, tree_in, value_of, whole, whole_plot}
-use Rattle.fr_frame.specs.Bodies.{HoldsArray, HoldsObject, HoldsSome}
-use Rattle.fr_partial.specs.declared.dynamic_places.Parts.{Parts}
-use Rattle.fr_partial.proofs.DynamicLaws.{has_elements, has_entries, IsWholeWith}
+use Rattle.fr_partial.specs.Common.{AtTop, Body, Def, IsOpen, IsSomeAnd, IsWholeWith, MayOpen, MayOpenAs, Node, Plan, Plot, Slot, Tracker, Tree, Val, body_in, open_top, takes_memory, tree_here, tree_in, value_of, whole, whole_plot}
 use Rattle.fr_partial.proofs.PlaceLaws.{here_found, plot_here}
 
-some_plot : (plot : Plot) → IsWholeSome (tree_in plot) → HoldsSome (body_in plot)
-some_plot (whole_plot v) h = h
-some_plot _ h = absurd h
-
-elements_plot : (plot : Plot) → IsWholeWith Parts.Elements (tree_in plot) → HoldsArray (body_in plot)
-elements_plot (whole_plot v) h = has_elements v h
-elements_plot _ h = absurd h
-
-entries_plot : (plot : Plot) → IsWholeWith Parts.Entries (tree_in plot) → HoldsObject (body_in plot)
-entries_plot (whole_plot v) h = has_entries v h
-entries_plot _ h = absurd h
+parts_plot : (tracker : Tracker) (plot : Plot) → IsWholeWith tracker (tree_in plot) → MayOpen tracker (body_in plot)
+parts_plot tracker (whole_plot v) h = h
+parts_plot tracker _ h = absurd h
 
 value_plot : (plot : Plot) (v : Val) → tree_in plot ≡ whole v → plot ≡ whole_plot v
 value_plot (whole_plot w) v e = let same : w ≡ v = cc in ap whole_plot same
@@ -47,14 +36,8 @@ module _ {plan : Plan} {slots : List Slot} {stack : List ℕ} (shown : IsOpen pl
       (sym (here_found plan slots stack shown n last))
       (each (open_top plan slots stack shown).plot (subst So (sym (plot_here plan slots stack shown)) so))
 
-  pub holds_some : IsWholeSome (tree_here slots stack) → AtTop slots stack (λ (at : Node). HoldsSome at.body)
-  holds_some = body_here IsWholeSome HoldsSome some_plot
-
-  pub holds_elements : IsWholeWith Parts.Elements (tree_here slots stack) → AtTop slots stack (λ (at : Node). HoldsArray at.body)
-  holds_elements = body_here (IsWholeWith Parts.Elements) HoldsArray elements_plot
-
-  pub holds_entries : IsWholeWith Parts.Entries (tree_here slots stack) → AtTop slots stack (λ (at : Node). HoldsObject at.body)
-  holds_entries = body_here (IsWholeWith Parts.Entries) HoldsObject entries_plot
+  pub may_open_with : (tracker : Tracker) → IsWholeWith tracker (tree_here slots stack) → AtTop slots stack (λ (at : Node). MayOpen tracker at.body)
+  may_open_with tracker = body_here (IsWholeWith tracker) (MayOpen tracker) (parts_plot tracker)
 
   pub may_open_here : (def : Def) (tracker : Tracker) (count : ℕ) → MayOpenAs def tracker count (tree_here slots stack)
       → AtTop slots stack (λ (at : Node). MayOpen tracker at.body)

@@ -1,13 +1,14 @@
 -- What is kept of a place where it is begun, and what it is then.
-use Rattle.std.proofs.Common.{◌≡◌, ℕ, List, Bool, true, false, ◌&&◌, length, nat_eq, Option, Some, None, Result, Ok, Err, OnOk, is_some, IsSome, unwrap_or, if◌then◌else◌, refl, sym, ◌∙◌, ap, subst, arith}
+use Rattle.std.proofs.Common.{◌≡◌, ℕ, List, Bool, true, false, ◌&&◌, length, nat_eq, Option, Some, None, option_map, Result, Ok, Err, OnOk, is_some, IsSome, unwrap_or, if◌then◌else◌, refl, sym, ◌∙◌, ap, subst, arith}
 use Rattle.std.proofs.lemmas.Bool.{eqb-true}
-use Rattle.fr_partial.specs.Common.{Beginning, ContentKind, Def, HasChild, IsFullAs, IsWholeSome, MayHave, Mode, PointsRightly, Suits, Table, Tracker, Tree, Trees, Val, as_content, as_fields, base_of_tracker, beginning_in, beginning_of_some, beginning_so, begun, begun_by, branch, change_child, child_as, count_trees, def_of, deferred, enter, entered, fresh, hole, holes, is_around, kept_so, no_trees, strict, variant_anew, variant_fields, whole}
+use Rattle.fr_partial.specs.Common.{Beginning, ContentKind, Def, HasChild, IsFullAs, IsWholeWith, MayHave, Mode, PointsRightly, Suits, Table, Tracker, Tree, Trees, Val, as_content, as_fields, base_of_tracker, beginning_in, beginning_of_some, beginning_so, begun, begun_by, branch, change_child, child_as, count_trees, def_of, deferred, enter, entered, fresh, hole, holes, is_around, is_begun, kept_so, no_trees, strict, variant_anew, variant_fields, whole}
 use Rattle.fr_model.specs.Contents.{around, content_anew, content_of, is_entered_in_place, kept_in, kept_option}
 use Rattle.fr_model.specs.StateCode.{tracker_comes_back, tracker_numbered}
 use Rattle.fr_model.specs.PathLaws.{HasBegunAs, IsKeptAs}
 use Rattle.fr_model.specs.Trackers.{tracker_number, same_tracker, keys_of_tracker, same_keys}
 use Rattle.fr_model.specs.Well.{HasContent, IsBegunRightly, IsContent, PointsTo}
-use Rattle.fr_store.specs.Moves.{around_content, around_some}
+use Rattle.fr_model.specs.Entering.{opened_as, opened_value, parts_as}
+use Rattle.fr_shape.specs.Val.{first, no_vals, some}
 use Rattle.fr_partial.specs.Beginnings.{kept_by, MayBegin}
 use Rattle.fr_partial.proofs.BelowLaws.{of_content}
 use Rattle.fr_partial.proofs.TrackerLaws.{IsFullTree}
@@ -39,27 +40,29 @@ same_is one other h same =
 
 -- What is kept.
 
-kept_if : (b : Bool) (tree : Tree) → kept_by (if b then Beginning.AsItIs else Beginning.Anew) tree ≡ (if b then Some tree else None)
-kept_if true tree = refl
-kept_if false tree = refl
+kept_if : (b : Bool) (tracker : Tracker) (tree : Tree)
+    → kept_by (if b then Beginning.AsItIs else Beginning.Anew) tracker tree ≡ (if b then Some tree else None)
+kept_if true tracker tree = refl
+kept_if false tracker tree = refl
 
-pub kept_so_is : (tracker : Tracker) (tree : Tree) → kept_by (beginning_so tracker tree) tree ≡ kept_so tracker tree
-kept_so_is tracker (begun made ts) = kept_if (same_tracker made tracker) (begun made ts)
+pub kept_so_is : (tracker : Tracker) (tree : Tree) → kept_by (beginning_so tracker tree) tracker tree ≡ kept_so tracker tree
+kept_so_is tracker (begun made ts) = kept_if (same_tracker made tracker) tracker (begun made ts)
 kept_so_is tracker _ = refl
 
-pub kept_in_is : (mode : Mode) (tracker : Tracker) (tree : Tree) → kept_by (beginning_in mode tracker tree) tree ≡ kept_in mode tracker tree
+pub kept_in_is : (mode : Mode) (tracker : Tracker) (tree : Tree) → kept_by (beginning_in mode tracker tree) tracker tree ≡ kept_in mode tracker tree
 kept_in_is strict tracker tree = refl
 kept_in_is (deferred start) tracker tree = kept_so_is tracker tree
 
 pub kept_some_is : (mode : Mode) (content : Def) (tree : Tree)
-    → kept_by (beginning_of_some mode content tree) tree ≡ kept_option mode content tree
+    → kept_by (beginning_of_some mode content tree) (as_content ContentKind.Some) tree ≡ kept_option mode content tree
 kept_some_is mode content hole = refl
 kept_some_is mode content entered = refl
 kept_some_is mode content (whole v) = go (is_entered_in_place mode content) (content_of v) refl refl
   where
     go : (b : Bool) (held : Option Val) → is_entered_in_place mode content ≡ b → content_of v ≡ held
-        → kept_by (beginning_of_some mode content (whole v)) (whole v) ≡ kept_option mode content (whole v)
-    go true (Some w) h e = rw (h, e) (ap (λ (held : Option Val). Some (around_content held (whole v))) e)
+        → kept_by (beginning_of_some mode content (whole v)) (as_content ContentKind.Some) (whole v) ≡ kept_option mode content (whole v)
+    go true (Some w) h e =
+        rw (h, e) (ap (λ (held : Option Val). Some (opened_value (as_content ContentKind.Some) v (option_map (λ (x : Val). first x no_vals) held))) e)
     go true None h e = rw (h, e) refl
     go false held h e = rw h refl
 kept_some_is mode content (begun made ts) = kept_in_is mode (as_content ContentKind.Some) (begun made ts)
@@ -116,30 +119,36 @@ may_begin_some mode content def (whole v) full = go (is_entered_in_place mode co
   where
     go : (b : Bool) (held : Option Val) → is_entered_in_place mode content ≡ b → content_of v ≡ held
         → MayBegin (beginning_of_some mode content (whole v)) (as_content ContentKind.Some) (whole v)
-    go true (Some w) h e = rw (h, e) (ap is_some e, refl)
+    go true (Some w) h e = rw (h, e) (ap (λ (found : Option Val). is_some (option_map (λ (x : Val). first x no_vals) found)) e, refl)
     go true None h e = rw (h, e) tt
     go false held h e = rw h tt
 may_begin_some mode content def (begun made ts) full = may_begin_in mode (as_content ContentKind.Some) refl def (begun made ts) full
 
--- nothing is begun in place but a whole `Some`
+-- nothing is begun in place but a whole value that has parts for that
 pub whole_some : (beginning : Beginning) (tracker : Tracker) (tree : Tree) → MayBegin beginning tracker tree
-    → beginning ≡ Beginning.InPlace → IsWholeSome tree
+    → beginning ≡ Beginning.InPlace → IsWholeWith tracker tree
 whole_some Beginning.InPlace tracker tree may e = may.0
 whole_some _ tracker tree may e = cc
 
 -- What it is then.
 
--- one that is whole holds its content
-held_there : (held : Option Val) → IsSome held → (w : Val) × (held ≡ Some w)
-held_there (Some w) h = (w, refl)
-held_there None h = cc
+-- one that is whole is begun around its content, which stays as it is when it is entered
+record IsBegunAround (tracker : Tracker) (v : Val) : Type 0 where
+  has : HasChild tracker 0 (opened_as tracker 1 (whole v))
+  stays : (def : Def) → change_child 0 (enter def) (opened_as tracker 1 (whole v)) ≡ opened_as tracker 1 (whole v)
+
+some_begun : (v : Val) → IsSome (parts_as (as_content ContentKind.Some) v) → IsBegunAround (as_content ContentKind.Some) v
+some_begun (some held) h = record { has = (refl, omega arith); stays = λ def. refl }
+some_begun _ h = absurd (cc)
+
+begun_around : (tracker : Tracker) (v : Val) → MayBegin Beginning.InPlace tracker (whole v) → IsBegunAround tracker v
+begun_around tracker v may =
+    subst (λ (f : Tracker). IsBegunAround f v) (sym may.1) (some_begun v (subst (λ (f : Tracker). IsSome (parts_as f v)) may.1 may.0))
 
 pub has_content : (beginning : Beginning) (tracker : Tracker) (tree : Tree) → MayBegin beginning tracker tree
     → HasChild tracker 0 (begun_by beginning tracker 1 tree)
 has_content Beginning.AsItIs tracker tree may = may
-has_content Beginning.InPlace tracker (whole v) may =
-    let held = held_there (content_of v) may.0 in
-    rw held.1 (sym may.1, omega arith)
+has_content Beginning.InPlace tracker (whole v) may = (begun_around tracker v may).has
 has_content Beginning.Anew tracker tree may = (refl, omega arith)
 has_content Beginning.InPlace tracker _ may = absurd may.0
 
@@ -149,10 +158,10 @@ child_tracker tracker i _ has = absurd has
 
 -- what is kept is begun so
 pub kept_as_tracker : (beginning : Beginning) (tracker : Tracker) (tree : Tree) → MayBegin beginning tracker tree
-    → IsKeptAs tracker (kept_by beginning tree)
+    → IsKeptAs tracker (kept_by beginning tracker tree)
 kept_as_tracker Beginning.AsItIs tracker tree may = child_tracker tracker 0 tree may
 kept_as_tracker Beginning.InPlace tracker tree may =
-    child_tracker tracker 0 (around_some tree) (has_content Beginning.InPlace tracker tree may)
+    child_tracker tracker 0 (opened_as tracker 1 tree) (has_content Beginning.InPlace tracker tree may)
 kept_as_tracker Beginning.Anew tracker tree may = tt
 
 -- the content of a place that is rightly begun is no hole
@@ -170,11 +179,9 @@ content_stays table s tracker h t ts right def =
 pub content_so : (table : Table) (s : ℕ) (beginning : Beginning) (tracker : Tracker) → is_around tracker ≡ true → (tree : Tree)
     → MayBegin beginning tracker tree → Suits table s tree → (def : Def) → def ≡ def_of table (child_as table s tracker 0)
     → change_child 0 (enter def) (begun_by beginning tracker 1 tree)
-    ≡ unwrap_or (kept_by beginning tree) (content_anew table s tracker)
+    ≡ unwrap_or (kept_by beginning tracker tree) (content_anew table s tracker)
 content_so table s Beginning.Anew tracker h tree may suits def is = ap (λ (d : Def). around tracker (fresh d)) is
-content_so table s Beginning.InPlace tracker h (whole v) may suits def is =
-    let held = held_there (content_of v) may.0 in
-    rw held.1 refl
+content_so table s Beginning.InPlace tracker h (whole v) may suits def is = (begun_around tracker v may).stays def
 content_so table s Beginning.AsItIs tracker h (begun made (branch t ts)) may suits def is =
     ap (λ (x : Tree). begun made (branch x ts)) (content_stays table s tracker h t ts
     (subst (λ (f : Tracker). IsBegunRightly table s f (branch t ts)) may.0 suits.2) def)
@@ -182,19 +189,29 @@ content_so table s Beginning.AsItIs tracker h (begun made no_trees) may suits de
 content_so table s Beginning.AsItIs tracker h _ may suits def is = absurd may
 content_so table s Beginning.InPlace tracker h _ may suits def is = absurd may.0
 
-begun_is : (beginning : Beginning) (tracker : Tracker) (count : ℕ) (tree : Tree)
-    → begun_by beginning tracker count tree ≡ unwrap_or (kept_by beginning tree) (begun tracker (holes count))
-begun_is Beginning.AsItIs tracker count tree = refl
-begun_is _ tracker count tree = refl
+begun_if : (b : Bool) (tracker : Tracker) (count : ℕ) (tree : Tree)
+    → begun_by (if b then Beginning.AsItIs else Beginning.Anew) tracker count tree
+    ≡ unwrap_or (if b then Some tree else None) (begun tracker (holes count))
+begun_if true tracker count tree = refl
+begun_if false tracker count tree = refl
+
+begun_so : (tracker : Tracker) (count : ℕ) (tree : Tree)
+    → begun_by (beginning_so tracker tree) tracker count tree ≡ unwrap_or (kept_so tracker tree) (begun tracker (holes count))
+begun_so tracker count (begun made ts) = begun_if (same_tracker made tracker) tracker count (begun made ts)
+begun_so tracker count _ = refl
 
 -- begun as a variant
 pub variant_so : (def : Def) (k count : ℕ) (tree : Tree) → count ≡ length (variant_fields def k)
     → begun_by (beginning_so (as_fields (Some k)) tree) (as_fields (Some k)) count tree
     ≡ unwrap_or (kept_so (as_fields (Some k)) tree) (variant_anew def k)
 variant_so def k count tree counts =
-    begun_is (beginning_so (as_fields (Some k)) tree) (as_fields (Some k)) count tree
-    ∙ ap (λ (kept : Option Tree). unwrap_or kept (begun (as_fields (Some k)) (holes count))) (kept_so_is (as_fields (Some k)) tree)
+    begun_so (as_fields (Some k)) count tree
     ∙ ap (λ (n : ℕ). unwrap_or (kept_so (as_fields (Some k)) tree) (begun (as_fields (Some k)) (holes n))) counts
+
+-- a place that is begun isn't whole
+pub never_begun : (tracker : Tracker) (tree : Tree) → IsWholeWith tracker tree → is_begun tree ≡ true → ⊥
+never_begun tracker (whole v) h is = cc
+never_begun tracker _ h is = h
 
 -- what holds where there is an answer
 pub on_ok : {A E : Type 0} {P Q : Type 0} → (result : Result A E) → (P → Q) → OnOk result P → OnOk result Q

@@ -1,6 +1,6 @@
 -- Maps and sets: how they come to be begun, what a key, a value and an item add, and what each is refused for.
 use Rattle.std.proofs.Common.{◌≡◌, ℕ, zero, suc, ◌-◌, ◌%◌, Bool, true, false, List, [], ◌∷◌, length, slice_get, Some, None, refl, ◌∙◌, ap, arith}
-use Rattle.fr_partial.specs.Common.{Cell, Def, EntriesKind, HasChild, HasItems, IsFullAs, Operation, Table, Tracker, Tree, Trees, Val, absent, and_last, as_entries, begun, branch, change_child, child_as, child_tree, count_below, count_trees, def_of, ends_absent, enter, fresh, given, hole, is_map, is_map_tracker, lacks_value, no_trees, placed, tree_nth, value_refusal}
+use Rattle.fr_partial.specs.Common.{Cell, Def, EntriesKind, HasChild, HasItems, IsFullAs, Operation, Table, Tracker, Tree, Trees, Val, absent, and_last, as_entries, begun, branch, change_child, child_as, child_tree, count_below, count_trees, def_of, ends_absent, enter, fresh, hole, is_map, is_map_tracker, lacks_value, no_trees, tree_nth, value_refusal}
 use Rattle.fr_model.specs.Collections.{ends_in_hole, is_hole, last_of, with_key}
 use Rattle.fr_model.specs.Places.{is_key}
 use Rattle.fr_model.specs.Step.{enter_child}

@@ -1,7 +1,7 @@
 -- The shape of each node of a plan is one that the root reaches, and where slots lead their tree leads.
 use Rattle.std.proofs.Common.{◌≡◌, ℕ, zero, suc, List, [], ◌∷◌, Some, slice_get, refl, sym, ◌∙◌, ap, subst}
 use Rattle.std.specs.List.{AllZip}
-use Rattle.fr_partial.specs.Common.{IsChecked, IsIn, IsOfShape, IsPlanOf, Kid, Leads, NodeId, OffBut, Place, Plan, ShapeId, Table, Trees, at, begun_plot, branch, deferred, entered_plot, gone, no_trees, tree_of, trees_in, whole_plot}
+use Rattle.fr_partial.specs.Common.{IsChecked, IsIn, IsOfShape, IsPlanOf, Kid, Leads, NodeId, OffBut, Place, Plan, ShapeId, Table, Trees, at, begun_plot, branch, deferred, gone, no_trees, tree_of, trees_in}
 use Rattle.fr_shape.specs.Plannable.{Reached}
 use Rattle.fr_model.specs.Well.{AllOff}
 use Rattle.fr_plan.specs.declared.outlines.Outline.{Outline}

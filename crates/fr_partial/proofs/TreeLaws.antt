@@ -1,6 +1,6 @@
 -- Changes at one place of a tree, and how often a token stands there.
 use Rattle.std.proofs.Common.{◌≡◌, ℕ, zero, suc, ◌+◌, false, [], ◌∷◌, ◌++◌, refl, sym, ◌∙◌, ap, arith}
-use Rattle.fr_partial.specs.Common.{Leads, Mode, OffBut, Place, Table, Tree, Trees, Val, begun, branch, change_at, change_child, child_as, entered, hole, holes, is_root, is_set, no_trees, shape_in, tree_at, tree_nth, tree_occurs, up, whole}
+use Rattle.fr_partial.specs.Common.{Leads, Mode, OffBut, Place, Table, Tree, Trees, Val, begun, branch, change_at, change_child, child_as, holes, is_root, is_set, no_trees, shape_in, tree_at, tree_nth, tree_occurs, up, whole}
 use Rattle.fr_model.specs.Collections.{and_item, number_in, with_ended_item, without_nth}
 use Rattle.fr_model.specs.Tree.{change_nth, trees_occur}
 

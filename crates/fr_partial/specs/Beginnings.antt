@@ -5,19 +5,20 @@ use Rattle.fr_model.specs.Commands.{Call}
 use Rattle.fr_model.specs.Contents.{content_of, is_entered_in_place}
 use Rattle.fr_model.specs.Trackers.{Tracker, as_content, ContentKind, same_tracker}
 use Rattle.fr_model.specs.Tree.{Tree, hole, entered, whole, begun, holes, Mode, strict, deferred}
-use Rattle.fr_store.specs.Moves.{around_some, HasChild}
+use Rattle.fr_model.specs.Entering.{opened_as, parts_as}
+use Rattle.fr_store.specs.Moves.{HasChild}
 use Rattle.fr_partial.specs.declared.beginning.Beginning.{Beginning}
 
--- what is kept of what stands there
-abbrev pub kept_by : Beginning → Tree → Option Tree
-kept_by Beginning.AsItIs tree = Some tree
-kept_by Beginning.InPlace tree = Some (around_some tree)
-kept_by Beginning.Anew tree = None
+-- what is kept of what stands there, where it comes to be begun so
+abbrev pub kept_by : Beginning → Tracker → Tree → Option Tree
+kept_by Beginning.AsItIs tracker tree = Some tree
+kept_by Beginning.InPlace tracker tree = Some (opened_as tracker 1 tree)
+kept_by Beginning.Anew tracker tree = None
 
 -- the place then, of which no child was entered yet: one that starts anew has so many holes
 abbrev pub begun_by : Beginning → Tracker → (count : ℕ) → Tree → Tree
 begun_by Beginning.AsItIs tracker count tree = tree
-begun_by Beginning.InPlace tracker count tree = around_some tree
+begun_by Beginning.InPlace tracker count tree = opened_as tracker count tree
 begun_by Beginning.Anew tracker count tree = begun tracker (holes count)
 
 -- what is begun just so stays as it is, and anything else starts anew
@@ -40,18 +41,18 @@ beginning_of_some mode content (whole v) =
     if is_entered_in_place mode content && is_some (content_of v) then Beginning.InPlace else Beginning.Anew
 beginning_of_some mode content (begun made children) = beginning_in mode (as_content ContentKind.Some) (begun made children)
 
--- a whole `Some` stands there
-abbrev pub IsWholeSome : Tree → Type 0
-IsWholeSome hole = ⊥
-IsWholeSome entered = ⊥
-IsWholeSome (whole v) = IsSome (content_of v)
-IsWholeSome (begun tracker children) = ⊥
+-- a whole value stands there that has parts for the children of a place that is begun so
+abbrev pub IsWholeWith : Tracker → Tree → Type 0
+IsWholeWith tracker hole = ⊥
+IsWholeWith tracker entered = ⊥
+IsWholeWith tracker (whole v) = IsSome (parts_as tracker v)
+IsWholeWith tracker (begun made children) = ⊥
 
 -- a place with a content may come to be begun so around it: one that stays as it is has the content already, and in place only a
 -- whole `Some` is begun
 abbrev pub MayBegin : Beginning → Tracker → Tree → Type 0
 MayBegin Beginning.AsItIs tracker tree = HasChild tracker 0 tree
-MayBegin Beginning.InPlace tracker tree = IsWholeSome tree × (tracker ≡ as_content ContentKind.Some)
+MayBegin Beginning.InPlace tracker tree = IsWholeWith tracker tree × (tracker ≡ as_content ContentKind.Some)
 MayBegin Beginning.Anew tracker tree = Unit {0}
 
 -- a place is begun so around one side of a result

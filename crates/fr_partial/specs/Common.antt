@@ -20,11 +20,11 @@ pub use Rattle.fr_model.specs.Places.{Place, content_shape, is_root, strict_colu
 pub use Rattle.fr_model.specs.Run.{unsized_refusal}
 pub use Rattle.fr_model.specs.Served.{IsServed}
 pub use Rattle.fr_model.specs.Step.{at_shape, enter, field_default, field_refusal, init_list_refusal, init_map_refusal, init_set_refusal, named_refusal, opened, opened_as, opened_value, operation_failed, parts_as, put_child, step, takes_shape, unless_refused}
-pub use Rattle.fr_model.specs.Trackers.{ContentKind, EntriesKind, ItemsKind, Tracker, as_content, as_elements, as_entries, as_fields, as_items, base_of_tracker}
+pub use Rattle.fr_model.specs.Trackers.{ContentKind, EntriesKind, ItemsKind, Tracker, as_content, as_elements, as_entries, as_fields, as_items, base_of_tracker, keys_of_tracker}
 pub use Rattle.fr_model.specs.Tree.{Mode, State, Tree, Trees, and_last, begun, branch, change_at, change_child, child_as, child_tree, count_below, count_trees, cursor_tree, deferred, entered, fresh, hole, holes, no_trees, one_more_call, selected, shape_in, strict, tracker_at, tracker_of, tree_at, tree_nth, tree_occurs, whole}
 pub use Rattle.fr_model.specs.Variants.{field_found, variant_fields, variant_named, variant_told_by}
 pub use Rattle.fr_model.specs.Well.{IsFullAs, IsInOrder, Leads, OffBut, RestsAround, Suits}
-pub use Rattle.fr_partial.specs.Beginnings.{IsWholeSome, beginning_in, beginning_of_some, beginning_so, begun_by, side_call}
+pub use Rattle.fr_partial.specs.Beginnings.{IsWholeWith, beginning_in, beginning_of_some, beginning_so, begun_by, side_call}
 pub use Rattle.fr_partial.specs.Builder.{Builder, IsCall, IsNotOutOfMemory, holds}
 pub use Rattle.fr_partial.specs.Conversions.{IsUnconverted, are_octets, copies_to_convert}
 pub use Rattle.fr_partial.specs.DynamicBeginnings.{anew_as, kept_as}

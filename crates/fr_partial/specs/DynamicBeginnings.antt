@@ -1,6 +1,7 @@
 -- How a dynamic place comes to be begun as an array or an object: what of it is kept, and what it is then.
-use Rattle.std.specs.Prelude.{Option, is_some, if◌then◌else◌}
+use Rattle.std.specs.Prelude.{Option, [], is_some, if◌then◌else◌}
 use Rattle.fr_model.specs.DynamicPlaces.{array_anew, kept_array, kept_object, object_anew}
+use Rattle.fr_model.specs.Trackers.{Tracker, as_items, ItemsKind, as_entries, EntriesKind}
 use Rattle.fr_model.specs.Tree.{Tree, hole, entered, whole, begun}
 use Rattle.fr_partial.specs.declared.beginning.Beginning.{Beginning}
 use Rattle.fr_partial.specs.declared.dynamic_places.Parts.{Parts}
@@ -9,6 +10,11 @@ use Rattle.fr_partial.specs.declared.dynamic_places.Parts.{Parts}
 abbrev pub kept_as : Parts → Tree → Option Tree
 kept_as Parts.Elements tree = kept_array tree
 kept_as Parts.Entries tree = kept_object tree
+
+-- as what it is begun with such parts, none of which is there
+abbrev pub tracker_with : Parts → Tracker
+tracker_with Parts.Elements = as_items ItemsKind.Array
+tracker_with Parts.Entries = as_entries (EntriesKind.Object [])
 
 -- where nothing is kept it has no parts
 abbrev pub anew_as : Parts → Tree

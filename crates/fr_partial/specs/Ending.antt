@@ -5,24 +5,23 @@ use Rattle.fr_shape.specs.Hooks.{Meanings}
 use Rattle.fr_shape.specs.Look.{Table}
 use Rattle.fr_shape.specs.Val.{Val}
 use Rattle.fr_path.specs.declared.path_steps.PathStep.{PathStep}
-use Rattle.fr_model.specs.Collections.{is_set, number_in, with_ended_item}
 use Rattle.fr_model.specs.Commands.{Call}
 use Rattle.fr_model.specs.Complete.{complete}
 use Rattle.fr_model.specs.Contents.{is_deferred}
 use Rattle.fr_model.specs.Items.{is_open_slice}
-use Rattle.fr_model.specs.Places.{Column, strict_column, deferred_column, Place, is_root, up}
+use Rattle.fr_model.specs.Places.{Column, strict_column, deferred_column, Place}
 use Rattle.fr_model.specs.Step.{cause, cause_by, is_dynamic_part, is_set_item}
-use Rattle.fr_model.specs.Tree.{Tree, whole, tree_at, change_at, Mode, strict, deferred, State, cursor_tree}
+use Rattle.fr_model.specs.Tree.{Tree, Mode, strict, State, cursor_tree}
 use Rattle.fr_plan.specs.TypePlan.{Plan}
 use Rattle.fr_frame.specs.Bodies.{takes_memory, value_of}
 use Rattle.fr_frame.specs.Completing.{IsOfValidator}
 use Rattle.fr_partial.specs.declared.moves.Rules.{Rules}
-use Rattle.fr_partial.specs.declared.moves.Taker.{Taker}
+use Rattle.fr_frame.specs.declared.places.Taker.{Taker}
 use Rattle.fr_partial.specs.declared.work.Frames.{Frames}
 use Rattle.fr_partial.specs.Filling.{takes_no_memory}
-use Rattle.fr_partial.specs.Modes.{is_below_start, mode_of, IsBelowStart}
+use Rattle.fr_partial.specs.Modes.{is_below_start, IsBelowStart}
 use Rattle.fr_partial.specs.Underway.{top_place, top_shape, top_tree, whole_tree, Became, Changed}
-use Rattle.fr_store.specs.Moves.{AtTop}
+use Rattle.fr_store.specs.Moves.{AtTop, place_then, tree_then, MayHandOver}
 
 abbrev pub column_of : Rules → Column
 column_of Rules.Strict = strict_column
@@ -33,25 +32,9 @@ abbrev pub RulesServe : Rules → Mode → (cursor : Place) → Type 0
 RulesServe Rules.Strict mode cursor = mode ≡ strict
 RulesServe Rules.Deferred mode cursor = IsBelowStart mode cursor
 
--- the value of the place on top may go there: up from a place below the root, to a set from one of its items, and it stays in strict
--- mode alone
+-- the value of the place on top may go there
 abbrev pub MayReceive : Taker → Frames → Type 0
-MayReceive Taker.Above frames = is_root (top_place frames) ≡ false
-MayReceive Taker.Set frames =
-    (is_root (top_place frames) ≡ false) × (is_set (tree_at (up (top_place frames)) (whole_tree frames)) ≡ true)
-MayReceive Taker.Itself frames = mode_of frames.mode ≡ strict
-
--- where the builder works then
-abbrev pub place_then : Taker → Place → Place
-place_then Taker.Above place = up place
-place_then Taker.Set place = up place
-place_then Taker.Itself place = place
-
--- what was built then: the value takes the place of all that stood there, or the set above takes it
-abbrev pub tree_then : Taker → Place → Val → Tree → Tree
-tree_then Taker.Above place v tree = change_at place (λ old. whole v) tree
-tree_then Taker.Set place v tree = change_at (up place) (with_ended_item (number_in place) v) tree
-tree_then Taker.Itself place v tree = change_at place (λ old. whole v) tree
+MayReceive taker frames = MayHandOver taker frames.slots frames.stack
 
 -- to complete a place at which this stands, and to hand its value over, takes no memory
 abbrev pub needs_none_by : Rules → Tree → Bool

@@ -25,11 +25,12 @@ use Rattle.fr_model.specs.Tree.{Mode, strict, deferred, State, Tree, change_at, 
 use Rattle.fr_model.specs.Well.{IsFullAs}
 use Rattle.fr_frame.specs.Bodies.{is_around, TakesItems}
 use Rattle.fr_frame.specs.Heap.{as_tracker}
-use Rattle.fr_store.specs.Moves.{takes_at_end, TakesMany}
+use Rattle.fr_frame.specs.Kids.{MayHave}
+use Rattle.fr_store.specs.Moves.{takes_at_end}
 use Rattle.fr_partial.specs.declared.moves.Change.{Change}
 use Rattle.fr_partial.specs.declared.moves.Move.{Move}
 use Rattle.fr_partial.specs.declared.moves.Rules.{Rules}
-use Rattle.fr_partial.specs.declared.moves.Taker.{Taker}
+use Rattle.fr_frame.specs.declared.places.Taker.{Taker}
 use Rattle.fr_partial.specs.declared.moves.Way.{Way}
 use Rattle.fr_partial.specs.Beginnings.{kept_by, MayBegin}
 use Rattle.fr_partial.specs.DynamicBeginnings.{anew_as, kept_as}
@@ -67,7 +68,7 @@ onward (Way.Item opening) tree = Onward.Item
 onward (Way.Key opening) tree = Onward.Key
 onward (Way.Value opening) tree = Onward.Value opening.count
 onward (Way.Entry key) tree = Onward.Entry key.now
-onward (Way.Content tracker beginning) tree = Onward.Content (as_tracker tracker) (kept_by beginning tree)
+onward (Way.Content tracker beginning) tree = Onward.Content (as_tracker tracker) (kept_by beginning (as_tracker tracker) tree)
 
 -- the state then
 abbrev pub gone : Table → (s : ℕ) → State → Way → State
@@ -114,7 +115,7 @@ MayStay table s tree (Change.Put v) = fits table s (view v) ≡ true
 MayStay table s tree (Change.PutChild i opening v) =
     Describes table s tree opening × (field_refusal (def_of table s) tree i ≡ None) × (tokens (view v) ≡ [])
 MayStay table s tree (Change.Open opening) =
-    MayOpenAs (def_of table s) (as_tracker opening.tracker) opening.count tree × TakesMany (as_tracker opening.tracker)
+    MayOpenAs (def_of table s) (as_tracker opening.tracker) opening.count tree × MayHave (as_tracker opening.tracker) opening.count
     × (base_of_tracker (as_tracker opening.tracker) ≡ 0)
 MayStay table s tree (Change.Select chosen) = IsFullAs (def_of table s) (as_fields (Some chosen.variant)) chosen.count
 MayStay table s tree (Change.Gather parts) = Unit {0}

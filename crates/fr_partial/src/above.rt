@@ -7,13 +7,16 @@ ghost use Rattle.fr_model.specs.Step.{is_dynamic_part, is_set_item};
 
 use crate::sets::is_set;
 use crate::work::Work;
-use fr_frame::{FrameOwner, ItemsKind, Piece, Tracker};
+use fr_frame::{EntriesKind, FrameOwner, ItemsKind, Piece, Tracker};
 
 /// Whether a place that is begun so is a dynamic value.
-fn is_dynamic(tracker: Tracker) -> bool
-    ensures { result ≡ is_dynamic_tracker (as_tracker tracker) }
+fn is_dynamic(tracker: &Tracker) -> bool
+    ensures { result ≡ is_dynamic_tracker (as_tracker tracker.now) }
 {
-    matches!(tracker, Tracker::Items(ItemsKind::Array))
+    matches!(
+        tracker,
+        Tracker::Items(ItemsKind::Array) | Tracker::Entries(EntriesKind::Object(_))
+    )
 }
 
 impl<'t> Work<'t> {
@@ -47,8 +50,8 @@ impl<'t> Work<'t> {
         ensures { result ≡ is_set_item self.now.state }
     {
         match self.piece_above() {
-            Piece::Begun(tracker, _) => is_set(*tracker),
-            Piece::Entered | Piece::Whole(_) | Piece::Object(..) => false,
+            Piece::Begun(tracker, _) => is_set(tracker),
+            Piece::Entered | Piece::Whole(_) => false,
         }
     }
 
@@ -58,9 +61,8 @@ impl<'t> Work<'t> {
         ensures { result ≡ is_dynamic_part self.now.state }
     {
         match self.piece_above() {
-            Piece::Begun(tracker, _) => is_dynamic(*tracker),
+            Piece::Begun(tracker, _) => is_dynamic(tracker),
             Piece::Entered | Piece::Whole(_) => false,
-            Piece::Object(..) => true,
         }
     }
 }

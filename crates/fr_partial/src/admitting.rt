@@ -9,7 +9,7 @@ use fr_frame::{Piece, Tracker};
 use fr_shape::{Def, EnumDef, Field, Operation, ShapeId, ShapeTable};
 
 /// As what a place is begun whose children may be entered, and how many it has then.
-#[derive(Clone, Copy)]
+#[derive(Drop)]
 pub struct Opening {
     pub tracker: Tracker,
     pub count: usize,

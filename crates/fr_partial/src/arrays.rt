@@ -25,7 +25,7 @@ fn array_opening(table: &ShapeTable, shape: ShapeId, piece: &Piece) -> Result<us
         ) => match piece {
             _ if *count > MOST_ELEMENTS => Err(Operation::ArrayTooLarge),
             Piece::Whole(_) => Err(Operation::InitArrayOfBegun),
-            Piece::Entered | Piece::Begun(..) | Piece::Object(..) => Ok(*count as usize),
+            Piece::Entered | Piece::Begun(..) => Ok(*count as usize),
         },
         _ => Err(Operation::InitArrayOfOther),
     }

@@ -1,6 +1,6 @@
 //! How the place at which the builder works comes to be begun: what of it is kept.
-ghost use Rattle.std.specs.Prelude.{◌≡◌};
-ghost use Rattle.fr_partial.specs.Common.{Changed, Conserved, IsAtWork, IsFullAs, IsWholeSome, MayHave, OnOk, Room, as_fields, as_tracker, base_of_tracker, beginning_in, beginning_of_some, beginning_so, begun_by, body_of, def_of, held_in, kept_so, mode_of, own_tree, top_shape, top_tree, unwrap_or, variant_anew};
+ghost use Rattle.std.specs.Prelude.{[], ◌≡◌};
+ghost use Rattle.fr_partial.specs.Common.{Changed, Conserved, IsAtWork, IsFullAs, IsOk, IsWholeWith, MayHave, OnOk, Room, as_fields, as_tracker, base_of_tracker, beginning_in, beginning_of_some, beginning_so, begun_by, body_of, def_of, held_in, is_begun, keys_of_tracker, kept_so, mode_of, own_tree, top_shape, top_tree, true, unwrap_or, variant_anew};
 ghost use Rattle.fr_model.specs.Contents.{is_entered_in_place};
 ghost use Rattle.fr_partial.specs.declared.beginning.Beginning.{Beginning as Onset};
 
@@ -13,7 +13,7 @@ use fr_plan::TypePlanCore;
 use fr_shape::{Def, Ledger, OutOfMemory, ShapeId, ShapeTable, Value};
 
 /// What of a place is kept where it is begun: all, as it is begun so already; its value alone,
-/// which becomes that of its content; or nothing.
+/// whose parts become those of its children; or nothing.
 #[derive(Clone, Copy)]
 pub enum Beginning {
     AsItIs,
@@ -22,8 +22,9 @@ pub enum Beginning {
 }
 
 /// A place stays as it is where it is begun just so, whatever the mode.
-pub fn beginning_so(tracker: Tracker, piece: &Piece) -> Beginning
-    ensures { result ≡ beginning_so (as_tracker tracker) (own_tree (body_of piece.now)) }
+pub fn beginning_so(tracker: &Tracker, piece: &Piece) -> Beginning
+    requires keyless { keys_of_tracker (as_tracker tracker.now) ≡ [] }
+    ensures { result ≡ beginning_so (as_tracker tracker.now) (own_tree (body_of piece.now)) }
 {
     match piece {
         Piece::Begun(made, _) => {
@@ -33,13 +34,15 @@ pub fn beginning_so(tracker: Tracker, piece: &Piece) -> Beginning
                 Beginning::Anew
             }
         }
-        Piece::Entered | Piece::Whole(_) | Piece::Object(..) => Beginning::Anew,
+        Piece::Entered | Piece::Whole(_) => Beginning::Anew,
     }
 }
 
 /// The same in deferred mode. In strict mode nothing is kept.
-pub fn beginning_in(mode: Mode, tracker: Tracker, piece: &Piece) -> Beginning
-    ensures { result ≡ beginning_in (mode_of mode) (as_tracker tracker) (own_tree (body_of piece.now)) }
+pub fn beginning_in(mode: Mode, tracker: &Tracker, piece: &Piece) -> Beginning
+    requires keyless { keys_of_tracker (as_tracker tracker.now) ≡ [] }
+    ensures { result ≡ beginning_in (mode_of mode) (as_tracker tracker.now)
+        (own_tree (body_of piece.now)) }
 {
     match mode {
         Mode::Strict => Beginning::Anew,
@@ -88,13 +91,14 @@ pub fn beginning_of_some(
                 Beginning::Anew
             }
         }
-        Piece::Entered | Piece::Whole(_) | Piece::Object(..) => Beginning::Anew,
-        Piece::Begun(_, _) => beginning_in(mode, Tracker::Content(ContentKind::Some), piece),
+        Piece::Entered | Piece::Whole(_) => Beginning::Anew,
+        Piece::Begun(_, _) => beginning_in(mode, &Tracker::Content(ContentKind::Some), piece),
     }
 }
 
 /// Begins the place on top so. One that starts anew has so many children, none of them there, and
-/// all that was put there or is stored beneath it is released.
+/// all that was put there or is stored beneath it is released. A begun place that gets no children
+/// takes no memory.
 pub fn begin_so(
     plan: &TypePlanCore,
     frames: &mut Frames,
@@ -106,16 +110,18 @@ pub fn begin_so(
     requires at_work { IsAtWork plan.now frames.old }
     requires may_have { MayHave (as_tracker tracker) count }
     requires base { base_of_tracker (as_tracker tracker) ≡ 0 }
-    requires some { beginning ≡ Onset.InPlace → IsWholeSome (top_tree frames.old) }
+    requires parts { beginning ≡ Onset.InPlace
+        → IsWholeWith (as_tracker tracker) (top_tree frames.old) }
     requires room { Room (held_in frames.old) ledger.old }
     ensures changed { OnOk result (Changed plan.now (begun_by beginning (as_tracker tracker) count)
         frames.old frames.new) }
+    ensures memory { count ≡ 0 → is_begun (top_tree frames.old) ≡ true → IsOk result }
     ensures tokens { Conserved (held_in frames.old) ledger.old (held_in frames.new) ledger.new }
 {
     let (slots, stack, store) = (&mut frames.slots, &frames.stack, &mut frames.store);
     match beginning {
         Beginning::AsItIs => Ok(()),
-        Beginning::InPlace => stack.open_some(slots, plan),
+        Beginning::InPlace => stack.begin(slots, plan, tracker, count),
         Beginning::Anew => stack.restart(slots, store, plan, tracker, count, ledger),
     }
 }
@@ -139,6 +145,6 @@ pub fn begin_variant(
     ensures tokens { Conserved (held_in frames.old) ledger.old (held_in frames.new) ledger.new }
 {
     let tracker = Tracker::Fields(Some(chosen.variant));
-    let beginning = beginning_so(tracker, place_here(plan, frames).1);
+    let beginning = beginning_so(&tracker, place_here(plan, frames).1);
     begin_so(plan, frames, beginning, tracker, chosen.count, ledger)
 }

@@ -1,14 +1,13 @@
 //! A dynamic place that is begun as an array or as an object: it keeps the parts that it has, or
 //! starts anew.
 ghost use Rattle.std.specs.Prelude.{◌≡◌};
-ghost use Rattle.fr_partial.specs.Common.{Changed, Conserved, IsAtWork, IsOk, OnOk, Room, Trees, anew_as, as_tracker, begun, body_of, def_of, false, held_in, is_begun, is_dynamic, is_some, kept_as, own_tree, top_tree, true, unwrap_or, view, whole};
-ghost use Rattle.fr_model.specs.DynamicPlaces.{kept_array, kept_object};
-ghost use Rattle.fr_partial.specs.DynamicBeginnings.{beginning_as};
+ghost use Rattle.fr_partial.specs.Common.{Changed, Conserved, IsAtWork, IsOk, OnOk, Room, Trees, anew_as, as_tracker, begun, body_of, def_of, held_in, is_begun, is_dynamic, is_some, kept_as, own_tree, top_tree, true, unwrap_or, view, whole};
+ghost use Rattle.fr_partial.specs.DynamicBeginnings.{beginning_as, tracker_with};
 
-use crate::beginning::Beginning;
+use crate::beginning::{Beginning, begin_so};
 use crate::placing::place_here;
 use crate::work::Frames;
-use fr_frame::{ContentKind, EntriesKind, ItemsKind, Piece, Tracker};
+use fr_frame::{EntriesKind, ItemsKind, Keys, Piece, Tracker};
 use fr_plan::TypePlanCore;
 use fr_shape::{Def, Dyn, Ledger, OutOfMemory, ShapeId, ShapeTable, Value};
 
@@ -39,28 +38,15 @@ fn has_parts(parts: Parts, value: &Value) -> bool
     }
 }
 
-/// Whether a place that is begun so is a dynamic array.
-fn is_array(tracker: Tracker) -> bool
-    ensures array { (children : Trees)
-        → result ≡ is_some (kept_array (begun (as_tracker tracker) children)) }
-    ensures no_object { (children : Trees)
-        → is_some (kept_object (begun (as_tracker tracker) children)) ≡ false }
-{
-    match tracker {
-        Tracker::Items(ItemsKind::Array) => true,
-        _ => false,
-    }
-}
-
 /// Whether a place that is begun so has such parts.
-fn is_begun_with(parts: Parts, tracker: Tracker) -> bool
+fn is_begun_with(parts: Parts, tracker: &Tracker) -> bool
     ensures { (children : Trees)
-        → result ≡ is_some (kept_as parts (begun (as_tracker tracker) children)) }
+        → result ≡ is_some (kept_as parts (begun (as_tracker tracker.now) children)) }
 {
-    let array = is_array(tracker);
-    match parts {
-        Parts::Elements => array,
-        Parts::Entries => false,
+    match (parts, tracker) {
+        (Parts::Elements, Tracker::Items(ItemsKind::Array)) => true,
+        (Parts::Entries, Tracker::Entries(EntriesKind::Object(_))) => true,
+        (Parts::Elements | Parts::Entries, _) => false,
     }
 }
 
@@ -69,25 +55,19 @@ fn beginning_as(parts: Parts, piece: &Piece) -> Beginning
     ensures { result ≡ beginning_as parts (own_tree (body_of piece.now)) }
 {
     match piece {
-        Piece::Entered => Beginning::Anew,
-        Piece::Whole(value) => {
-            if has_parts(parts, value) {
-                Beginning::InPlace
-            } else {
-                Beginning::Anew
-            }
-        }
-        Piece::Object(..) => match parts {
-            Parts::Elements => Beginning::Anew,
-            Parts::Entries => Beginning::AsItIs,
-        },
-        Piece::Begun(tracker, _) => {
-            if is_begun_with(parts, *tracker) {
-                Beginning::AsItIs
-            } else {
-                Beginning::Anew
-            }
-        }
+        Piece::Whole(value) if has_parts(parts, value) => Beginning::InPlace,
+        Piece::Begun(tracker, _) if is_begun_with(parts, tracker) => Beginning::AsItIs,
+        Piece::Entered | Piece::Whole(_) | Piece::Begun(..) => Beginning::Anew,
+    }
+}
+
+/// As what a dynamic place is begun with such parts, none of which is there.
+fn tracker_with(parts: Parts) -> Tracker
+    ensures { as_tracker result ≡ tracker_with parts }
+{
+    match parts {
+        Parts::Elements => Tracker::Items(ItemsKind::Array),
+        Parts::Entries => Tracker::Entries(EntriesKind::Object(Keys::none())),
     }
 }
 
@@ -109,22 +89,5 @@ pub fn begin_parts(
     ensures tokens { Conserved (held_in frames.old) ledger.old (held_in frames.new) ledger.new }
 {
     let beginning = beginning_as(parts, place_here(plan, frames).1);
-    let (slots, stack, store) = (&mut frames.slots, &frames.stack, &mut frames.store);
-    match beginning {
-        Beginning::AsItIs => Ok(()),
-        Beginning::InPlace => match parts {
-            Parts::Elements => stack.open_array(slots, plan),
-            Parts::Entries => stack.open_object(slots, plan),
-        },
-        Beginning::Anew => match parts {
-            Parts::Elements => {
-                stack.restart_array(slots, store, plan, ledger);
-                Ok(())
-            }
-            Parts::Entries => {
-                stack.restart_object(slots, store, plan, ledger);
-                Ok(())
-            }
-        },
-    }
+    begin_so(plan, frames, beginning, tracker_with(parts), 0, ledger)
 }

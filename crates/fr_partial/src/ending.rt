@@ -8,9 +8,10 @@ ghost use Rattle.fr_partial.specs.Ending.{IsCompleted, IsHandedOver, IsPathThen,
 ghost use Rattle.fr_partial.specs.Modes.{IsBelowStart};
 ghost use Rattle.fr_partial.specs.Moving.{is_late_by};
 
-use crate::moves::{Rules, Taker};
+use crate::moves::Rules;
 use crate::paths::step_back;
 use crate::work::{Frames, Parts};
+use fr_frame::Taker;
 use fr_model::{law_paths, law_well};
 use fr_path::Path;
 use fr_plan::{TypePlanCore, law_plan_lookups};
@@ -136,11 +137,7 @@ fn hand_over(
     ensures tokens { Conserved (held_in frames.old) ledger.old (held_in frames.new) ledger.new }
 {
     let (slots, stack) = (&mut frames.slots, &mut frames.stack);
-    match taker {
-        Taker::Above => stack.end(slots, plan, ledger),
-        Taker::Set => stack.end_item(slots, plan, ledger),
-        Taker::Itself => stack.make_whole(slots, plan, ledger),
-    }
+    stack.hand_over(slots, plan, taker, ledger)
 }
 
 /// Completes the place on top by these rules, all that was left beneath it before where they are

@@ -8,7 +8,7 @@ use crate::going::enter;
 use crate::mode::Mode;
 use crate::moves::Way;
 use crate::work::Frames;
-use fr_frame::Piece;
+use fr_frame::{Piece, Taker};
 use fr_plan::{TypePlanCore, law_plan_lookups};
 use fr_shape::{
     DefaultSource, Field, Ledger, Operation, OutOfMemory, ReflectErrorKind, ShapeId, ShapeTable,
@@ -83,7 +83,7 @@ fn leave_whole(
     let (slots, stack) = (&mut frames.slots, &mut frames.stack);
     match frames.mode {
         Mode::Strict => {
-            let Ok(()) = stack.end(slots, plan, ledger) else {
+            let Ok(()) = stack.hand_over(slots, plan, Taker::Above, ledger) else {
                 unreachable!()
             };
             Ok(())

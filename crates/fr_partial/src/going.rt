@@ -49,13 +49,13 @@ fn entry_node(plan: &TypePlanCore, node: NodeId, i: usize) -> Option<NodeId>
 
 /// The plan's node of child `i` of a place of this node that is begun so.
 #[inline]
-fn child_node(plan: &TypePlanCore, node: NodeId, tracker: Tracker, i: usize) -> NodeId
-    ensures { result ≡ child_node plan.now node (as_tracker tracker) i }
+fn child_node(plan: &TypePlanCore, node: NodeId, tracker: &Tracker, i: usize) -> NodeId
+    ensures { result ≡ child_node plan.now node (as_tracker tracker.now) i }
 {
     let found = match tracker {
         Tracker::Fields(None) => plan.struct_field_node_id(node, i),
         Tracker::Elements | Tracker::Items(ItemsKind::List) => plan.list_item_node_id(node),
-        Tracker::Fields(Some(k)) => plan.enum_variant_field_node_id(node, k as usize, i),
+        Tracker::Fields(Some(k)) => plan.enum_variant_field_node_id(node, *k as usize, i),
         Tracker::Content(ContentKind::Some) => plan.option_some_node_id(node),
         Tracker::Content(ContentKind::Ok) => plan.result_nodes_id(node).map(|sides| sides.0),
         Tracker::Content(ContentKind::Err) => plan.result_nodes_id(node).map(|sides| sides.1),
@@ -63,7 +63,7 @@ fn child_node(plan: &TypePlanCore, node: NodeId, tracker: Tracker, i: usize) -> 
         Tracker::Items(ItemsKind::Slice | ItemsKind::ClosedSlice) => slice_item(plan, node),
         Tracker::Items(ItemsKind::Set) => plan.set_item_node_id(node),
         Tracker::Entries(EntriesKind::Map(_)) => entry_node(plan, node, i),
-        Tracker::Items(ItemsKind::Array) => Some(node),
+        Tracker::Items(ItemsKind::Array) | Tracker::Entries(EntriesKind::Object(_)) => Some(node),
     };
     match found {
         Some(child) => child,
@@ -97,20 +97,20 @@ pub fn enter(
     let (slots, stack, store) = (&mut frames.slots, &mut frames.stack, &mut frames.store);
     match way {
         Way::Child(i, opening) => {
-            let node = child_node(plan, above, opening.tracker, i);
+            let node = child_node(plan, above, &opening.tracker, i);
             stack.begin(slots, plan, opening.tracker, opening.count)?;
             stack.enter(slots, store, table, plan, node, ChildWay::Child(i as u32))
         }
         Way::Item(opening) => {
-            let node = child_node(plan, above, opening.tracker, opening.count);
+            let node = child_node(plan, above, &opening.tracker, opening.count);
             stack.enter(slots, store, table, plan, node, ChildWay::Item)
         }
         Way::Key(opening) => {
-            let node = child_node(plan, above, opening.tracker, opening.count);
+            let node = child_node(plan, above, &opening.tracker, opening.count);
             stack.enter(slots, store, table, plan, node, ChildWay::Key)
         }
         Way::Value(opening) => {
-            let node = child_node(plan, above, opening.tracker, opening.count);
+            let node = child_node(plan, above, &opening.tracker, opening.count);
             stack.enter(
                 slots,
                 store,
@@ -122,7 +122,7 @@ pub fn enter(
         }
         Way::Entry(key) => stack.enter(slots, store, table, plan, above, ChildWay::Entry(key)),
         Way::Content(tracker, beginning) => {
-            let node = child_node(plan, above, tracker, 0);
+            let node = child_node(plan, above, &tracker, 0);
             begin_so(plan, frames, beginning, tracker, 1, ledger)?;
             let (slots, store) = (&mut frames.slots, &mut frames.store);
             frames

@@ -33,8 +33,8 @@ fn unless_list(table: &ShapeTable, shape: ShapeId, refusal: Operation) -> Option
 }
 
 /// The tracker of a begun place, as refusals name it.
-fn tracker_kind(tracker: Tracker) -> TrackerKind
-    ensures { result ≡ tracker_kind (as_tracker tracker) }
+fn tracker_kind(tracker: &Tracker) -> TrackerKind
+    ensures { result ≡ tracker_kind (as_tracker tracker.now) }
 {
     match tracker {
         Tracker::Fields(None) => TrackerKind::Struct,
@@ -48,12 +48,13 @@ fn tracker_kind(tracker: Tracker) -> TrackerKind
         Tracker::Items(ItemsKind::Set) => TrackerKind::Set,
         Tracker::Entries(EntriesKind::Map(_)) => TrackerKind::Map,
         Tracker::Items(ItemsKind::Array) => TrackerKind::DynamicValue,
+        Tracker::Entries(EntriesKind::Object(_)) => TrackerKind::DynamicValue,
     }
 }
 
 /// The refusal of a call that is to begin a place that is begun so already.
-pub fn unexpected(call: InitCall, tracker: Tracker) -> ReflectErrorKind
-    ensures { result ≡ Kind.UnexpectedTracker call (tracker_kind (as_tracker tracker)) }
+pub fn unexpected(call: InitCall, tracker: &Tracker) -> ReflectErrorKind
+    ensures { result ≡ Kind.UnexpectedTracker call (tracker_kind (as_tracker tracker.now)) }
 {
     let current = tracker_kind(tracker);
     ReflectErrorKind::UnexpectedTracker { call, current }
@@ -69,14 +70,14 @@ pub fn at_shape(shape: ShapeId, refused: Option<Operation>) -> Option<ReflectErr
 }
 
 /// Whether a place that is begun so is left as it is where a list is to be begun.
-fn is_list_like(tracker: Tracker) -> bool
-    ensures { result ≡ is_list_like (as_tracker tracker) }
+fn is_list_like(tracker: &Tracker) -> bool
+    ensures { result ≡ is_list_like (as_tracker tracker.now) }
 {
     matches!(
         tracker,
         Tracker::Items(
             ItemsKind::List | ItemsKind::Slice | ItemsKind::ClosedSlice | ItemsKind::Array,
-        )
+        ) | Tracker::Entries(EntriesKind::Object(_))
     )
 }
 
@@ -87,9 +88,8 @@ fn init_list_refusal(table: &ShapeTable, shape: ShapeId, piece: &Piece) -> Optio
     ensures named { IfSome result (λ kind. kind ≢ Kind.OutOfMemory) }
 {
     match piece {
-        Piece::Begun(tracker, _) if is_list_like(*tracker) => None,
-        Piece::Begun(tracker, _) => Some(unexpected(InitCall::List, *tracker)),
-        Piece::Object(..) => None,
+        Piece::Begun(tracker, _) if is_list_like(tracker) => None,
+        Piece::Begun(tracker, _) => Some(unexpected(InitCall::List, tracker)),
         Piece::Entered => at_shape(shape, unless_list(table, shape, Operation::InitListOfOther)),
         Piece::Whole(_) => {
             at_shape(
@@ -124,16 +124,19 @@ fn item_opening(table: &ShapeTable, shape: ShapeId, piece: &Piece) -> Result<Ope
     ensures refused { result_err result
         ≡ item_refusal (def_of table.now shape.0) (own_tree (body_of piece.now)) }
 {
-    let Piece::Begun(made, children) = piece else {
+    let Piece::Begun(tracker, children) = piece else {
         return Err(unbegun_refusal(table, shape));
     };
-    let (tracker, count) = (*made, children.len());
+    let count = children.len();
     match tracker {
-        Tracker::Items(ItemsKind::List | ItemsKind::Slice | ItemsKind::Array) => {
-            Ok(Opening { tracker, count })
-        }
-        Tracker::Items(ItemsKind::ClosedSlice) => Err(Operation::ItemStillOpen),
-        Tracker::Items(ItemsKind::Set) => Err(unbegun_refusal(table, shape)),
+        Tracker::Items(kind) => match kind {
+            ItemsKind::List | ItemsKind::Slice | ItemsKind::Array => {
+                let tracker = Tracker::Items(*kind);
+                Ok(Opening { tracker, count })
+            }
+            ItemsKind::ClosedSlice => Err(Operation::ItemStillOpen),
+            ItemsKind::Set => Err(unbegun_refusal(table, shape)),
+        },
         Tracker::Fields(_) | Tracker::Elements | Tracker::Content(_) | Tracker::Entries(_) => {
             Err(unbegun_refusal(table, shape))
         }

@@ -38,9 +38,8 @@ fn init_map_refusal(table: &ShapeTable, shape: ShapeId, piece: &Piece) -> Option
     ensures named { IfSome result (λ kind. kind ≢ Kind.OutOfMemory) }
 {
     match piece {
-        Piece::Begun(Tracker::Entries(EntriesKind::Map(_)) | Tracker::Items(ItemsKind::Array), _)
-        | Piece::Object(..) => None,
-        Piece::Begun(tracker, _) => Some(unexpected(InitCall::Map, *tracker)),
+        Piece::Begun(Tracker::Entries(_) | Tracker::Items(ItemsKind::Array), _) => None,
+        Piece::Begun(tracker, _) => Some(unexpected(InitCall::Map, tracker)),
         Piece::Entered | Piece::Whole(_) => at_shape(
             shape,
             unless_map(table, shape, Operation::InitMapOfOther),
@@ -77,12 +76,15 @@ fn key_opening(piece: &Piece) -> Result<Opening, Operation>
     let Piece::Begun(made, children) = piece else {
         return Err(Operation::KeyBeforeInitMap);
     };
-    let (tracker, count) = (*made, children.len());
-    match tracker {
+    let count = children.len();
+    match made {
         Tracker::Entries(EntriesKind::Map(_)) if lacks_last(children) => Err(
             Operation::KeyBeforeValue,
         ),
-        Tracker::Entries(EntriesKind::Map(_)) => Ok(Opening { tracker, count }),
+        Tracker::Entries(EntriesKind::Map(base)) => {
+            let tracker = Tracker::Entries(EntriesKind::Map(*base));
+            Ok(Opening { tracker, count })
+        }
         _ => Err(Operation::KeyBeforeInitMap),
     }
 }
@@ -100,12 +102,16 @@ fn value_opening(piece: &Piece) -> Result<Opening, Operation>
     let Piece::Begun(made, children) = piece else {
         return Err(Operation::ValueBeforeKey);
     };
-    match made {
-        Tracker::Entries(EntriesKind::Map(_)) if lacks_last(children) => {
-            let (tracker, count) = (*made, children.len() - 1);
+    let Tracker::Entries(kind) = made else {
+        return Err(Operation::ValueBeforeKey);
+    };
+    match kind {
+        EntriesKind::Map(base) if lacks_last(children) => {
+            let tracker = Tracker::Entries(EntriesKind::Map(*base));
+            let count = children.len() - 1;
             Ok(Opening { tracker, count })
         }
-        _ => Err(Operation::ValueBeforeKey),
+        EntriesKind::Map(_) | EntriesKind::Object(_) => Err(Operation::ValueBeforeKey),
     }
 }
 

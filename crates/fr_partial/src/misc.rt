@@ -5,10 +5,11 @@ ghost use Rattle.fr_model.specs.Step.{begin_deferred};
 ghost use Rattle.fr_partial.specs.Builder.{IsBuild};
 
 use crate::mode::Mode;
-use crate::moves::{Change, Move, Rules, Taker};
+use crate::moves::{Change, Move, Rules};
 use crate::slices::is_open_slice;
 use crate::work::Work;
 use crate::{Built, Partial, ReflectError};
+use fr_frame::Taker;
 use fr_model::law_removed;
 use fr_shape::{Hooks, Invariant, Ledger, ReflectErrorKind};
 

@@ -7,7 +7,7 @@ use crate::admitting::Opening;
 use crate::beginning::Beginning;
 use crate::choosing::Chosen;
 use crate::dynamic_places::Parts;
-use fr_frame::Tracker;
+use fr_frame::{Taker, Tracker};
 use fr_path::PathStep;
 use fr_shape::{OutOfMemory, Text, Value};
 use std::alloc::Global;
@@ -16,7 +16,7 @@ use std::alloc::Global;
 /// is; a new item behind the others; the key of a new entry of a map; the value that its last entry
 /// lacks; the entry of a key of a dynamic object; the content, a side or what is pointed to, of a
 /// place that comes to be begun so.
-#[derive(Clone, Copy)]
+#[derive(Drop)]
 pub enum Way<'k> {
     Child(usize, Opening),
     Item(Opening),
@@ -49,15 +49,6 @@ pub enum Rules {
     Deferred,
 }
 
-/// Where the value of a completed place goes: into the place above, as its child's; to the set
-/// above, which leaves it out where it has one that is the same; or it stays where it is.
-#[derive(Clone, Copy)]
-pub enum Taker {
-    Above,
-    Set,
-    Itself,
-}
-
 /// What a call does.
 #[derive(Drop)]
 pub enum Move<'k> {
@@ -78,28 +69,28 @@ pub enum Move<'k> {
 impl<'k> Way<'k> {
     /// The step to the child. A number that doesn't fit into 32 bits is out of memory; else only
     /// the entry of a key takes memory.
-    pub fn step(self, alloc: Global) -> Result<PathStep, OutOfMemory>
-        ensures step { IfOk result (λ step. step ≡ step_told self.entry) }
-        ensures small { OnOk result (number_told self.entry < 2 ^ 32) }
+    pub fn step(&self, alloc: Global) -> Result<PathStep, OutOfMemory>
+        ensures step { IfOk result (λ step. step ≡ step_told self.now) }
+        ensures small { OnOk result (number_told self.now < 2 ^ 32) }
     {
         match self {
-            Way::Child(i, opening) => step_of(opening.tracker, i),
+            Way::Child(i, opening) => step_of(alloc, &opening.tracker, *i),
             Way::Item(opening) | Way::Key(opening) | Way::Value(opening) => {
-                step_of(opening.tracker, opening.count)
+                step_of(alloc, &opening.tracker, opening.count)
             }
             Way::Entry(key) => Ok(PathStep::Entry(Text::new(alloc, key)?)),
-            Way::Content(tracker, _) => Ok(tracker.step(0)),
+            Way::Content(tracker, _) => tracker.step(alloc, 0),
         }
     }
 }
 
 /// The step to child `i` of a place that is begun so.
-fn step_of(tracker: Tracker, i: usize) -> Result<PathStep, OutOfMemory>
-    ensures step { IfOk result (λ step. step ≡ step_as (as_tracker tracker) i) }
+fn step_of(alloc: Global, tracker: &Tracker, i: usize) -> Result<PathStep, OutOfMemory>
+    ensures step { IfOk result (λ step. step ≡ step_as (as_tracker tracker.now) i) }
     ensures small { OnOk result (i < 2 ^ 32) }
 {
     match u32::try_from(i) {
-        Ok(i) => Ok(tracker.step(i)),
+        Ok(i) => tracker.step(alloc, i),
         Err(_) => Err(OutOfMemory),
     }
 }

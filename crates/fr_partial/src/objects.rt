@@ -6,7 +6,7 @@ use crate::dynamic_places::is_dynamic;
 use crate::moves::{Move, Way};
 use crate::work::Work;
 use crate::{Partial, ReflectError};
-use fr_frame::Piece;
+use fr_frame::{EntriesKind, Piece, Tracker};
 use fr_shape::{Hooks, Ledger, Operation, ReflectErrorKind, ShapeId, ShapeTable};
 
 /// Why no entry can be begun at a place of this shape at which this stands, if none can.
@@ -15,7 +15,7 @@ fn entry_refusal(table: &ShapeTable, shape: ShapeId, piece: &Piece) -> Option<Op
         ≡ entry_refusal (def_of table.now shape.0) (own_tree (body_of piece.now)) }
 {
     match (is_dynamic(table, shape), piece) {
-        (true, Piece::Object(..)) => None,
+        (true, Piece::Begun(Tracker::Entries(EntriesKind::Object(_)), _)) => None,
         (true, _) => Some(Operation::EntryBeforeInitMap),
         (false, _) => Some(Operation::EntryOfOther),
     }

@@ -1,7 +1,7 @@
 //! Beginning the place on top as its definition tells: a list, an array, a set or a map.
 ghost use Rattle.std.specs.Prelude.{◌≡◌};
 ghost use Rattle.fr_partial.specs.Common.{Changed, IsAtWork, IsOk, MayOpenAs, OnOk, SameTokens, as_tracker, base_of_tracker, body_of, def_of, is_begun, opened, own_tree, top_shape, top_tree, true};
-ghost use Rattle.fr_store.specs.Moves.{TakesMany};
+ghost use Rattle.fr_frame.specs.Kids.{MayHave};
 
 use crate::admitting::Opening;
 use crate::placing::place_here;
@@ -15,7 +15,7 @@ fn is_begun(piece: &Piece) -> bool
     ensures { result ≡ is_begun (own_tree (body_of piece.now)) }
 {
     match piece {
-        Piece::Begun(..) | Piece::Object(..) => true,
+        Piece::Begun(..) => true,
         Piece::Entered | Piece::Whole(_) => false,
     }
 }
@@ -30,7 +30,7 @@ pub fn open_here(
     requires at_work { IsAtWork plan.now frames.old }
     requires may_open { MayOpenAs (def_of frames.old.table.now (top_shape frames.old))
         (as_tracker opening.tracker) opening.count (top_tree frames.old) }
-    requires many { TakesMany (as_tracker opening.tracker) }
+    requires many { MayHave (as_tracker opening.tracker) opening.count }
     requires base { base_of_tracker (as_tracker opening.tracker) ≡ 0 }
     ensures changed { OnOk result (Changed plan.now
         (opened (def_of frames.old.table.now (top_shape frames.old))) frames.old frames.new) }

@@ -139,7 +139,7 @@ impl<'t> Work<'t> {
         if points_to_slice(table, shape) {
             return Ok(Move::Stay(Change::OpenSlice));
         }
-        let beginning = beginning_in(self.mode(), Tracker::Content(ContentKind::Pointer), piece);
+        let beginning = beginning_in(self.mode(), &Tracker::Content(ContentKind::Pointer), piece);
         Ok(Move::Go(Way::Content(Tracker::Content(ContentKind::Pointer), beginning)))
     }
 

@@ -35,7 +35,7 @@ impl<'t> Work<'t> {
             let expected = Expected::Result;
             return Err(ReflectErrorKind::WasNotA { expected, actual });
         }
-        let beginning = beginning_in(self.mode(), side, piece);
+        let beginning = beginning_in(self.mode(), &side, piece);
         Ok(Move::Go(Way::Content(side, beginning)))
     }
 }

@@ -13,12 +13,11 @@ use crate::{Partial, ReflectError};
 use fr_frame::{ItemsKind, Piece, Tracker};
 use fr_shape::{
     Def, Hooks, InitCall, Ledger, Operation, ReflectErrorKind, Shape, ShapeId, ShapeTable,
-    TrackerKind,
 };
 
 /// Whether a place that is begun so is a set.
-pub fn is_set(tracker: Tracker) -> bool
-    ensures { result ≡ is_set_tracker (as_tracker tracker) }
+pub fn is_set(tracker: &Tracker) -> bool
+    ensures { result ≡ is_set_tracker (as_tracker tracker.now) }
 {
     matches!(tracker, Tracker::Items(ItemsKind::Set))
 }
@@ -46,11 +45,7 @@ fn init_set_refusal(table: &ShapeTable, shape: ShapeId, piece: &Piece) -> Option
 {
     match piece {
         Piece::Begun(Tracker::Items(ItemsKind::Set), _) => None,
-        Piece::Begun(tracker, _) => Some(unexpected(InitCall::Set, *tracker)),
-        Piece::Object(..) => {
-            let (call, current) = (InitCall::Set, TrackerKind::DynamicValue);
-            Some(ReflectErrorKind::UnexpectedTracker { call, current })
-        }
+        Piece::Begun(tracker, _) => Some(unexpected(InitCall::Set, tracker)),
         Piece::Entered | Piece::Whole(_) => at_shape(
             shape,
             unless_set(table, shape, Operation::InitSetOfOther),
@@ -75,9 +70,11 @@ fn set_item_opening(table: &ShapeTable, shape: ShapeId, piece: &Piece) -> Result
     let Piece::Begun(made, children) = piece else {
         return Err(Operation::SetItemBeforeInitSet);
     };
-    let (tracker, count) = (*made, children.len());
-    match tracker {
-        Tracker::Items(ItemsKind::Set) => Ok(Opening { tracker, count }),
+    match made {
+        Tracker::Items(ItemsKind::Set) => {
+            let (tracker, count) = (Tracker::Items(ItemsKind::Set), children.len());
+            Ok(Opening { tracker, count })
+        }
         _ => Err(Operation::SetItemBeforeInitSet),
     }
 }

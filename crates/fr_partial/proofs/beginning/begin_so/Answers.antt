@@ -1,14 +1,14 @@
 use Rattle.std.proofs.Common.{sym, ap}
 use Rattle.fr_partial.specs.Common.{Beginning, as_tracker, begun, begun_by, holes, top_tree}
-use Rattle.fr_store.specs.Moves.{around_some}
-use Rattle.fr_partial.proofs.HereLaws.{holds_some}
+use Rattle.fr_model.specs.Entering.{opened_as}
+use Rattle.fr_partial.proofs.HereLaws.{may_open_with}
 use Rattle.fr_partial.proofs.KeepLaws.{are_open, became, became_marked, changed_as, kept_released, ok_or, room_here, unchanged_as}
-use Rattle.fr_partial.proofs.KeptLaws.{on_ok}
+use Rattle.fr_partial.proofs.KeptLaws.{never_begun, on_ok}
 use Rattle.fr_partial.proofs.TreeLaws.{holes_occur}
 use Rattle.fr_partial.proofs.beginning.begin_so.Goals as goal
 
-pub open_some-requires-clause-holds_some : goal.open_some-requires-clause-holds_some
-open_some-requires-clause-holds_some c = holds_some c.requires.at_work.ready.shown (c.requires.some c.in-InPlace.is)
+pub begin-requires-clause-may_open : goal.begin-requires-clause-may_open
+begin-requires-clause-may_open c = may_open_with c.requires.at_work.ready.shown (as_tracker c.args.tracker) (c.requires.parts c.in-InPlace.is)
 
 pub restart-requires-clause-room : goal.restart-requires-clause-room
 restart-requires-clause-room c = room_here _ _ _ _ c.requires.at_work.ready.shown c.requires.room
@@ -20,9 +20,13 @@ returns-in-AsItIs-clause-changed c =
 
 pub returns-in-InPlace-clause-changed : goal.returns-in-InPlace-clause-changed
 returns-in-InPlace-clause-changed c =
-    on_ok c.open_some.result (λ done. changed_as around_some (begun_by c.args.beginning (as_tracker c.args.tracker) c.args.count)
+    on_ok c.begin.result (λ done. changed_as (opened_as (as_tracker c.args.tracker) c.args.count) (begun_by c.args.beginning (as_tracker c.args.tracker) c.args.count)
     (ap (λ (b : Beginning). begun_by b (as_tracker c.args.tracker) c.args.count (top_tree c.args.frames.now)) (sym c.in-InPlace.is))
-    (became_marked (are_open c.requires.at_work) c.open_some.ensures.marks done)) c.open_some.ensures.opened
+    (became_marked (are_open c.requires.at_work) c.begin.ensures.marks done)) c.begin.ensures.begun
+
+pub returns-in-InPlace-clause-memory : goal.returns-in-InPlace-clause-memory
+returns-in-InPlace-clause-memory c none is =
+    absurd (never_begun (as_tracker c.args.tracker) (top_tree c.args.frames.now) (c.requires.parts c.in-InPlace.is) is)
 
 pub returns-in-Anew-clause-changed : goal.returns-in-Anew-clause-changed
 returns-in-Anew-clause-changed c =

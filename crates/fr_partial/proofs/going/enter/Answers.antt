@@ -1,14 +1,14 @@
 use Rattle.std.proofs.Common.{◌≡◌, false, refl, ap, sym, subst, ◌∙◌}
-use Rattle.fr_partial.specs.Common.{Changed, NodeId, Tracker, Way, as_tracker, base_of_tracker, child_node, is_map_tracker, node_here, opened_as}
+use Rattle.fr_partial.specs.Common.{Changed, MayHave, Tracker, Way, as_tracker, base_of_tracker, child_node, is_map_tracker, node_here, opened_as}
 use Rattle.fr_frame.specs.Bodies.{TakesItems}
-use Rattle.fr_store.specs.Moves.{count_here, tree_here, TakesMany}
+use Rattle.fr_store.specs.Moves.{count_here}
 use Rattle.fr_partial.proofs.ChildLaws.{child_there, object_node, tracker_has, tracker_is, tracker_there}
 use Rattle.fr_partial.proofs.BelowLaws.{around_base, around_map}
 use Rattle.fr_partial.proofs.GoingLaws.{has_then, is_object, is_planned, keys_are_apart, keys_are_counted, may_go, node_after, node_is, none_then, of_opening, opened_has, opens, went, went_after, went_entry, Goes}
 use Rattle.fr_partial.proofs.KeepLaws.{are_open, became, became_marked}
 use Rattle.fr_partial.proofs.KeptLaws.{has_content, may_have_one, on_ok, whole_some}
 use Rattle.fr_partial.proofs.ListLaws.{has_count, has_tracker}
-use Rattle.fr_partial.proofs.MapLaws.{has_last, has_map, map_tracker, value_lacks}
+use Rattle.fr_partial.proofs.MapLaws.{has_last, has_map, value_lacks}
 use Rattle.fr_partial.proofs.StateLaws.{open_then}
 use Rattle.fr_partial.proofs.going.enter.Goals as goal
 use Rattle.fr_partial.proofs.going.enter.Goals.{After-node_here-above, In_ok-begin-in-Child}
@@ -33,7 +33,7 @@ begin-requires c =
     record {
       is_open = c.requires.at_work.ready.shown;
       may_open = opens way;
-      many = of_opening way TakesMany tt tt (λ k. tt);
+      may_have = of_opening way (λ tracker. MayHave tracker c.in-Child.opening.count) tt tt (λ k. tt);
       base = of_opening way (λ tracker. base_of_tracker tracker ≡ 0) refl refl (λ k. refl);
     }
 
@@ -173,7 +173,7 @@ begin_so-requires c =
       at_work = c.requires.at_work;
       may_have = may_have_one _ may.0;
       base = around_base _ may.0;
-      some = whole_some _ _ _ may.2;
+      parts = whole_some _ _ _ may.2;
       room = c.requires.room;
     }
 

@@ -1,9 +1,14 @@
-use Rattle.std.proofs.Common.{sym, arith}
+use Rattle.std.proofs.Common.{◌-◌, suc, sym, subst, ap, ◌∙◌, arith}
+use Rattle.fr_frame.specs.declared.places.EntriesKind.{EntriesKind}
+use Rattle.fr_frame.specs.declared.places.Tracker.{Tracker}
+use Rattle.fr_partial.specs.Common.{HasItems, as_tracker, body_of, own_tree}
 use Rattle.fr_partial.proofs.LookLaws.{begun_items}
 use Rattle.fr_partial.proofs.MapLaws.{ends_some}
 use Rattle.fr_partial.proofs.maps.value_opening.Goals as goal
 
-pub returns-in-Entries-Map-clause-items : goal.returns-in-Entries-Map-clause-items
-returns-in-Entries-Map-clause-items c =
+pub returns-in-Map-clause-items : goal.returns-in-Map-clause-items
+returns-in-Map-clause-items c =
     let some = ends_some c.in-Begun.children (sym c.if-lacks_last.ensures) in
-    begun_items _ c.in-Begun.made c.in-Begun.children _ c.in-Begun.is (omega (arith, some, c.len.ensures.count))
+    subst (λ (made : Tracker). HasItems (as_tracker made) (suc (c.len-count.result - 1)) (own_tree (body_of c.args.piece.now)))
+    (c.in-Entries.is ∙ ap (λ (kind : EntriesKind). Tracker.Entries kind) c.in-Map.is)
+    (begun_items _ c.in-Begun.made c.in-Begun.children _ c.in-Begun.is (omega (arith, some, c.len-count.ensures.count)))

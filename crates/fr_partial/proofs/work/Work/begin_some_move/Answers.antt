@@ -1,5 +1,5 @@
 use Rattle.std.proofs.Common.{◌≡◌, true, false, refl, sym, ap, ◌∙◌}
-use Rattle.fr_partial.specs.Common.{Call, ContentKind, Expected, beginning_of_some, content_shape, cursor_tree, def_of, is_option, mode_of, shape_at}
+use Rattle.fr_partial.specs.Common.{Call, Expected, beginning_of_some, content_shape, cursor_tree, def_of, is_option, mode_of, shape_at}
 use Rattle.fr_model.specs.Step.{option_kept}
 use Rattle.fr_frame.specs.declared.places.ContentKind.{ContentKind as Begun}
 use Rattle.fr_frame.specs.declared.places.Tracker.{Tracker}
