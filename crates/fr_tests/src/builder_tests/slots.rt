@@ -13,7 +13,7 @@ ghost use Rattle.fr_frame.specs.Outlines.{is_list_body};
 
 use super::ledger;
 use super::validators::plan_of;
-use fr_frame::{ChildWay, FrameOwner, ItemsKind, Piece, SlotId, Slots, Tracker};
+use fr_frame::{ChildWay, FrameOwner, ItemsKind, Piece, SlotId, Slots, Taker, Tracker};
 use fr_plan::{NodeId, TypePlanCore};
 use fr_shape::{Def, Items, Ledger, ScalarKind, Shape, ShapeId, ShapeTable, Text, Value};
 use fr_store::FrameStore;
@@ -195,7 +195,7 @@ fn hand_up(rt: &impl Abort, slots: &mut Slots, id: SlotId, ledger: &mut Ledger)
 {
     check_whole(rt, slots, id);
     check_owned(rt, slots, id);
-    match id.hand_up(slots, ledger) {
+    match id.hand_over(slots, Taker::Above, ledger) {
         Ok(()) => {}
         Err(_) => panic!(rt; "no memory"),
     }
