@@ -1,6 +1,6 @@
 -- A journal as one child of a place sees it, with places counted from that child on.
 use Rattle.std.proofs.Common.{◌≡◌, ◌-◌, ◌≤◌, ◌==◌, if◌then◌else◌, ◌∷◌, ◌++◌}
-use Rattle.fr_model.proofs.Common.{ℕ, zero, suc, true, false, [], Option, refl, ◌∙◌, ap, ap₂, arith, Table, def_of, Val, Vals, Place, Column, child_shape, part, part_at, one_more, product_of, each_child, fill_at, entered_at, wrote_at, Journal, beside, standing, Held, in_parts, written, just_entered, untouched, after_write, at_least_entered, after_entry, held, longest, entered_value, by_held, by_parts, child_makes, completes_within}
+use Rattle.fr_model.proofs.Common.{ℕ, zero, suc, Bool, true, false, [], Option, refl, ◌∙◌, ap, ap₂, arith, Table, def_of, Val, Vals, Place, Column, child_shape, part, part_at, one_more, product_of, each_child, fill_at, Note, entered_at, wrote_at, Journal, beside, standing, Held, in_parts, written, just_entered, untouched, after_write, at_least_entered, after_entry, held, longest, entered_value, by_held, by_parts, child_makes, completes_within}
 
 -- the notes that bear on child i: those at it or beneath it, and what was written above it
 abbrev pub down : ℕ → Journal → Journal
@@ -65,22 +65,19 @@ held_along notes (i ∷ here) = held_down i notes here ∙ held_along (down i no
 
 -- how far a journal reaches
 
+longest_or : (b : Bool) (note : Note) (notes : Journal) (most : ℕ) → longest (note ∷ notes) ≤ most → longest notes ≤ most
+    → longest (if b then note ∷ notes else notes) ≤ most
+longest_or true note notes most more fewer = more
+longest_or false note notes most more fewer = fewer
+
 pub longest_down : (i : ℕ) (notes : Journal) → longest (down i notes) ≤ longest notes - 1
 longest_down i [] = omega arith
 longest_down i (entered_at [] ∷ notes) = let rest = longest_down i notes in omega arith
 longest_down i (entered_at (j ∷ place) ∷ notes) =
-    elim (j == i) as (λ b. longest (if b then entered_at place ∷ down i notes else down i notes)
-    ≤ longest (entered_at (j ∷ place) ∷ notes) - 1) [
-      | true ↦ (let rest = longest_down i notes in omega arith)
-      | false ↦ (let rest = longest_down i notes in omega arith)
-    ]
+    let rest = longest_down i notes in longest_or (j == i) (entered_at place) (down i notes) _ (omega arith) (omega arith)
 longest_down i (wrote_at [] v ∷ notes) = let rest = longest_down i notes in omega arith
 longest_down i (wrote_at (j ∷ place) v ∷ notes) =
-    elim (j == i) as (λ b. longest (if b then wrote_at place v ∷ down i notes else down i notes)
-    ≤ longest (wrote_at (j ∷ place) v ∷ notes) - 1) [
-      | true ↦ (let rest = longest_down i notes in omega arith)
-      | false ↦ (let rest = longest_down i notes in omega arith)
-    ]
+    let rest = longest_down i notes in longest_or (j == i) (wrote_at place v) (down i notes) _ (omega arith) (omega arith)
 
 pub longest_along : (here : Place) (notes : Journal) → longest (along here notes) ≤ longest notes
 longest_along [] notes = omega arith

@@ -175,10 +175,7 @@ pub key_holds : (table : Table) (s base : ℕ) (ts : Trees) (token : ℕ)
 key_holds table s base ts token =
     let shape = child_as table s (as_entries (EntriesKind.Map base)) (count_trees ts) in
     let key = fresh (def_of table shape) in
-    let last = last_holds (and_last ts key) hole token in
-    let before = last_holds ts key token in
-    let none = fresh_holds (def_of table shape) token in
-    omega arith
+    omega (arith, last_holds (and_last ts key) hole token, last_holds ts key token, fresh_holds (def_of table shape) token)
 
 -- The value of the last entry is entered
 

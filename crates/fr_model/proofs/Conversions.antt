@@ -8,28 +8,23 @@ pub record IsTaken (v : Val) (d : Dynamic) : Type 0 where
   pub holds : (t : ℕ) → occurs v t ≡ 0
 
 of_bool : (v : Val) (d : Dynamic) → or_not_dynamic (from_bool v) ≡ Ok d → IsTaken v d
-of_bool (bool b) d e =
-    let same : dyn_bool b ≡ d = cc in rw (← same) (record { once = refl; holds = λ t. refl })
+of_bool (bool b) d e = let same : dyn_bool b ≡ d = cc in rw (← same) (record { once = refl; holds = λ t. refl })
 of_bool _ d e = cc
 
 of_char : (v : Val) (d : Dynamic) → or_not_dynamic (from_char v) ≡ Ok d → IsTaken v d
-of_char (char c) d e =
-    let same : dyn_text (encode_utf8 c) ≡ d = cc in rw (← same) (record { once = refl; holds = λ t. refl })
+of_char (char c) d e = let same : dyn_text (encode_utf8 c) ≡ d = cc in rw (← same) (record { once = refl; holds = λ t. refl })
 of_char _ d e = cc
 
 of_int : (v : Val) (d : Dynamic) → or_not_dynamic (from_int v) ≡ Ok d → IsTaken v d
-of_int (int i) d e =
-    let same : dyn_int i ≡ d = cc in rw (← same) (record { once = refl; holds = λ t. refl })
+of_int (int i) d e = let same : dyn_int i ≡ d = cc in rw (← same) (record { once = refl; holds = λ t. refl })
 of_int _ d e = cc
 
 of_nat : (v : Val) (d : Dynamic) → or_not_dynamic (from_nat v) ≡ Ok d → IsTaken v d
-of_nat (nat n) d e =
-    let same : dyn_nat n ≡ d = cc in rw (← same) (record { once = refl; holds = λ t. refl })
+of_nat (nat n) d e = let same : dyn_nat n ≡ d = cc in rw (← same) (record { once = refl; holds = λ t. refl })
 of_nat _ d e = cc
 
 of_text : (v : Val) (d : Dynamic) → or_not_dynamic (from_text v) ≡ Ok d → IsTaken v d
-of_text (text codes) d e =
-    let same : dyn_text codes ≡ d = cc in rw (← same) (record { once = refl; holds = λ t. refl })
+of_text (text codes) d e = let same : dyn_text codes ≡ d = cc in rw (← same) (record { once = refl; holds = λ t. refl })
 of_text _ d e = cc
 
 bytes_hold : (vs : Vals) (bytes : List ℕ) (t : ℕ) → bytes_of vs ≡ Some bytes → vals_occur vs t ≡ 0

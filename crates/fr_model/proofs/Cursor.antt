@@ -234,15 +234,17 @@ made_at column hooks table root state v checked e order =
     completing_makes column hooks table (cursor_tree state) (cursor_shape table root state) v checked
     (suits_at state.mode table root state.cursor state.tree order.leads order.suits) e
 
-pub ended_in_order : (column : Column) (hooks : Meanings) (table : Table) (root : ℕ) (state : State) (v : Val)
-    → IsChecked table → state.mode ≡ strict → complete column hooks table (cursor_shape table root state) (cursor_tree state) ≡ Some v
+-- what the place makes stands there, and the cursor goes up
+pub completed_in_order : (column : Column) (hooks : Meanings) (table : Table) (root : ℕ) (state : State) (v : Val)
+    → IsChecked table → BeganAbove state.mode (up state.cursor)
+    → complete column hooks table (cursor_shape table root state) (cursor_tree state) ≡ Some v
     → IsInOrder table root state → IsInOrder table root (puts_and_leaves state v)
-ended_in_order column hooks table root state v checked is_strict e order =
+completed_in_order column hooks table root state v checked began e order =
     let made = made_at column hooks table root state v checked e order in
     record {
       suits = suits_changed state.mode table root state.cursor state.tree (λ old. whole v) order.leads order.suits tt made.fit;
       leads = leads_up state.mode state.cursor state.tree v order.leads;
-      began = began_strict state.mode (up state.cursor) is_strict;
+      began = began;
     }
 
 -- a place is left as it is

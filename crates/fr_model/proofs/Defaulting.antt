@@ -1,7 +1,7 @@
 -- A field of the place at the cursor that is set to its default.
 use Rattle.std.proofs.Common.{◌≡◌, ◌+◌, ◌<◌, ◌∷◌}
 use Rattle.fr_model.proofs.Common.{ℕ, zero, suc, true, List, [], length, slice_get, Option, Some, None, refl, sym, ◌∙◌, ap, subst, arith, Def, EnumDef, Field, StructDef, VariantDef, fits, Table, def_of, field_of_variant, field_in, occurs, Val, opened, put_child, Tracker, as_fields, tracker_of, tracker_at, over_base, selected, Tree, whole, begun, Trees, no_trees, branch, child_tree, change_nth, change_child, child_as, count_trees, tree_occurs, Mode, child_count, fields_or_none, IsFullAs, IsBegunAs, Suits, RestsAround, AllOff, AtCursor}
-use Rattle.fr_model.proofs.Basis.{Enterable, a_field, a_variant_field, enterable_no_set, enterable_behind, Opening, opening, rightly_changed, whole_off, opened_rests, put_among, count_change, suit_change, nth_holds, opened_holds, done_but, done_put}
+use Rattle.fr_model.proofs.Basis.{Enterable, a_field, a_variant_field, enterable_apart, Opening, opening, rightly_changed, whole_off, opened_rests, put_among, count_change, suit_change, nth_holds, opened_holds, done_but, done_put}
 
 -- the place with its child i whole: it suits its shape, may be the cursor's, and holds the value's tokens in place of the child's
 pub record Putting (mode : Mode) (table : Table) (s i : ℕ) (v : Val) (t : Tree) : Type 0 where
@@ -29,11 +29,11 @@ putting mode table s i v t enterable at suits fit = record {
   rest = λ rested.
       let there : RestsAround [] (begun tracker place.children)
       = subst (λ (u : Tree). RestsAround [] u) place.is (opened_rests table s t suits rested) in
-      let behind = enterable_behind table s i t tracker (count_trees place.children) enterable place.begun_as.0 refl rested in
+      let apart = enterable_apart table s i t tracker (count_trees place.children) enterable place.begun_as.0 in
       subst (λ (u : Tree). RestsAround [] (change_child i (λ old. whole v) u)) (sym place.is) (
         done_put tracker i v place.children
-            (enterable_no_set table s i t tracker (count_trees place.children) enterable place.begun_as.0) behind
-            (done_but tracker i place.children behind there.0),
+            apart.0 (apart.1 refl rested)
+            (done_but tracker i place.children (apart.1 refl rested) there.0),
         put_among i v place.children there.1,
       );
   hold = λ k.

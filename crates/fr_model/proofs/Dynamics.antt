@@ -43,15 +43,10 @@ whole_array_keeps mode table s (dyn (dyn_array ds)) kept is fit e =
 whole_array_keeps mode table s (dyn _) kept is fit e = cc
 whole_array_keeps mode table s _ kept is fit e = cc
 
-begun_array_keeps : (mode : Mode) (table : Table) (s : ℕ) (tracker : Tracker) (ts : Trees) (kept : Tree) → AllOff mode ts
-    → Suits table s (begun tracker ts) → begun_array tracker ts ≡ Some kept → IsKept mode table s [] (begun tracker ts) kept
-begun_array_keeps mode table s (as_items ItemsKind.Array) ts kept off suits e = stays_kept mode table s _ kept suits off e
-begun_array_keeps mode table s _ ts kept off suits e = cc
-
 kept_array_keeps : (mode : Mode) (table : Table) (s : ℕ) (t kept : Tree) → def_of table s ≡ Def.Dynamic → AtCursor mode t
     → Suits table s t → kept_array t ≡ Some kept → IsKept mode table s [] t kept
 kept_array_keeps mode table s (whole v) kept is at suits e = whole_array_keeps mode table s v kept is suits e
-kept_array_keeps mode table s (begun tracker ts) kept is at suits e = begun_array_keeps mode table s tracker ts kept at suits e
+kept_array_keeps mode table s (begun (as_items ItemsKind.Array) ts) kept is at suits e = stays_kept mode table s _ kept suits at e
 kept_array_keeps mode table s _ kept is at suits e = cc
 
 pub array_becomes : (mode : Mode) (table : Table) (s : ℕ) (t : Tree) → def_of table s ≡ Def.Dynamic → AtCursor mode t
@@ -96,15 +91,10 @@ whole_object_keeps mode table s (dyn (dyn_object ms)) kept is fit e =
 whole_object_keeps mode table s (dyn _) kept is fit e = cc
 whole_object_keeps mode table s _ kept is fit e = cc
 
-begun_object_keeps : (mode : Mode) (table : Table) (s : ℕ) (tracker : Tracker) (ts : Trees) (kept : Tree) → AllOff mode ts
-    → Suits table s (begun tracker ts) → begun_object tracker ts ≡ Some kept → IsKept mode table s [] (begun tracker ts) kept
-begun_object_keeps mode table s (as_entries (EntriesKind.Object keys)) ts kept off suits e = stays_kept mode table s _ kept suits off e
-begun_object_keeps mode table s _ ts kept off suits e = cc
-
 kept_object_keeps : (mode : Mode) (table : Table) (s : ℕ) (t kept : Tree) → def_of table s ≡ Def.Dynamic → AtCursor mode t
     → Suits table s t → kept_object t ≡ Some kept → IsKept mode table s [] t kept
 kept_object_keeps mode table s (whole v) kept is at suits e = whole_object_keeps mode table s v kept is suits e
-kept_object_keeps mode table s (begun tracker ts) kept is at suits e = begun_object_keeps mode table s tracker ts kept at suits e
+kept_object_keeps mode table s (begun (as_entries (EntriesKind.Object keys)) ts) kept is at suits e = stays_kept mode table s _ kept suits at e
 kept_object_keeps mode table s _ kept is at suits e = cc
 
 pub object_becomes : (mode : Mode) (table : Table) (s : ℕ) (t : Tree) → def_of table s ≡ Def.Dynamic → AtCursor mode t
@@ -188,10 +178,7 @@ entry_holds table s key keys ts token = go _
   where
     go : (found : Option ℕ) → tree_occurs (and_entry table s key (as_entries (EntriesKind.Object keys)) ts found) token ≡ trees_occur ts token
     go (Some i) = refl
-    go None =
-        let last = last_holds ts (fresh (def_of table s)) token in
-        let none = fresh_holds (def_of table s) token in
-        omega arith
+    go None = omega (arith, last_holds ts (fresh (def_of table s)) token, fresh_holds (def_of table s) token)
 
 pub entry_rests : (table : Table) (s : ℕ) (key : List ℕ) (keys : List (List ℕ)) (ts : Trees)
     → Suits table s (begun (as_entries (EntriesKind.Object keys)) ts) → RestsAround [] (begun (as_entries (EntriesKind.Object keys)) ts)

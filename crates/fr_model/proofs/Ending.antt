@@ -11,19 +11,6 @@ pub began_up : (mode : Mode) (start : ℕ) (here : Place) → mode ≡ deferred 
 began_up strict start here is deeper = tt
 began_up (deferred from) start here is deeper = let same : from ≡ start = cc in omega (arith, deeper, up_long here)
 
--- what the place makes stands there, and the cursor goes up
-pub completed_in_order : (column : Column) (hooks : Meanings) (table : Table) (root : ℕ) (state : State) (v : Val)
-    → IsChecked table → BeganAbove state.mode (up state.cursor)
-    → complete column hooks table (cursor_shape table root state) (cursor_tree state) ≡ Some v
-    → IsInOrder table root state → IsInOrder table root (puts_and_leaves state v)
-completed_in_order column hooks table root state v checked began e order =
-    let made = made_at column hooks table root state v checked e order in
-    record {
-      suits = suits_changed state.mode table root state.cursor state.tree (λ old. whole v) order.leads order.suits tt made.fit;
-      leads = leads_up state.mode state.cursor state.tree v order.leads;
-      began = began;
-    }
-
 -- Above the cursor, where whatever stands there may be half done
 
 abbrev loosened : Mode → Mode
@@ -182,6 +169,4 @@ took_holds table root state v token below of_set leads =
     of_children =
         let item : tree_occurs (cursor_tree state) token ≡ tree_occurs (tree_nth i at.children) token
         = ap (λ (u : Tree). tree_occurs u token) at.item in
-        let others = without_holds i at.children token in
-        let with = with_holds (without_nth i at.children) v token in
-        omega arith
+        omega (arith, without_holds i at.children token, with_holds (without_nth i at.children) v token)

@@ -12,22 +12,17 @@ stays_begun _ vs parts = absurd parts
 
 -- journals that are joined, and notes at children
 
+noted_or : (b : Bool) (note : Note) (some others all : Journal) → all ≡ some ++ others
+    → (if b then note ∷ all else all) ≡ (if b then note ∷ some else some) ++ others
+noted_or true note some others all same = ap (λ (notes : Journal). note ∷ notes) same
+noted_or false note some others all same = same
+
 pub down_append : (i : ℕ) (some others : Journal) → down i (some ++ others) ≡ down i some ++ down i others
 down_append i [] others = refl
 down_append i (entered_at [] ∷ some) others = down_append i some others
-down_append i (entered_at (j ∷ place) ∷ some) others =
-    elim (j == i) as (λ b. (if b then entered_at place ∷ down i (some ++ others) else down i (some ++ others))
-    ≡ (if b then entered_at place ∷ down i some else down i some) ++ down i others) [
-      | true ↦ ap (λ (notes : Journal). entered_at place ∷ notes) (down_append i some others)
-      | false ↦ down_append i some others
-    ]
+down_append i (entered_at (j ∷ place) ∷ some) others = noted_or (j == i) (entered_at place) _ _ _ (down_append i some others)
 down_append i (wrote_at [] v ∷ some) others = ap (λ (notes : Journal). wrote_at [] (part v i) ∷ notes) (down_append i some others)
-down_append i (wrote_at (j ∷ place) v ∷ some) others =
-    elim (j == i) as (λ b. (if b then wrote_at place v ∷ down i (some ++ others) else down i (some ++ others))
-    ≡ (if b then wrote_at place v ∷ down i some else down i some) ++ down i others) [
-      | true ↦ ap (λ (notes : Journal). wrote_at place v ∷ notes) (down_append i some others)
-      | false ↦ down_append i some others
-    ]
+down_append i (wrote_at (j ∷ place) v ∷ some) others = noted_or (j == i) (wrote_at place v) _ _ _ (down_append i some others)
 
 -- notes, at places counted from the parent of child i on
 abbrev all_in_child : ℕ → Journal → Journal

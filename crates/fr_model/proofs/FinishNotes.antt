@@ -1,7 +1,7 @@
 -- What the end of deferred mode notes is what is due, and it can't end exactly where something due isn't there.
-use Rattle.std.proofs.Common.{◌≡◌, ◌≢◌, ◌⊎◌, ◌+◌, ◌<◌, ◌≤◌, ◌==◌, if◌then◌else◌, ◌∷◌, ◌++◌}
+use Rattle.std.proofs.Common.{◌≡◌, ◌≢◌, ◌⊎◌, ◌+◌, ◌<◌, ◌≤◌, ◌==◌, if◌then◌else◌, ◌∷◌, ◌++◌, ◌↔◌}
 use Rattle.fr_model.proofs.Common.{inl, inr, ⊎_elim, ℕ, zero, suc, Bool, true, false, eqb-true, eq-eqb, [], append_assoc, append-nil, get_or, Option, Some, None, refl, sym, ◌∙◌, ap, subst, arith, Contains, Contains-append_left, Contains-append_right, Contains-append_cases, Table, Val, IsAbove, IsLeft, IsHole, IsCursor, IsDue, StuckOrNoted, NotesWhatIsDue, Note, wrote_at, Journal, Held, in_parts, written, just_entered, untouched, held, child_makes, completes, both_notes, each_notes, writing, closing_by, closing, closing_here_by, closing_here, finish_notes, Place, deferred_column, child_count, child_shape, shape_at, fill_at}
-use Rattle.fr_model.proofs.Templates.{some_is}
+use Rattle.fr_model.specs.Finishing.{IsStuck}
 
 -- a note writes the value that is due at its place
 pub record IsNoteOf (Due : Place → Option Val → Type 0) (note : Note) : Type 0 where
@@ -10,71 +10,56 @@ pub record IsNoteOf (Due : Place → Option Val → Type 0) (note : Note) : Type
   pub writes : note ≡ wrote_at here value
   pub due : Due here (Some value)
 
--- the notes, if there are any, are of just what is due, and there are none exactly where a value that is due isn't there
-pub record Means (Due : Place → Option Val → Type 0) (found : Option Journal) : Type 0 where
-  pub stuck : found ≡ None → (here : Place) × Due here None
-  pub is_stuck : (here : Place) → Due here None → found ≡ None
-  pub noted : (added : Journal) → found ≡ Some added → (note : Note) → Contains added note → IsNoteOf Due note
-  pub is_noted : (added : Journal) → found ≡ Some added → (here : Place) (value : Val) → Due here (Some value)
-      → Contains added (wrote_at here value)
+-- the notes are of just what is due, and each value that is due is there
+pub record AreOf (Due : Place → Option Val → Type 0) (notes : Journal) : Type 0 where
+  pub never : (here : Place) → Due here None → ⊥
+  pub noted : (note : Note) → Contains notes note → IsNoteOf Due note
+  pub is_noted : (here : Place) (value : Val) → Due here (Some value) → Contains notes (wrote_at here value)
+
+-- there are no notes, as a value that is due isn't there; or they are of just what is due
+pub Means : (Due : Place → Option Val → Type 0) → Option Journal → Type 0
+Means Due None = (here : Place) × Due here None
+Means Due (Some notes) = AreOf Due notes
 
 -- the same things are due
-pub means_same : (Due Other : Place → Option Val → Type 0) (found : Option Journal)
+means_same : (Due Other : Place → Option Val → Type 0) (found : Option Journal)
     → ((here : Place) (value : Option Val) → Due here value → Other here value)
     → ((here : Place) (value : Option Val) → Other here value → Due here value) → Means Due found → Means Other found
-means_same Due Other found to from means = record {
-  stuck = λ e. let some = means.stuck e in (some.0, to some.0 None some.1);
-  is_stuck = λ here due. means.is_stuck here (from here None due);
-  noted = λ added e note among.
-      let there = means.noted added e note among in
+unfolding Means
+means_same Due Other None to from stuck = (stuck.0, to stuck.0 None stuck.1)
+means_same Due Other (Some notes) to from are = record {
+  never = λ here due. are.never here (from here None due);
+  noted = λ note among.
+      let there = are.noted note among in
       record { here = there.here; value = there.value; writes = there.writes; due = to there.here _ there.due };
-  is_noted = λ added e here value due. means.is_noted added e here value (from here (Some value) due);
+  is_noted = λ here value due. are.is_noted here value (from here (Some value) due);
 }
 
 -- nothing is due
 means_nothing : (Due : Place → Option Val → Type 0) → ((here : Place) (value : Option Val) → Due here value → ⊥) → Means Due (Some [])
-means_nothing Due never = record {
-  stuck = λ e. cc;
-  is_stuck = λ here due. absurd (never here None due);
-  noted = λ added e note among.
-      absurd (none_among note (subst (λ (some : Journal). Contains some note) (sym (some_is [] added e)) among));
-  is_noted = λ added e here value due. absurd (never here (Some value) due);
+unfolding Means
+means_nothing Due nothing = record {
+  never = λ here due. nothing here None due;
+  noted = λ note among. absurd (let below = among.1 in omega arith);
+  is_noted = λ here value due. absurd (nothing here (Some value) due);
 }
-  where
-    none_among : (note : Note) → Contains [] note → ⊥
-    none_among note among = let below = among.1 in omega arith
 
 -- one value is due, at one place
 abbrev One : Place → Option Val → Place → Option Val → Type 0
 One there makes here value = (here ≡ there) × (value ≡ makes)
 
 means_writing : (there : Place) (makes : Option Val) → Means (One there makes) (writing there makes)
-means_writing there None = record {
-  stuck = λ e. (there, (refl, refl));
-  is_stuck = λ here due. refl;
-  noted = λ added e note among. cc;
-  is_noted = λ added e here value due. cc;
-}
+unfolding Means
+means_writing there None = (there, (refl, refl))
 means_writing there (Some v) = record {
-  stuck = λ e. cc;
-  is_stuck = λ here due. let same = due.1 in cc;
-  noted = λ added e note among. record {
-    here = there;
-    value = v;
-    writes = only note (subst (λ (some : Journal). Contains some note) (sym (some_is _ added e)) among);
-    due = (refl, refl);
-  };
-  is_noted = λ added e here value due.
-      subst (λ (some : Journal). Contains some (wrote_at here value)) (some_is (wrote_at there v ∷ []) added e)
-      (it_is here value due.0 due.1);
+  never = λ here due. let same = due.1 in cc;
+  noted = λ note among. record { here = there; value = v; writes = only_at among.0 note among.1 among.2; due = (refl, refl) };
+  is_noted = λ here value due. it_is here value due.0 due.1;
 }
   where
     only_at : (k : ℕ) (note : Note) → k < 1 → get_or (wrote_at there v ∷ []) k note ≡ note → note ≡ wrote_at there v
     only_at zero note below is = sym is
     only_at (suc k) note below is = absurd (omega arith)
-
-    only : (note : Note) → Contains (wrote_at there v ∷ []) note → note ≡ wrote_at there v
-    only note among = only_at among.0 note among.1 among.2
 
     it_is : (here : Place) (value : Val) → here ≡ there → Some value ≡ Some v → Contains (wrote_at there v ∷ []) (wrote_at here value)
     it_is here value at same = let is : value ≡ v = cc in (zero, omega arith, cc)
@@ -85,27 +70,17 @@ Either Due Other here value = Due here value ⊎ Other here value
 
 means_both : (Due Other : Place → Option Val → Type 0) (some others : Option Journal) → Means Due some → Means Other others
     → Means (Either Due Other) (both_notes some others)
-means_both Due Other None others one more = record {
-  stuck = λ e. let there = one.stuck refl in (there.0, inl there.1);
-  is_stuck = λ here due. refl;
-  noted = λ added e note among. cc;
-  is_noted = λ added e here value due. cc;
-}
-means_both Due Other (Some some) None one more = record {
-  stuck = λ e. let there = more.stuck refl in (there.0, inr there.1);
-  is_stuck = λ here due. refl;
-  noted = λ added e note among. cc;
-  is_noted = λ added e here value due. cc;
-}
+unfolding Means
+means_both Due Other None others one more = (one.0, inl one.1)
+means_both Due Other (Some some) None one more = (more.0, inr more.1)
 means_both Due Other (Some some) (Some others) one more = record {
-  stuck = λ e. cc;
-  is_stuck = λ here due. ⊎_elim (λ d. let no = one.is_stuck here d in cc) (λ d. let no = more.is_stuck here d in cc) due;
-  noted = λ added e note among.
-      ⊎_elim (λ c. by_one note (one.noted some refl note c)) (λ c. by_more note (more.noted others refl note c))
-      (Contains-append_cases some others note (subst (λ (all : Journal). Contains all note) (sym (some_is _ added e)) among));
-  is_noted = λ added e here value due. subst (λ (all : Journal). Contains all (wrote_at here value)) (some_is (some ++ others) added e)
-      (⊎_elim (λ d. Contains-append_left some others _ (one.is_noted some refl here value d))
-      (λ d. Contains-append_right some others _ (more.is_noted others refl here value d)) due);
+  never = λ here due. ⊎_elim (one.never here) (more.never here) due;
+  noted = λ note among.
+      ⊎_elim (λ c. by_one note (one.noted note c)) (λ c. by_more note (more.noted note c))
+      (Contains-append_cases some others note among);
+  is_noted = λ here value due.
+      ⊎_elim (λ d. Contains-append_left some others _ (one.is_noted here value d))
+      (λ d. Contains-append_right some others _ (more.is_noted here value d)) due;
 }
   where
     by_one : (note : Note) → IsNoteOf Due note → IsNoteOf (Either Due Other) note
@@ -438,16 +413,21 @@ module _ (table : Table) (root : ℕ) (notes : Journal) (cursor : Place) where
       (means_finish table notes cursor root [])
 
 pub stuck_or_noted : StuckOrNoted
-stuck_or_noted table root notes cursor = (
-  λ e. let some = (means_due table root notes cursor).stuck e in record { here = some.0; due = some.1 },
-  λ stuck. (means_due table root notes cursor).is_stuck stuck.here stuck.due,
-)
+unfolding Means
+stuck_or_noted table root notes cursor = go _ (means_due table root notes cursor)
+  where
+    go : (found : Option Journal) → Means (Due table root notes cursor) found → (found ≡ None) ↔ IsStuck table root notes cursor
+    go None stuck = (λ e. record { here = stuck.0; due = stuck.1 }, λ there. refl)
+    go (Some added) are = (λ e. cc, λ there. absurd (are.never there.here there.due))
 
 pub notes_what_is_due : NotesWhatIsDue
+unfolding Means
 notes_what_is_due table root notes added cursor note e = (
   λ among.
-      let there = (means_due table root notes cursor).noted added e note among in
+      let there = are.noted note among in
       record { here = there.here; value = there.value; writes = there.writes; due = there.due },
-  λ due. subst (λ (n : Note). Contains added n) (sym due.writes)
-      ((means_due table root notes cursor).is_noted added e due.here due.value due.due),
+  λ due. subst (λ (n : Note). Contains added n) (sym due.writes) (are.is_noted due.here due.value due.due),
 )
+  where
+    are : AreOf (Due table root notes cursor) added
+    are = subst (Means (Due table root notes cursor)) e (means_due table root notes cursor)

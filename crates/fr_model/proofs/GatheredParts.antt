@@ -132,9 +132,7 @@ pub dynamics_hold : (table : Table) (s : ℕ) (vs : Vals) (t : ℕ) → settled 
 dynamics_hold table s no_vals t is fit = refl
 dynamics_hold table s (first v vs) t is fit =
     let both = both_true _ _ fit in
-    let here = dynamic_holds table s v t is both.0 in
-    let rest = dynamics_hold table s vs t is both.1 in
-    omega arith
+    omega (arith, dynamic_holds table s v t is both.0, dynamics_hold table s vs t is both.1)
 
 -- what they hold
 
@@ -153,10 +151,7 @@ items_hold there (first v vs) t = go _ (λ those. items_hold those vs t)
         + ((if b then occurs v t else 0) + items_left_out (if b then there else and_last_val there v) vs t)
         ≡ vals_occur there t + (occurs v t + vals_occur vs t)
     go true each = let rest = each there in omega arith
-    go false each =
-        let rest = each (and_last_val there v) in
-        let last = last_holds there v t in
-        omega arith
+    go false each = omega (arith, each (and_last_val there v), last_holds there v t)
 
 entry_holds : (there : Entries) (k v : Val) (t : ℕ) → entries_occur (with_entry_in there k v) t + entry_leaves_out there k t
     ≡ entries_occur there t + (occurs k t + occurs v t)
@@ -175,7 +170,4 @@ pub entries_hold : (there : Entries) (vs : Vals) (t : ℕ)
     → entries_occur (entries_in there vs) t + entries_left_out there vs t ≡ entries_occur there t + vals_occur vs t
 entries_hold there no_vals t = refl
 entries_hold there (first k no_vals) t = omega arith
-entries_hold there (first k (first v vs)) t =
-    let here = entry_holds there k v t in
-    let rest = entries_hold (with_entry_in there k v) vs t in
-    omega arith
+entries_hold there (first k (first v vs)) t = omega (arith, entry_holds there k v t, entries_hold (with_entry_in there k v) vs t)

@@ -173,9 +173,7 @@ item_placed mode table s t takes there =
 pub item_holds : (table : Table) (s : ℕ) (t : Tree) (token : ℕ) → tree_occurs (with_item table s t) token ≡ tree_occurs t token
 item_holds table s (begun tracker ts) token =
     let shape = child_as table s tracker (count_trees ts) in
-    let last = last_holds ts (fresh (def_of table shape)) token in
-    let none = fresh_holds (def_of table shape) token in
-    omega arith
+    omega (arith, last_holds ts (fresh (def_of table shape)) token, fresh_holds (def_of table shape) token)
 item_holds table s _ token = refl
 
 -- Pointers to slices

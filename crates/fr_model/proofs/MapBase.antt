@@ -88,8 +88,7 @@ pub base_within : (base : ℕ) (ts : Trees) → IsBase base ts → base + base �
 base_within base ts is =
     let long = base_long base ts is in
     let same : count_trees ts ≡ count_trees _ = ap count_trees is.are in
-    let there = front_long (in_turn is.entries) is.rest in
-    omega arith
+    omega (arith, front_long (in_turn is.entries) is.rest)
 
 front_hole : (vs : Vals) (rest : Trees) → ends_in_hole (in_front vs rest) ≡ true → count_vals vs < count_trees (in_front vs rest)
 front_hole no_vals no_trees e = cc
@@ -102,8 +101,7 @@ pub base_hole : (base i : ℕ) (ts : Trees) → IsBase base ts → ends_in_hole 
 base_hole base i ts is e last =
     let long = base_long base ts is in
     let same : count_trees ts ≡ count_trees _ = ap count_trees is.are in
-    let there = front_hole (in_turn is.entries) is.rest (ap ends_in_hole (sym is.are) ∙ e) in
-    omega arith
+    omega (arith, front_hole (in_turn is.entries) is.rest (ap ends_in_hole (sym is.are) ∙ e))
 
 -- The keys of a base are apart
 

@@ -3,8 +3,8 @@ use Rattle.std.proofs.Common.{◌≡◌, ◌+◌, ◌≤◌, if◌then◌else◌
 use Rattle.fr_model.proofs.Common.{ℕ, zero, suc, Bool, true, false, [], append-nil, Option, Some, None, Result, Ok, Err, refl, ◌∙◌, ap, subst, arith, ReflectErrorKind, Invariant, IsChecked, Meanings, Table, def_of, Val, Call, complete, Place, strict_column, is_root, removed, removed_by, replaced, removed_at_build, removed_by_build, IsFitting, brings, violates, step, cause, built, build_in, build, fresh, Tree, whole, change_at, Mode, strict, deferred, State, cursor_shape, cursor_tree, initial, tree_occurs, Suits, RestsAround, IsInOrder, AreDistinct, IsWell}
 use Rattle.fr_model.specs.Laws.{held_after, built_occurs, IsFresh}
 use Rattle.fr_model.proofs.Ways.{Move, stays, goes_on, goes_up, is_taken, stays_behind, is_deferred, is_over}
-use Rattle.fr_model.proofs.Basis.{completing_makes, changed_in_order, moved_in_order, made_at, start_in_order, left_in_order, deferred_in_order, rests_here, fresh_rests, rest_on, rest_up, rest_put_up, rest_took, fresh_holds, change_holds}
-use Rattle.fr_model.proofs.Ending.{completed_in_order, took_in_order, took_holds}
+use Rattle.fr_model.proofs.Basis.{completing_makes, completed_in_order, changed_in_order, moved_in_order, made_at, start_in_order, left_in_order, deferred_in_order, rests_here, fresh_rests, rest_on, rest_up, rest_put_up, rest_took, fresh_holds, change_holds}
+use Rattle.fr_model.proofs.Ending.{took_in_order, took_holds}
 use Rattle.fr_model.proofs.FinishRests.{finish_rests}
 use Rattle.fr_model.proofs.Finishes.{finish_keeps}
 use Rattle.fr_model.proofs.Moving.{moves}
@@ -17,32 +17,23 @@ moves_tokens : (hooks : Meanings) (table : Table) (root : ℕ) (state next : Sta
     → tree_occurs state.tree t + brings command t
     ≡ tree_occurs next.tree t + replaced hooks table root (cursor_shape table root state) state command t
 moves_tokens hooks table root state next command t checked order (stays same change placed hold rest) =
-    let there = change_holds state.mode state.cursor state.tree change t order.leads in
-    let held = hold t in
-    omega arith
+    omega (arith, change_holds state.mode state.cursor state.tree change t order.leads, hold t)
 moves_tokens hooks table root state next command t checked order (goes_on same i change placed hold rest) =
-    let there = change_holds state.mode state.cursor state.tree change t order.leads in
-    let held = hold t in
-    omega arith
+    omega (arith, change_holds state.mode state.cursor state.tree change t order.leads, hold t)
 moves_tokens hooks table root state next command t checked order (goes_up column v began no_set is drops) =
     let there = change_holds state.mode state.cursor state.tree (λ old. whole v) t order.leads in
     let made = made_at column hooks table root state v checked is order in
-    let same = made.hold t in
-    let dropped = drops t in
-    omega arith
+    omega (arith, made.hold t, drops t)
 moves_tokens hooks table root state next command t checked order (is_taken column v began below of_set is drops) =
     let there = took_holds table root state v t below of_set order.leads in
     let made = made_at column hooks table root state v checked is order in
-    let same = made.hold t in
-    let dropped = drops t in
-    omega arith
+    omega (arith, made.hold t, drops t)
 moves_tokens hooks table root state next command t checked order (stays_behind start mode deeper shut no_set no_part drops) =
     omega (arith, drops t)
 moves_tokens hooks table root state next command t checked order (is_deferred is) = refl
 moves_tokens hooks table root state next command t checked order (is_over tree is) =
     let kept = finish_keeps hooks table root state.cursor state.tree tree checked order.suits is in
-    let same = kept.hold t in
-    omega arith
+    omega (arith, kept.hold t)
 
 -- whatever comes of a command: nothing is lost and nothing doubled
 pub step_keeps_tokens : (hooks : Meanings) (table : Table) (root : ℕ) (state : State) (command : Call)
@@ -67,8 +58,7 @@ build_keeps_tokens hooks table root state checked suits t = by_mode state.mode
         → tree_occurs state.tree t ≡ built_occurs outcome t + removed_by_build hooks table root state outcome t
     kept (Ok v) is =
         let made = completing_makes strict_column hooks table state.tree root v checked suits (is v refl) in
-        let same = made.hold t in
-        omega arith
+        omega (arith, made.hold t)
     kept (Err kind) is = omega arith
 
     go : (b : Bool) (value : Option Val) → complete strict_column hooks table root state.tree ≡ value → tree_occurs state.tree t

@@ -5,7 +5,7 @@ use Rattle.fr_model.proofs.Ways.{moved, EndsBelow, Move, stays, goes_on, goes_up
 use Rattle.fr_model.proofs.Items.{TakesAnItem, list_opens, array_opens, takes_a_set_item, item_placed, item_holds, takes_an_item, slice_closes, closed_holds, shared_fits}
 use Rattle.fr_model.proofs.Becoming.{Placed, Becoming, content_becomes, option_becomes, IsSide, side_holds, pointer_holds, slice_becomes, variant_becomes}
 use Rattle.fr_model.proofs.Defaulting.{putting, field_there}
-use Rattle.fr_model.proofs.Basis.{at_cursor, suits_at, up_long, began_strict, entry_at, Enterable, enterable_behind, opening, opened_rests, enter_child_rests, item_rests, key_rests, closed_rests, settled_as, preset_template, template_holds, field_default_template, opened_holds, enter_child_holds, completing_makes}
+use Rattle.fr_model.proofs.Basis.{at_cursor, suits_at, up_long, began_strict, entry_at, Enterable, enterable_apart, opening, opened_rests, enter_child_rests, item_rests, key_rests, closed_rests, settled_as, preset_template, template_holds, field_default_template, opened_holds, enter_child_holds, completing_makes}
 use Rattle.fr_model.proofs.Collections.{set_opens, map_opens, IsMap, takes_a_key, takes_a_value, key_placed, key_holds, value_enterable}
 use Rattle.fr_model.proofs.Conversions.{converted_is}
 use Rattle.fr_model.proofs.Dynamics.{dynamic_def, array_becomes, object_becomes, IsObject, takes_an_entry, entry_placed, entry_holds, entry_rests}
@@ -108,7 +108,7 @@ module _ (hooks : Meanings) (table : Table) (checked : IsChecked table) (root : 
       goes_on command i (enter_child table here i) (record { suits = child.suits; leads = child.leads })
       (λ t. let same = enter_child_holds table here i tree t in omega (arith, drops t, none t))
       (λ rested. enter_child_rests table here i tree suits_here
-      (enterable_behind table here i tree tracker (count_trees place.children) enterable place.begun_as.0 refl rested) rested)
+      ((enterable_apart table here i tree tracker (count_trees place.children) enterable place.begun_as.0).1 refl rested) rested)
 
   opens_it : (command : Call) → Placed state.mode table here [] (opened (def_of table here) tree)
       → ((t : ℕ) → replaced hooks table root here state command t ≡ 0) → ((t : ℕ) → brings command t ≡ 0)

@@ -58,50 +58,42 @@ begun_within table s i tracker ts (a_value key item is base children there last 
     omega arith
 
 -- a place begun so is no set and has no base
-record IsApart (tracker : Tracker) : Type 0 where
-  no_set : is_set_tracker tracker ≡ false
-  behind : (i : ℕ) → IsBehindBase tracker i
+abbrev IsApart : Tracker → Type 0
+IsApart tracker = (is_set_tracker tracker ≡ false) × ((i : ℕ) → IsBehindBase tracker i)
 
 fields_apart : (struct : StructDef) (tracker : Tracker) (n : ℕ) → IsFullAs (Def.Struct struct) tracker n → IsApart tracker
-fields_apart struct (as_fields None) n full_as = record { no_set = refl; behind = λ i. tt }
+fields_apart struct (as_fields None) n full_as = (refl, λ i. tt)
 fields_apart struct _ n full_as = absurd full_as
 
 elements_apart : (item : ShapeId) (m : ℕ) (tracker : Tracker) (n : ℕ) → IsFullAs (Def.Array item m) tracker n → IsApart tracker
-elements_apart item m as_elements n full_as = record { no_set = refl; behind = λ i. tt }
+elements_apart item m as_elements n full_as = (refl, λ i. tt)
 elements_apart item m _ n full_as = absurd full_as
 
 variant_apart : (enumeration : EnumDef) (tracker : Tracker) (n : ℕ) → IsFullAs (Def.Enum enumeration) tracker n → IsApart tracker
-variant_apart enumeration (as_fields (Some k)) n full_as = record { no_set = refl; behind = λ i. tt }
+variant_apart enumeration (as_fields (Some k)) n full_as = (refl, λ i. tt)
 variant_apart enumeration _ n full_as = absurd full_as
 
 map_no_set : (key item : ShapeId) (tracker : Tracker) (n : ℕ) → IsFullAs (Def.Map key item) tracker n → is_set_tracker tracker ≡ false
 map_no_set key item (as_entries (EntriesKind.Map base)) n full_as = refl
 map_no_set key item _ n full_as = absurd full_as
 
--- a place of which a child is entered so is no set
-pub enterable_no_set : (table : Table) (s i : ℕ) (t : Tree) (tracker : Tracker) (n : ℕ) → Enterable table s i t
-    → IsFullAs (def_of table s) tracker n → is_set_tracker tracker ≡ false
-enterable_no_set table s i t tracker n (a_field struct is below) full_as = (fields_apart struct tracker n (rw is at full_as)).no_set
-enterable_no_set table s i t tracker n (an_element item m is below few not_whole) full_as =
-    (elements_apart item m tracker n (rw is at full_as)).no_set
-enterable_no_set table s i t tracker n (a_variant_field k enumeration is chosen below) full_as =
-    (variant_apart enumeration tracker n (rw is at full_as)).no_set
-enterable_no_set table s i t tracker n (a_value key item is base children there last lacking) full_as =
-    map_no_set key item tracker n (rw is at full_as)
-
--- and the child isn't in its base, for that has all its values
-pub enterable_behind : (table : Table) (s i : ℕ) (t : Tree) (tracker : Tracker) (n : ℕ) → Enterable table s i t
-    → IsFullAs (def_of table s) tracker n → tracker_at (def_of table s) t ≡ tracker → RestsAround [] t → IsBehindBase tracker i
-enterable_behind table s i t tracker n (a_field struct is below) full_as formed rested =
-    (fields_apart struct tracker n (rw is at full_as)).behind i
-enterable_behind table s i t tracker n (an_element item m is below few not_whole) full_as formed rested =
-    (elements_apart item m tracker n (rw is at full_as)).behind i
-enterable_behind table s i t tracker n (a_variant_field k enumeration is chosen below) full_as formed rested =
-    (variant_apart enumeration tracker n (rw is at full_as)).behind i
-enterable_behind table s i t tracker n (a_value key item is base children there last lacking) full_as formed rested =
-    let rests : RestsAround [] (begun (as_entries (EntriesKind.Map base)) children) = subst (λ (u : Tree). RestsAround [] u) there rested in
-    let same : as_entries _ ≡ tracker = ap (tracker_at _) (sym there) ∙ formed in
-    subst (λ (one : Tracker). IsBehindBase one i) same (base_hole base i children rests.0 lacking last)
+-- a place of which a child is entered so is no set, and the child isn't in its base, for that has all its values
+pub enterable_apart : (table : Table) (s i : ℕ) (t : Tree) (tracker : Tracker) (n : ℕ) → Enterable table s i t
+    → IsFullAs (def_of table s) tracker n → (is_set_tracker tracker ≡ false)
+    × (tracker_at (def_of table s) t ≡ tracker → RestsAround [] t → IsBehindBase tracker i)
+enterable_apart table s i t tracker n (a_field struct is below) full_as =
+    let apart = fields_apart struct tracker n (rw is at full_as) in (apart.0, λ formed rested. apart.1 i)
+enterable_apart table s i t tracker n (an_element item m is below few not_whole) full_as =
+    let apart = elements_apart item m tracker n (rw is at full_as) in (apart.0, λ formed rested. apart.1 i)
+enterable_apart table s i t tracker n (a_variant_field k enumeration is chosen below) full_as =
+    let apart = variant_apart enumeration tracker n (rw is at full_as) in (apart.0, λ formed rested. apart.1 i)
+enterable_apart table s i t tracker n (a_value key item is base children there last lacking) full_as = (
+  map_no_set key item tracker n (rw is at full_as),
+  λ formed rested.
+      let rests : RestsAround [] (begun (as_entries (EntriesKind.Map base)) children) = subst (RestsAround []) there rested in
+      let same : as_entries _ ≡ tracker = ap (tracker_at _) (sym there) ∙ formed in
+      subst (λ (one : Tracker). IsBehindBase one i) same (base_hole base i children rests.0 lacking last),
+)
 
 -- a content that is there stays there
 pub content_changed : (ts : Trees) (i : ℕ) (change : Tree → Tree) → IsTouched (change (tree_nth i ts)) → IsContent ts

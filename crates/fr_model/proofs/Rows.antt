@@ -1,14 +1,9 @@
 -- Worked scripts over two small tables, by the machine and by the journal.
 use Rattle.std.proofs.Common.{rules, ◌≡◌, ◌∷◌}
-use Rattle.fr_model.proofs.Common.{plain_shape, plain_field, ℕ, true, List, [], None, Some, Ok, Err, Result, codes, ShapeId, Def, StructKind, ScalarKind, Field, PlanFault, ReflectErrorKind, Operation, Invariant, no_hooks, Table, IsServed, fits, Val, nat, text, token, product, no_vals, first, PathStep, Call, journal_run, Refusal, full_run, whole, strict, removed}
+use Rattle.fr_model.proofs.Common.{plain_shape, plain_field, ℕ, true, List, [], None, Some, Ok, codes, Def, ScalarKind, Field, PlanFault, ReflectErrorKind, Operation, Invariant, no_hooks, Table, IsServed, fits, Val, nat, text, token, product, no_vals, first, PathStep, Call, journal_run, full_run, whole, strict, removed}
+use Rattle.fr_model.specs.ContentExamples.{id, refused, struct_of}
 
 -- to write tables and scripts
-
-abbrev pub number : ℕ → ShapeId
-number n = record { 0 = n }
-
-abbrev pub struct : List Field → Def
-struct fields = Def.Struct (record { kind = StructKind.Struct; fields = fields })
 
 abbrev pub pair_of : Val → Val → Val
 pair_of v w = product (first v (first w no_vals))
@@ -22,26 +17,19 @@ begin i = Call.BeginNthField i
 abbrev pub end : Call
 end = Call.End
 
--- refused at the place to which these steps lead
-abbrev pub refused : ℕ → ReflectErrorKind → List PathStep → Result Val Refusal
-refused n kind path = Err (record { number = n; kind = kind; path = path })
-
 abbrev pub field_at : ℕ → PathStep
 field_at i = PathStep.Field i
-
-abbrev pub at_root : List PathStep
-at_root = []
 
 -- the kinds of refusals, written out here, so that the definitions of the calls are tried against them
 
 abbrev pub lacks_field : ℕ → ℕ → ReflectErrorKind
-lacks_field s i = ReflectErrorKind.UninitializedField (record { shape = number s; variant = None; index = i })
+lacks_field s i = ReflectErrorKind.UninitializedField (record { shape = id s; variant = None; index = i })
 
 abbrev pub lacks_value : ℕ → ReflectErrorKind
-lacks_value s = ReflectErrorKind.UninitializedValue (number s)
+lacks_value s = ReflectErrorKind.UninitializedValue (id s)
 
 abbrev pub failed : ℕ → Operation → ReflectErrorKind
-failed s operation = ReflectErrorKind.OperationFailed (number s) operation
+failed s operation = ReflectErrorKind.OperationFailed (id s) operation
 
 abbrev pub violated : Invariant → ReflectErrorKind
 violated invariant = ReflectErrorKind.InvariantViolation invariant
@@ -56,8 +44,8 @@ abbrev nested : Table
 nested =
     plain_shape (codes "u32") (Def.Scalar ScalarKind.U32)
     ∷ plain_shape (codes "String") (Def.Scalar ScalarKind.String)
-    ∷ plain_shape (codes "Inner") (struct (plain_field (codes "x") 0 ∷ plain_field (codes "b") 0 ∷ []))
-    ∷ plain_shape (codes "Outer") (struct (plain_field (codes "name") 1 ∷ plain_field (codes "inner") 2 ∷ []))
+    ∷ plain_shape (codes "Inner") (struct_of (plain_field (codes "x") 0 ∷ plain_field (codes "b") 0 ∷ []))
+    ∷ plain_shape (codes "Outer") (struct_of (plain_field (codes "name") 1 ∷ plain_field (codes "inner") 2 ∷ []))
     ∷ []
 
 abbrev whole_script : List Call
@@ -74,8 +62,8 @@ abbrev opaque : Table
 opaque =
     plain_shape (codes "Res") Def.Opaque
     ∷ plain_shape (codes "u32") (Def.Scalar ScalarKind.U32)
-    ∷ plain_shape (codes "Cell") (struct (plain_field (codes "a") 0 ∷ plain_field (codes "k") 1 ∷ []))
-    ∷ plain_shape (codes "Pair") (struct (plain_field (codes "p") 2 ∷ plain_field (codes "q") 2 ∷ []))
+    ∷ plain_shape (codes "Cell") (struct_of (plain_field (codes "a") 0 ∷ plain_field (codes "k") 1 ∷ []))
+    ∷ plain_shape (codes "Pair") (struct_of (plain_field (codes "p") 2 ∷ plain_field (codes "q") 2 ∷ []))
     ∷ []
 
 -- built away from the root, where the first field is complete and the second was never entered
@@ -95,12 +83,12 @@ abbrev unplanned : Table
 unplanned =
     plain_shape (codes "str") Def.Str
     ∷ plain_shape (codes "Other") Def.Other
-    ∷ plain_shape (codes "Bad") (struct (plain_field (codes "a") 0 ∷ plain_field (codes "b") 1 ∷ []))
-    ∷ plain_shape (codes "Others") (Def.Slice (number 1))
+    ∷ plain_shape (codes "Bad") (struct_of (plain_field (codes "a") 0 ∷ plain_field (codes "b") 1 ∷ []))
+    ∷ plain_shape (codes "Others") (Def.Slice (id 1))
     ∷ []
 
 abbrev no_plan : ℕ → PlanFault → ReflectErrorKind
-no_plan s fault = ReflectErrorKind.Alloc (record { shape = number s; operation = fault })
+no_plan s fault = ReflectErrorKind.Alloc (record { shape = id s; operation = fault })
 
 -- what the machine and the journal make of scripts, computed from the definitions
 record ModelRows : Type 0 where
@@ -108,18 +96,18 @@ record ModelRows : Type 0 where
   builds : Makes nested 3 whole_script whole_value
   -- what is refused, at which command and why
 
-  nothing_put_in : full_run no_hooks nested 3 [] ≡ refused 0 (lacks_field 3 0) at_root
-  no_value : full_run no_hooks nested 0 [] ≡ refused 0 (lacks_value 0) at_root
+  nothing_put_in : full_run no_hooks nested 3 [] ≡ refused 0 (lacks_field 3 0) []
+  no_value : full_run no_hooks nested 0 [] ≡ refused 0 (lacks_value 0) []
   first_field_missing : full_run no_hooks nested 3 (begin 1 ∷ end ∷ []) ≡ refused 1 (lacks_field 2 0) (field_at 1 ∷ [])
   -- the first hole, not the field that was entered last
   second_field_missing :
       full_run no_hooks nested 3 (begin 1 ∷ begin 0 ∷ set 0 (nat 42) ∷ end ∷ end ∷ []) ≡ refused 4 (lacks_field 2 1) (field_at 1 ∷ [])
-  end_at_the_root : full_run no_hooks nested 3 (end ∷ []) ≡ refused 0 (violated Invariant.EndAtRoot) at_root
+  end_at_the_root : full_run no_hooks nested 3 (end ∷ []) ≡ refused 0 (violated Invariant.EndAtRoot) []
   wrong_shape :
-      full_run no_hooks nested 3 (begin 0 ∷ set 0 (nat 42) ∷ []) ≡ refused 1 (ReflectErrorKind.WrongShape (number 1) (number 0)) (field_at 0 ∷ [])
+      full_run no_hooks nested 3 (begin 0 ∷ set 0 (nat 42) ∷ []) ≡ refused 1 (ReflectErrorKind.WrongShape (id 1) (id 0)) (field_at 0 ∷ [])
   no_fields :
       full_run no_hooks nested 3 (begin 1 ∷ begin 1 ∷ begin 1 ∷ []) ≡ refused 2 (failed 0 Operation.FieldOfOther) (field_at 1 ∷ field_at 1 ∷ [])
-  no_third_field : full_run no_hooks nested 3 (begin 2 ∷ []) ≡ refused 0 (failed 3 Operation.FieldIndexOutOfBounds) at_root
+  no_third_field : full_run no_hooks nested 3 (begin 2 ∷ []) ≡ refused 0 (failed 3 Operation.FieldIndexOutOfBounds) []
   none_by_journal : journal_run nested 3 [] ≡ None
   none_without_second_field : journal_run nested 3 (begin 1 ∷ begin 0 ∷ set 0 (nat 42) ∷ end ∷ end ∷ []) ≡ None
   none_of_wrong_shape : journal_run nested 3 (begin 0 ∷ set 0 (nat 42) ∷ []) ≡ None
@@ -134,10 +122,10 @@ record ModelRows : Type 0 where
   cell_fits : fits opaque 2 (cell 0 1) ≡ true
   enters_anew : Makes opaque 3 entered_anew (pair_of (cell 2 3) (cell 1 2))
   -- a shape that can't be planned is refused before any command, and the refusal names it
-  unsupported_field : full_run no_hooks unplanned 2 (begin 5 ∷ []) ≡ refused 0 (no_plan 1 PlanFault.Unsupported) at_root
-  unsized_root : full_run no_hooks unplanned 0 [] ≡ refused 0 (no_plan 0 PlanFault.NotSized) at_root
+  unsupported_field : full_run no_hooks unplanned 2 (begin 5 ∷ []) ≡ refused 0 (no_plan 1 PlanFault.Unsupported) []
+  unsized_root : full_run no_hooks unplanned 0 [] ≡ refused 0 (no_plan 0 PlanFault.NotSized) []
   -- an unsized root's own refusal comes last
-  unsupported_in_unsized : full_run no_hooks unplanned 3 [] ≡ refused 0 (no_plan 1 PlanFault.Unsupported) at_root
+  unsupported_in_unsized : full_run no_hooks unplanned 3 [] ≡ refused 0 (no_plan 1 PlanFault.Unsupported) []
 
 model_rows : ModelRows
 model_rows = search rules

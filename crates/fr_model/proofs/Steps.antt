@@ -1,7 +1,7 @@
 -- One command does the same to the journal and to the tree.
 use Rattle.std.proofs.Common.{◌≡◌, ◌<◌, ◌==◌, ◌&&◌, ◌||◌, if◌then◌else◌, ◌∷◌, ◌++◌}
 use Rattle.fr_model.proofs.Common.{ℕ, eqb-true, ltb-true, Bool, true, false, List, [], length, nat_lt, Option, Some, None, Result, Ok, Err, refl, sym, ◌∙◌, ap, subst, ReflectErrorKind, Operation, Invariant, Def, IsChecked, is_sized, preset_of, fits, Meanings, Table, def_of, Val, Call, IsFieldCall, field_named, Place, Column, strict_column, deferred_column, is_root, up, shape_at, entered_at, wrote_at, Journal, Held, held, completes, Progress, may_enter, goes_to_child, goes_to_found, writes, ends, goes_up, end_rule, begin_deferred_rule, finishes_with, finish_rule, finish_notes, rule, is_set, is_set_tracker, is_begun_dynamic, is_dynamic_tracker, is_open_slice, HasParts, field_found, Tracker, as_fields, as_elements, as_items, ItemsKind, variant_of, selected, Tree, hole, entered, begun, whole, tree_at, Mode, strict, deferred, State, cursor_shape, cursor_tree, one_more_call, complete, finished, Way, enter_child, enters, unless_refused, field_refusal, named_refusal, at_shape, begins_named, puts, is_str, is_owned_string, takes_shape, set_refusal, puts_default, violates, ended, leaves, is_set_item, is_dynamic_part, ends_item, leaves_deferred, end_in, begins_deferred, finishes, finish_in, step, IsFitting, Suits, IsInOrder}
-use Rattle.fr_model.proofs.Basis.{AllPlain, not_dynamic, along, held_along, by_value, Agrees, agree_along, completes_at, under_entered, under_wrote, follow, PartsAlong, parts_along, at_cursor, suits_at, plain_at, same_shape, entry_at, begun_in_order, put_in_order, ended_in_order, left_in_order, deferred_in_order, preset_template}
+use Rattle.fr_model.proofs.Basis.{AllPlain, began_strict, completed_in_order, not_dynamic, along, held_along, by_value, Agrees, agree_along, completes_at, under_entered, under_wrote, follow, PartsAlong, parts_along, at_cursor, suits_at, plain_at, same_shape, entry_at, begun_in_order, put_in_order, completed_in_order, left_in_order, deferred_in_order, preset_template}
 use Rattle.fr_model.proofs.Children.{nothing_below, SeesWhole, sees_whole, may_enter_by, ChildOf, enterable, ChildCase, a_child, a_variant_child, no_child, child_case, only_of_enum, NamedCase, a_named, a_variant_named, no_such_name, no_names, named_case}
 use Rattle.fr_model.proofs.FinishAgreement.{BothFinish, finish_agrees}
 use Rattle.fr_model.proofs.Finishes.{finish_keeps, finish_leads}
@@ -210,7 +210,8 @@ module _ (hooks : Meanings) (table : Table) (checked : IsChecked table) (root : 
       → complete strict_column hooks table at_here (cursor_tree state) ≡ value → by_notes ≡ value
       → BothStep table root (ended hooks table at_here state value) (ends run by_notes)
   ends_alike is_strict (Some v) by_notes is same_value = rw same_value (record {
-    in_order = ended_in_order strict_column hooks table root state v checked is_strict is order;
+    in_order = completed_in_order strict_column hooks table root state v checked
+        (began_strict state.mode (up state.cursor) is_strict) is order;
     agrees = rw (← under_wrote state.cursor v)
         (follow state.mode table root state.cursor state.tree notes (wrote_at [] v) (λ old. whole v) order.leads agrees
         (λ old. by_value refl));
