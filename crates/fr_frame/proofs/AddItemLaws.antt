@@ -1,14 +1,14 @@
--- An item that comes to a list: the list has room for it in its piece, and its slot behind those of the others.
+-- An item that comes to a list: the list has room for it in its partial value, and its slot behind those of the others.
 use Rattle.std.proofs.Common.{◌≡◌, ℕ, zero, suc, ◌+◌, ◌-◌, ◌≤◌, Bool, true, false, List, [], ◌∷◌, ◌++◌, length, length-append, Option, Some, None, IsSomeAnd, get_or, slice_get, set, refl, sym, ◌∙◌, ap, ap₂, subst, arith, if◌then◌else◌}
 use Rattle.std.proofs.lemmas.Result.{on_ok_weaker, IfErr-weaker}
-use Rattle.fr_frame.specs.Common.{Box, Cell, Err, Global, HasRoomIn, Held, IfInUse, IsReserved, IsSeenAs, Item, KeepsReserved, Node, Ok, OnErr, OnOk, Piece, Place, Result, Rope, SameTokens, Shows, Slot, SlotId, absent, body_occurs, body_of, cells_occur, children_with, heap_of, is_list_body, item_in, item_or, items_of, keeps_items, node_in, option_and_then, piece_with, place_with, placed, slot_seen, slots_occur, slots_seen, value_held, with_body, with_items, with_placed}
+use Rattle.fr_frame.specs.Common.{Box, Cell, Err, Global, HasRoomIn, Held, IfInUse, IsReserved, IsSeenAs, Item, KeepsReserved, Node, Ok, OnErr, OnOk, PartialValue, Place, Result, Rope, SameTokens, Shows, Slot, SlotId, absent, body_occurs, body_of, cells_occur, children_with, heap_of, is_list_body, item_in, item_or, items_of, keeps_items, node_in, option_and_then, partial_with, place_with, placed, slot_seen, slots_occur, slots_seen, value_held, with_body, with_items, with_placed}
 use Rattle.fr_frame.specs.declared.places.ItemsKind.{ItemsKind}
 use Rattle.fr_frame.specs.declared.places.Tracker.{Tracker}
-use Rattle.fr_frame.specs.RawItems.{piece_with_placed, with_room, IsAddedIn, IsListIn, IsSeenWith}
+use Rattle.fr_frame.specs.RawItems.{partial_with_placed, with_room, IsAddedIn, IsListIn, IsSeenWith}
 use Rattle.fr_frame.proofs.DrainLaws.{none_to_come}
 use Rattle.fr_frame.proofs.HandLaws.{in_use}
 use Rattle.fr_frame.proofs.HeapLaws.{read}
-use Rattle.fr_frame.proofs.PlaceLaws.{keeps_reserved, occur_change, repieced, set_as_was, shows}
+use Rattle.fr_frame.proofs.PlaceLaws.{keeps_reserved, occur_change, with_partial, set_as_was, shows}
 use Rattle.fr_frame.proofs.RawLaws.{used_inside}
 use Rattle.fr_frame.proofs.SeenLaws.{seen_set}
 use Rattle.fr_frame.proofs.SlotLaws.{get_seen, node_seen, reserved_in, set_seen}
@@ -39,19 +39,19 @@ children_more held n cells items item room none =
     before_same : length (cells ++ absent ∷ []) - length (items ++ item ∷ []) ≡ length cells - length items
     before_same = omega (arith, length-append cells (absent ∷ []), length-append items (item ∷ []))
 
-piece_more : (held : Held) (n : ℕ) (piece : Piece) (items : List SlotId) (item : SlotId) → is_list_body (body_of piece) ≡ true
-    → HasRoomIn items piece → held item.0 ≡ None
-    → piece_with held n (items ++ item ∷ []) (with_room piece) ≡ piece_with_placed item.0 (piece_with held n items piece)
-piece_more held n Piece.Entered items item list room none = cc
-piece_more held n (Piece.Whole v) items item list room none = cc
-piece_more held n (Piece.Begun tracker cells) items item list room none = go tracker list
+partial_more : (held : Held) (n : ℕ) (partial : PartialValue) (items : List SlotId) (item : SlotId) → is_list_body (body_of partial) ≡ true
+    → HasRoomIn items partial → held item.0 ≡ None
+    → partial_with held n (items ++ item ∷ []) (with_room partial) ≡ partial_with_placed item.0 (partial_with held n items partial)
+partial_more held n PartialValue.Entered items item list room none = cc
+partial_more held n (PartialValue.Whole v) items item list room none = cc
+partial_more held n (PartialValue.Begun tracker cells) items item list room none = go tracker list
   where
-    go : (f : Tracker) → is_list_body (body_of (Piece.Begun f cells)) ≡ true
-        → piece_with held n (items ++ item ∷ []) (with_room (Piece.Begun f cells))
-        ≡ piece_with_placed item.0 (piece_with held n items (Piece.Begun f cells))
-    go (Tracker.Items ItemsKind.List) e = ap (Piece.Begun (Tracker.Items ItemsKind.List)) (children_more held n cells items item room none)
-    go (Tracker.Items ItemsKind.Slice) e = ap (Piece.Begun (Tracker.Items ItemsKind.Slice)) (children_more held n cells items item room none)
-    go (Tracker.Items ItemsKind.ClosedSlice) e = ap (Piece.Begun (Tracker.Items ItemsKind.ClosedSlice)) (children_more held n cells items item room none)
+    go : (f : Tracker) → is_list_body (body_of (PartialValue.Begun f cells)) ≡ true
+        → partial_with held n (items ++ item ∷ []) (with_room (PartialValue.Begun f cells))
+        ≡ partial_with_placed item.0 (partial_with held n items (PartialValue.Begun f cells))
+    go (Tracker.Items ItemsKind.List) e = ap (PartialValue.Begun (Tracker.Items ItemsKind.List)) (children_more held n cells items item room none)
+    go (Tracker.Items ItemsKind.Slice) e = ap (PartialValue.Begun (Tracker.Items ItemsKind.Slice)) (children_more held n cells items item room none)
+    go (Tracker.Items ItemsKind.ClosedSlice) e = ap (PartialValue.Begun (Tracker.Items ItemsKind.ClosedSlice)) (children_more held n cells items item room none)
     go (Tracker.Items ItemsKind.Set) e = cc
     go (Tracker.Items ItemsKind.Array) e = cc
     go _ e = cc
@@ -65,13 +65,13 @@ ok_three (Err e) A B C D so a b c = a
 
 -- Slots.
 
-piece_none : (held : Held) (n : ℕ) (piece : Piece) → piece_with held n [] piece ≡ piece
-piece_none held n Piece.Entered = refl
-piece_none held n (Piece.Whole v) = refl
-piece_none held n (Piece.Begun tracker cells) = by (keeps_items tracker)
+partial_none : (held : Held) (n : ℕ) (partial : PartialValue) → partial_with held n [] partial ≡ partial
+partial_none held n PartialValue.Entered = refl
+partial_none held n (PartialValue.Whole v) = refl
+partial_none held n (PartialValue.Begun tracker cells) = by (keeps_items tracker)
   where
-    by : (keeps : Bool) → Piece.Begun tracker (if keeps then children_with held n cells [] else cells) ≡ Piece.Begun tracker cells
-    by true = ap (Piece.Begun tracker) (none_to_come held n 0 (length cells - 0) cells)
+    by : (keeps : Bool) → PartialValue.Begun tracker (if keeps then children_with held n cells [] else cells) ≡ PartialValue.Begun tracker cells
+    by true = ap (PartialValue.Begun tracker) (none_to_come held n 0 (length cells - 0) cells)
     by false = refl
 
 pub seen_made : (place : Place) (items : Box (Rope SlotId) Global) → items.value.items ≡ []
@@ -80,34 +80,34 @@ seen_made place items empty = record {
   node = refl;
   item = refl;
   seen = λ held n. ap (λ (l : List SlotId). Slot.Used (place_with held n place l)) empty
-      ∙ ap (λ (p : Piece). Slot.Used (record place { piece = p })) (piece_none held n place.piece);
+      ∙ ap (λ (p : PartialValue). Slot.Used (record place { partial = p })) (partial_none held n place.partial);
 }
 
 -- the list in a slot that has one item more
-pub added_in : (before : Slot) (place : Place) (items now : Box (Rope SlotId) Global) (piece : Piece) (item : SlotId)
+pub added_in : (before : Slot) (place : Place) (items now : Box (Rope SlotId) Global) (partial : PartialValue) (item : SlotId)
     → IsListIn before → IsSeenAs before (Slot.List place items)
-    → piece ≡ with_room place.piece → now.value.items ≡ items.value.items ++ item ∷ [] → HasRoomIn items.value.items place.piece
-    → IsAddedIn item.0 before (Slot.List (repieced place piece) now)
-added_in before place items now piece item used same is are room = record {
+    → partial ≡ with_room place.partial → now.value.items ≡ items.value.items ++ item ∷ [] → HasRoomIn items.value.items place.partial
+    → IsAddedIn item.0 before (Slot.List (with_partial place partial) now)
+added_in before place items now partial item used same is are room = record {
   item_before = sym same.item;
   item_after = refl;
   seen = λ held n none. record {
     at = place_with held n place items.value.items;
     was = sym (same.seen held n);
     now =
-        ap₂ (λ (l : List SlotId) (p : Piece). Slot.Used (record place { piece = piece_with held n l p })) are is
-        ∙ ap (λ (p : Piece). Slot.Used (record place { piece = p }))
-        (piece_more held n place.piece items.value.items item list room none);
+        ap₂ (λ (l : List SlotId) (p : PartialValue). Slot.Used (record place { partial = partial_with held n l p })) are is
+        ∙ ap (λ (p : PartialValue). Slot.Used (record place { partial = p }))
+        (partial_more held n place.partial items.value.items item list room none);
   };
 }
   where
-    list : is_list_body (body_of place.piece) ≡ true
+    list : is_list_body (body_of place.partial) ≡ true
     list = subst (λ (o : Option Node). IsSomeAnd o (λ (at : Node). is_list_body at.body ≡ true)) (sym same.node) used
 
-list_of_piece : (held : Held) (n : ℕ) (items : List SlotId) (piece : Piece)
-    → is_list_body (body_of (piece_with held n items piece)) ≡ is_list_body (body_of piece)
-list_of_piece held n items Piece.Entered = refl
-list_of_piece held n items _ = refl
+list_of_partial : (held : Held) (n : ℕ) (items : List SlotId) (partial : PartialValue)
+    → is_list_body (body_of (partial_with held n items partial)) ≡ is_list_body (body_of partial)
+list_of_partial held n items PartialValue.Entered = refl
+list_of_partial held n items _ = refl
 
 -- All slots.
 
@@ -117,16 +117,16 @@ seen_kept raw n was now here same =
     seen_set raw n was now here (sym same.item) ∙ ap (set (slots_seen raw) n) (same.seen (items_of raw) n)
     ∙ set_as_was (slots_seen raw) n (slot_seen (items_of raw) n was) (get_seen raw (slots_seen raw) refl n was here)
 
-body_placed : (item : ℕ) (piece : Piece) → body_of (piece_with_placed item piece) ≡ with_placed item (body_of piece)
-body_placed item Piece.Entered = refl
+body_placed : (item : ℕ) (partial : PartialValue) → body_of (partial_with_placed item partial) ≡ with_placed item (body_of partial)
+body_placed item PartialValue.Entered = refl
 body_placed item _ = refl
 
 cells_more : (item : ℕ) (cells : List Cell) (t : ℕ) → cells_occur (cells ++ placed item ∷ []) t ≡ cells_occur cells t
 cells_more item [] t = refl
 cells_more item (c ∷ cells) t = omega (arith, cells_more item cells t)
 
-placed_occurs : (item : ℕ) (piece : Piece) (t : ℕ) → body_occurs (body_of (piece_with_placed item piece)) t ≡ body_occurs (body_of piece) t
-placed_occurs item (Piece.Begun tracker cells) t = cells_more item cells t
+placed_occurs : (item : ℕ) (partial : PartialValue) (t : ℕ) → body_occurs (body_of (partial_with_placed item partial)) t ≡ body_occurs (body_of partial) t
+placed_occurs item (PartialValue.Begun tracker cells) t = cells_more item cells t
 placed_occurs item _ t = refl
 
 -- The list's slot, as it is read.
@@ -145,7 +145,7 @@ module _ (raw slots : List Slot) (view_is : slots_seen raw ≡ slots) (n at : �
       go : (slot : Slot) → IsSomeAnd (node_in (slot_seen (items_of raw) n slot)) (λ (above : Node). is_list_body above.body ≡ true)
           → IsListIn slot
       go (Slot.Used place) h = h
-      go (Slot.List place items) h = sym (list_of_piece (items_of raw) n items.value.items place.piece) ∙ h
+      go (Slot.List place items) h = sym (list_of_partial (items_of raw) n items.value.items place.partial) ∙ h
       go _ h = absurd h
 
   module _ (now : Slot) (item : ℕ) (reserved : IsReserved slots item) where
@@ -161,10 +161,10 @@ module _ (raw slots : List Slot) (view_is : slots_seen raw ≡ slots) (n at : �
       there : slice_get slots n ≡ Some (Slot.Used with_it.at)
       there = get_seen raw slots view_is n was here ∙ ap (λ (s : Slot). Some s) with_it.was
 
-      abbrev grown : Piece
-      grown = piece_with_placed item with_it.at.piece
+      abbrev grown : PartialValue
+      grown = partial_with_placed item with_it.at.partial
 
-      added_as : slots_seen (set raw at now) ≡ set slots n (Slot.Used (repieced with_it.at grown))
+      added_as : slots_seen (set raw at now) ≡ set slots n (Slot.Used (with_partial with_it.at grown))
       added_as =
           ap (λ (k : ℕ). slots_seen (set raw k now)) number
           ∙ set_seen raw slots view_is n was now here (added.item_before ∙ sym added.item_after) ∙ ap (set slots n) with_it.now
@@ -173,7 +173,7 @@ module _ (raw slots : List Slot) (view_is : slots_seen raw ≡ slots) (n at : �
       pub added_shows : OnOk result (Shows (slots_seen (set raw at now)) (with_body (heap_of slots) n (with_placed item)))
       added_shows =
           on_ok_weaker result (λ added m. ap (λ (l : List Slot). heap_of l m) (added_as added)
-          ∙ shows slots n (with_it added).at (there added) (grown added) (with_placed item) (body_placed item (with_it added).at.piece) m)
+          ∙ shows slots n (with_it added).at (there added) (grown added) (with_placed item) (body_placed item (with_it added).at.partial) m)
           ok
 
       pub refused_shows : OnErr result (Shows (slots_seen (set raw at now)) (heap_of slots))
@@ -189,7 +189,7 @@ module _ (raw slots : List Slot) (view_is : slots_seen raw ≡ slots) (n at : �
                 arith,
                 ap (λ (l : List Slot). slots_occur l t) (added_as added),
                 occur_change slots n (with_it added).at (there added) (grown added) t,
-                placed_occurs item (with_it added).at.piece t,
+                placed_occurs item (with_it added).at.partial t,
               )
           either (Err e) a same = ap (λ (l : List Slot). slots_occur l t) (refused_as same)
 
@@ -200,5 +200,5 @@ module _ (raw slots : List Slot) (view_is : slots_seen raw ≡ slots) (n at : �
               → IsReserved (slots_seen (set raw at now)) m
           either (Ok v) added h =
               ap (λ (l : List Slot). slice_get l m) (added_as added)
-              ∙ keeps_reserved slots n (with_it added).at (Slot.Used (repieced (with_it added).at (grown added))) (there added) m e
+              ∙ keeps_reserved slots n (with_it added).at (Slot.Used (with_partial (with_it added).at (grown added))) (there added) m e
           either (Err h) a same = ap (λ (l : List Slot). slice_get l m) (refused_as same) ∙ e

@@ -1,6 +1,6 @@
 -- What is lacking first among children, each of which is asked by its number and its own value.
-use Rattle.std.proofs.Common.{◌≡◌, ℕ, zero, suc, ◌+◌, ◌<◌, ◌≤◌, List, [], ◌∷◌, length, drop, replicate, Option, Some, None, IsSome, inl, inr, refl, sym, ◌∙◌, ap, subst, arith}
-use Rattle.fr_frame.specs.Common.{Cell, IsAnswer, Meanings, Question, ReflectErrorKind, Table, Tracker, Val, Vals, absent, ask, deferred_column, failing_child, first_asked, first_invalid, first_unmet, given, holes, lack_among, lack_of_child, lack_of_holes, missing_child, missing_value, one_more, option_or, placed, strict_column, trees_of, unmet_child, value_at, value_of_cell, values_of, fields_of_tracker}
+use Rattle.std.proofs.Common.{◌≡◌, ℕ, zero, suc, ◌+◌, ◌<◌, ◌≤◌, Bool, true, false, List, [], ◌∷◌, length, drop, replicate, Option, Some, None, IsSome, inl, inr, refl, sym, ◌∙◌, ap, subst, arith}
+use Rattle.fr_frame.specs.Common.{Cell, IsAnswer, Meanings, Question, ReflectErrorKind, Table, Tracker, Val, Vals, absent, ask, deferred_column, failing_child, first_asked, first_invalid, first_unmet, given, holes, lack_among, lack_of_child, lack_of_holes, missing_child, missing_value, one_more, option_or, strict_column, trees_of, unmet_child, value_at, value_of_cell, values_of, fields_of_tracker}
 use Rattle.fr_model.specs.Complete.{unless_there}
 use Rattle.fr_model.specs.Failing.{first_missing}
 use Rattle.fr_model.specs.Tree.{hole, branch}
@@ -9,8 +9,8 @@ use Rattle.fr_frame.proofs.TrackerLaws.{others_missing, others_pass, others_take
 
 -- of two things
 
-pub first_none : (a b : Option ReflectErrorKind) → a ≡ None → option_or a b ≡ b
-first_none a b e = ap (λ (o : Option ReflectErrorKind). option_or o b) e
+pub first_none : {a b : Option ReflectErrorKind} → a ≡ None → option_or a b ≡ b
+first_none {a} {b} e = ap (λ (o : Option ReflectErrorKind). option_or o b) e
 
 pub or_none : (a b : Option ReflectErrorKind) → option_or a b ≡ None → (a ≡ None) × (b ≡ None)
 or_none (Some k) b h = absurd (cc)
@@ -21,8 +21,7 @@ answer_first : (question : Question) (a b : Option ReflectErrorKind) (kind : Ref
 answer_first Question.Strict (Some k) b kind h = h
 answer_first Question.Strict None b kind (inl e) = absurd (cc)
 answer_first Question.Strict None b kind (inr h) = absurd h.1
-answer_first Question.Marks a b kind h = ap (λ (o : Option ReflectErrorKind). option_or o b) h
-answer_first Question.There a b kind h = ap (λ (o : Option ReflectErrorKind). option_or o b) h
+answer_first _ a b kind h = ap (λ (o : Option ReflectErrorKind). option_or o b) h
 
 pub both_there : (value : Option Val) (values : Option Vals) → IsSome (one_more value values) → IsSome value × IsSome values
 both_there (Some v) (Some vs) h = (refl, refl)
@@ -47,8 +46,7 @@ module _ (asks : ℕ → Option Val → Option ReflectErrorKind) where
       → i < length cs → own ≡ value_at cs i → asks i own ≡ None → first_asked asks 0 cs ≡ first_asked asks (i + 1) (drop (i + 1) cs)
   asked_preserved cs i own so_far h e passes =
       let next : suc i ≡ i + 1 = omega arith in
-      so_far ∙ asked_next cs i i h
-      ∙ first_none (asks i (value_at cs i)) (first_asked asks (suc i) (drop (suc i) cs)) (ap (asks i) (sym e) ∙ passes)
+      so_far ∙ asked_next cs i i h ∙ first_none (ap (asks i) (sym e) ∙ passes)
       ∙ ap (λ (k : ℕ). first_asked asks k (drop k cs)) next
 
   pub asked_cause : (question : Question) (cs : List Cell) (i : ℕ) (own : Option Val) → first_asked asks 0 cs ≡ first_asked asks i (drop i cs)
@@ -72,8 +70,7 @@ module _ (asks : ℕ → Option Val → Option ReflectErrorKind) where
 
   pub never_lacks : ((i : ℕ) (own : Option Val) → asks i own ≡ None) → (i : ℕ) (cs : List Cell) → first_asked asks i cs ≡ None
   never_lacks so i [] = refl
-  never_lacks so i (c ∷ cs) =
-      first_none (asks i (value_of_cell c)) (first_asked asks (suc i) cs) (so i (value_of_cell c)) ∙ never_lacks so (suc i) cs
+  never_lacks so i (c ∷ cs) = first_none (so i (value_of_cell c)) ∙ never_lacks so (suc i) cs
 
   -- where each child that lacks nothing is there, all are
   pub passing_there : ((i : ℕ) (own : Option Val) → asks i own ≡ None → IsSome own) → (i : ℕ) (cs : List Cell)
@@ -87,29 +84,21 @@ module _ (asks : ℕ → Option Val → Option ReflectErrorKind) where
   module _ (passes : (i : ℕ) (v : Val) → asks i (Some v) ≡ None) where
     pub there_passes : (i : ℕ) (cs : List Cell) → IsSome (values_of cs) → first_asked asks i cs ≡ None
     there_passes i [] h = refl
-    there_passes i (given v ∷ cs) h =
-        first_none (asks i (Some v)) (first_asked asks (suc i) cs) (passes i v)
-        ∙ there_passes (suc i) cs (both_there (Some v) (values_of cs) h).1
+    there_passes i (given v ∷ cs) h = first_none (passes i v) ∙ there_passes (suc i) cs (both_there (Some v) (values_of cs) h).1
     there_passes i _ h = absurd (cc)
 
     -- and where each that isn't there lacks the same, that is what is lacking
     pub hole_fails : (kind : ReflectErrorKind) → ((i : ℕ) → asks i None ≡ Some kind) → (i : ℕ) (cs : List Cell) → values_of cs ≡ None
         → first_asked asks i cs ≡ Some kind
     hole_fails kind fails i [] h = absurd (cc)
-    hole_fails kind fails i (absent ∷ cs) h =
-        ap (λ (o : Option ReflectErrorKind). option_or o (first_asked asks (suc i) cs)) (fails i)
-    hole_fails kind fails i (placed n ∷ cs) h =
-        ap (λ (o : Option ReflectErrorKind). option_or o (first_asked asks (suc i) cs)) (fails i)
-    hole_fails kind fails i (given v ∷ cs) h =
-        first_none (asks i (Some v)) (first_asked asks (suc i) cs) (passes i v)
-        ∙ hole_fails kind fails (suc i) cs (rest (values_of cs) h)
+    hole_fails kind fails i (given v ∷ cs) h = first_none (passes i v) ∙ hole_fails kind fails (suc i) cs (rest (values_of cs) h)
       where
         rest : (vs : Option Vals) → one_more (Some v) vs ≡ None → vs ≡ None
         rest (Some vs) h = absurd (cc)
         rest None h = refl
+    hole_fails kind fails i (c ∷ cs) h = ap (λ (o : Option ReflectErrorKind). option_or o (first_asked asks (suc i) cs)) (fails i)
 
--- two questions that come to the same
-
+-- two questions that come to the same of what is there
 pub there_same : (f g : ℕ → Option Val → Option ReflectErrorKind) → ((i : ℕ) (v : Val) → f i (Some v) ≡ g i (Some v)) → (i : ℕ) (cs : List Cell)
     → IsSome (values_of cs) → first_asked f i cs ≡ first_asked g i cs
 there_same f g so i [] h = refl
@@ -117,24 +106,6 @@ there_same f g so i (given v ∷ cs) h =
     ap (λ (o : Option ReflectErrorKind). option_or o (first_asked f (suc i) cs)) (so i v)
     ∙ ap (option_or (g i (Some v))) (there_same f g so (suc i) cs (both_there (Some v) (values_of cs) h).1)
 there_same f g so i _ h = absurd (cc)
-
-pub asked_same : (f g : ℕ → Option Val → Option ReflectErrorKind) → ((i : ℕ) (own : Option Val) → f i own ≡ g i own) → (i : ℕ) (cs : List Cell)
-    → first_asked f i cs ≡ first_asked g i cs
-asked_same f g so i [] = refl
-asked_same f g so i (c ∷ cs) =
-    ap (λ (o : Option ReflectErrorKind). option_or o (first_asked f (suc i) cs)) (so i (value_of_cell c))
-    ∙ ap (option_or (g i (value_of_cell c))) (asked_same f g so (suc i) cs)
-
--- children that lack neither of two things don't lack a third
-pub asked_none : (f g h : ℕ → Option Val → Option ReflectErrorKind)
-    → ((i : ℕ) (own : Option Val) → f i own ≡ None → g i own ≡ None → h i own ≡ None) → (i : ℕ) (cs : List Cell)
-    → first_asked f i cs ≡ None → first_asked g i cs ≡ None → first_asked h i cs ≡ None
-asked_none f g h so i [] a b = refl
-asked_none f g h so i (c ∷ cs) a b =
-    let x : (f i (value_of_cell c) ≡ None) × (first_asked f (suc i) cs ≡ None) = or_none (f i (value_of_cell c)) (first_asked f (suc i) cs) a in
-    let y : (g i (value_of_cell c) ≡ None) × (first_asked g (suc i) cs ≡ None) = or_none (g i (value_of_cell c)) (first_asked g (suc i) cs) b in
-    first_none (h i (value_of_cell c)) (first_asked h (suc i) cs) (so i (value_of_cell c) x.0 y.0)
-    ∙ asked_none f g h so (suc i) cs x.1 y.1
 
 -- The model's questions, as they are asked of trees.
 
@@ -156,8 +127,7 @@ module _ (means : Meanings) (table : Table) (s : ℕ) (tracker : Tracker) where
       → lack_among means table s tracker i (trees_of cs) ≡ first_asked (lack_of_child strict_column means table s tracker) i cs
   lack_is i [] = refl
   lack_is i (absent ∷ cs) = ap (option_or (lack_of_child strict_column means table s tracker i None)) (lack_is (suc i) cs)
-  lack_is i (placed n ∷ cs) = ap (option_or (lack_of_child strict_column means table s tracker i None)) (lack_is (suc i) cs)
-  lack_is i (given v ∷ cs) = ap (option_or (lack_of_child strict_column means table s tracker i (Some v))) (lack_is (suc i) cs)
+  lack_is i (c ∷ cs) = ap (option_or (lack_of_child strict_column means table s tracker i (value_of_cell c))) (lack_is (suc i) cs)
 
   pub holes_lack : (count i : ℕ) → lack_of_holes means table s tracker count i
       ≡ first_asked (lack_of_child strict_column means table s tracker) i (replicate count absent)
@@ -167,49 +137,50 @@ module _ (means : Meanings) (table : Table) (s : ℕ) (tracker : Tracker) where
   pub unmet_is : (i : ℕ) (cs : List Cell) → first_unmet table s tracker i (trees_of cs) ≡ first_asked (unmet_child table s tracker) i cs
   unmet_is i [] = refl
   unmet_is i (absent ∷ cs) = ap (option_or (unmet_child table s tracker i None)) (unmet_is (suc i) cs)
-  unmet_is i (placed n ∷ cs) = ap (option_or (unmet_child table s tracker i None)) (unmet_is (suc i) cs)
-  unmet_is i (given v ∷ cs) = unmet_is (suc i) cs
+  unmet_is i (c ∷ cs) = ap (option_or (unmet_child table s tracker i (value_of_cell c))) (unmet_is (suc i) cs)
 
   pub missing_is : (i : ℕ) (cs : List Cell) → first_missing table s tracker i (trees_of cs) ≡ first_asked misses i cs
   missing_is i [] = refl
   missing_is i (absent ∷ cs) = ap (option_or (misses i None)) (missing_is (suc i) cs)
-  missing_is i (placed n ∷ cs) = ap (option_or (misses i None)) (missing_is (suc i) cs)
-  missing_is i (given v ∷ cs) = missing_is (suc i) cs
+  missing_is i (c ∷ cs) = ap (option_or (misses i (value_of_cell c))) (missing_is (suc i) cs)
 
   pub invalid_is : (i : ℕ) (cs : List Cell) → first_invalid means table s tracker i (trees_of cs) ≡ first_asked fails i cs
   invalid_is i [] = refl
   invalid_is i (absent ∷ cs) = ap (option_or (fails i None)) (invalid_is (suc i) cs)
-  invalid_is i (placed n ∷ cs) = ap (option_or (fails i None)) (invalid_is (suc i) cs)
-  invalid_is i (given v ∷ cs) = ap (option_or (fails i (Some v))) (invalid_is (suc i) cs)
+  invalid_is i (c ∷ cs) = ap (option_or (fails i (value_of_cell c))) (invalid_is (suc i) cs)
 
 -- Children that aren't fields.
+
+-- only marks are asked for
+abbrev pub is_marks : Question → Bool
+is_marks Question.Marks = true
+is_marks _ = false
 
 module _ (means : Meanings) (table : Table) (s : ℕ) (tracker : Tracker) (others : fields_of_tracker tracker ≡ None) where
   others_value : (question : Question) (i : ℕ) (v : Val) → ask question means table s tracker i (Some v) ≡ None
   others_value Question.Strict i v = others_pass table s means tracker others i (Some v)
-  others_value Question.Marks i v = refl
-  others_value Question.There i v = refl
+  others_value _ i v = refl
 
-  strict_hole : (i : ℕ) → ask Question.Strict means table s tracker i None ≡ Some (missing_value s)
-  strict_hole i =
+  others_hole : (question : Question) → is_marks question ≡ false → (i : ℕ) → ask question means table s tracker i None
+      ≡ Some (missing_value s)
+  others_hole Question.Strict all i =
       ap
       (λ (fill : Option Val). option_or (unless_there fill (missing_child s tracker i)) (failing_child means table s tracker i fill))
       (others_take table s strict_column tracker others i) ∙ ap Some (others_missing s tracker others i)
+  others_hole Question.Marks all i = absurd (cc)
+  others_hole Question.There all i = ap Some (others_missing s tracker others i)
 
   -- where all are there they lack nothing
   pub others_there : (question : Question) (cs : List Cell) → IsSome (values_of cs)
       → first_asked (ask question means table s tracker) 0 cs ≡ None
   others_there question cs there = there_passes (ask question means table s tracker) (others_value question) 0 cs there
 
-  pub others_lack : (cs : List Cell) → values_of cs ≡ None
-      → first_asked (ask Question.Strict means table s tracker) 0 cs ≡ Some (missing_value s)
-  others_lack cs none = hole_fails (ask Question.Strict means table s tracker) (others_value Question.Strict) (missing_value s) strict_hole 0 cs none
-
-  pub others_absent : (cs : List Cell) → values_of cs ≡ None
-      → first_asked (ask Question.There means table s tracker) 0 cs ≡ Some (missing_value s)
-  others_absent cs none =
-      hole_fails (ask Question.There means table s tracker) (others_value Question.There) (missing_value s)
-      (λ i. ap Some (others_missing s tracker others i)) 0 cs none
+  -- and where one isn't, their place lacks its value
+  pub others_lack : (question : Question) → is_marks question ≡ false → (cs : List Cell) → values_of cs ≡ None
+      → first_asked (ask question means table s tracker) 0 cs ≡ Some (missing_value s)
+  others_lack question all cs none =
+      hole_fails (ask question means table s tracker) (others_value question) (missing_value s)
+      (others_hole question all) 0 cs none
 
   pub others_met : (i : ℕ) (cs : List Cell) → first_asked (unmet_child table s tracker) i cs ≡ None
   others_met i cs = never_lacks (unmet_child table s tracker) met i cs

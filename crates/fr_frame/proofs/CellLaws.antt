@@ -1,57 +1,32 @@
 -- Children side by side: what a change of one value or of one bit does to the list that contracts see.
-use Rattle.std.proofs.Common.{◌≡◌, ◌≢◌, ℕ, zero, suc, ◌+◌, ◌-◌, ◌<◌, ◌≤◌, Bool, true, false, List, [], ◌∷◌, ◌++◌, length, map, drop, replicate, Option, Some, None, IsSome, slice_get, slice_index, set, length-set, refl, sym, ◌∙◌, ap, subst, arith, ◌&&◌, ◌||◌, ◌↔◌}
+use Rattle.std.proofs.Common.{◌≡◌, ◌≢◌, ◌⊎◌, ℕ, zero, suc, ◌+◌, ◌<◌, ◌≤◌, Bool, true, false, List, [], ◌∷◌, ◌++◌, length, map, replicate, Option, Some, None, IsSome, slice_get, slice_index, set, length-set, option_map, inl, inr, refl, sym, ◌∙◌, ap, subst, arith, ◌&&◌, ◌||◌, ◌↔◌}
 use Rattle.std.specs.FinSet as finite
-use Rattle.fr_frame.specs.Common.{All, BitSet, Cell, Room, Room_fewer, Room_risen, Room_same, RoseBy, Val, Vals, Value, absent, both, cell, cell_occurs, cells_occur, cells_of, cells_of_vals, first, given, in_slot, is_some, no_vals, occurs, one_more, option_and_then, placed, slot_at, slot_of_cell, unit, vals_occur, vals_view, value_at, value_occurs, value_of_cell, values_of, view}
+use Rattle.fr_frame.specs.Common.{All, BitSet, Cell, Room, Room_fewer, Room_risen, Room_same, RoseBy, Val, Vals, Value, absent, both, cell, cell_occurs, cells_occur, cells_of, cells_of_vals, first, given, in_slot, is_some, no_vals, occurs, one_more, option_and_then, slot_at, slot_of_cell, unit, vals_occur, vals_view, value_at, value_occurs, value_of_cell, values_of, view}
 use Rattle.std.specs.Prelude.{not, ◌==◌, nat_lt, IsTrue, get_or}
 use Rattle.std.proofs.lemmas.Grind.{common_steps}
 use Rattle.std.proofs.lemmas.Bool.Decides.{nat_tests}
-use Rattle.fr_arena.specs.BitSets.{HasAllBelow}
 use Rattle.std.proofs.lemmas.List.Elements.{All-head, All-tail}
+use Rattle.std.proofs.lemmas.Option.{same_Some}
+use Rattle.fr_arena.specs.BitSets.{HasAllBelow}
 use Rattle.fr_shape.specs.Val.{token}
 use Rattle.fr_shape.specs.TokenLaws.{nothing, RoseBy_nothing, RoseBy_same}
+use Rattle.fr_frame.proofs.HeapLaws.{element, got, is_set, number_cases, set_gets, set_keeps}
 
 pub cells_length : (bits : BitSet) (i : ℕ) (vs : List Value) → length (cells_of bits i vs) ≡ length vs
 cells_length bits i [] = refl
 cells_length bits i (v ∷ vs) = ap suc (cells_length bits (suc i) vs)
 
 -- the child of a number
-pub cells_nth : (bits : BitSet) (i : ℕ) (vs : List Value) (k : ℕ) (v : Value) → slice_get vs k ≡ Some v
-    → slice_get (cells_of bits i vs) k ≡ Some (cell (finite.contains bits.members (i + k)) (view v))
-cells_nth bits i [] k v e = cc
-cells_nth bits i (w ∷ vs) zero v e =
-    let same : w ≡ v = cc in
+cells_get : (bits : BitSet) (i : ℕ) (vs : List Value) (k : ℕ)
+    → slice_get (cells_of bits i vs) k ≡ option_map (λ (v : Value). cell (finite.contains bits.members (i + k)) (view v)) (slice_get vs k)
+cells_get bits i [] k = refl
+cells_get bits i (v ∷ vs) zero =
     let here : i ≡ i + 0 = omega arith in
-    ap (λ (x : Value). Some (cell (finite.contains bits.members i) (view x))) same
-    ∙ ap (λ (n : ℕ). Some (cell (finite.contains bits.members n) (view v))) here
-cells_nth bits i (w ∷ vs) (suc k) v e =
+    ap (λ (n : ℕ). Some (cell (finite.contains bits.members n) (view v))) here
+cells_get bits i (v ∷ vs) (suc k) =
     let here : suc i + k ≡ i + suc k = omega arith in
-    cells_nth bits (suc i) vs k v e ∙ ap (λ (n : ℕ). Some (cell (finite.contains bits.members n) (view v))) here
-
--- bits past the children don't matter
-cells_same : (bits other : BitSet) (i : ℕ) (vs : List Value)
-    → ((j : ℕ) → i ≤ j → finite.contains other.members j ≡ finite.contains bits.members j) → cells_of other i vs ≡ cells_of bits i vs
-cells_same bits other i [] same = refl
-cells_same bits other i (v ∷ vs) same =
-    ap (λ (b : Bool). cell b (view v) ∷ cells_of other (suc i) vs) (same i (omega arith))
-    ∙ ap (λ (cs : List Cell). cell (finite.contains bits.members i) (view v) ∷ cs)
-    (cells_same bits other (suc i) vs (λ j h. same j (omega arith)))
-
--- one child changed
-pub cells_set : (bits other : BitSet) (i : ℕ) (vs : List Value) (k : ℕ) (v : Value) (c : Cell)
-    → ((j : ℕ) → j ≢ i + k → finite.contains other.members j ≡ finite.contains bits.members j)
-    → cell (finite.contains other.members (i + k)) (view v) ≡ c → cells_of other i (set vs k v) ≡ set (cells_of bits i vs) k c
-cells_set bits other i [] k v c same is = refl
-cells_set bits other i (w ∷ vs) zero v c same is =
-    let here : i ≡ i + 0 = omega arith in
-    ap (λ (n : ℕ). cell (finite.contains other.members n) (view v) ∷ cells_of other (suc i) vs) here
-    ∙ ap (λ (d : Cell). d ∷ cells_of other (suc i) vs) is ∙ ap (λ (cs : List Cell). c ∷ cs)
-    (cells_same bits other (suc i) vs (λ j h. same j (let ne : j ≢ i + 0 = omega arith in ne)))
-cells_set bits other i (w ∷ vs) (suc k) v c same is =
-    let here : suc i + k ≡ i + suc k = omega arith in
-    ap (λ (b : Bool). cell b (view w) ∷ cells_of other (suc i) (set vs k v)) (same i (let ne : i ≢ i + suc k = omega arith in ne))
-    ∙ ap (λ (cs : List Cell). cell (finite.contains bits.members i) (view w) ∷ cs)
-    (cells_set bits other (suc i) vs k v c (λ j h. same j (let ne : j ≢ i + suc k = omega arith in ne))
-    (ap (λ (n : ℕ). cell (finite.contains other.members n) (view v)) here ∙ is))
+    cells_get bits (suc i) vs k
+    ∙ ap (λ (n : ℕ). option_map (λ (x : Value). cell (finite.contains bits.members n) (view x)) (slice_get vs k)) here
 
 -- none there
 pub cells_absent : (bits : BitSet) (i : ℕ) (vs : List Value)
@@ -60,9 +35,8 @@ pub cells_absent : (bits : BitSet) (i : ℕ) (vs : List Value)
 cells_absent bits i [] clear gone = refl
 cells_absent bits i (v ∷ vs) clear gone =
     let here : view v ≡ unit = All-head (λ (x : Value). view x ≡ unit) v vs gone in
-    ap (λ (b : Bool). cell b (view v) ∷ cells_of bits (suc i) vs) (clear i)
-    ∙ ap (λ (x : Val). in_slot x ∷ cells_of bits (suc i) vs) here ∙ ap (λ (cs : List Cell). absent ∷ cs)
-    (cells_absent bits (suc i) vs clear (All-tail (λ (x : Value). view x ≡ unit) v vs gone))
+    let rest = cells_absent bits (suc i) vs clear (All-tail (λ (x : Value). view x ≡ unit) v vs gone) in
+    λ j. cell (clear i j) (here j) ∷ rest j
 
 -- all there
 pub cells_given : (bits : BitSet) (i : ℕ) (vs : List Value)
@@ -70,46 +44,13 @@ pub cells_given : (bits : BitSet) (i : ℕ) (vs : List Value)
     → cells_of bits i vs ≡ map (λ (v : Value). given (view v)) vs
 cells_given bits i [] full = refl
 cells_given bits i (v ∷ vs) full =
-    ap (λ (b : Bool). cell b (view v) ∷ cells_of bits (suc i) vs) (full i (omega arith) (omega arith))
-    ∙ ap (λ (cs : List Cell). given (view v) ∷ cs) (cells_given bits (suc i) vs (λ j h k. full j (omega arith) (omega arith)))
-
-pub values_of_given : (vs : List Value) → values_of (map (λ (v : Value). given (view v)) vs) ≡ Some (vals_view vs)
-values_of_given [] = refl
-values_of_given (v ∷ vs) = ap (one_more (Some (view v))) (values_of_given vs)
+    let here = full i (omega arith) (omega arith) in
+    let rest = cells_given bits (suc i) vs (λ j h k. full j (omega arith) (omega arith)) in
+    λ j. cell (here j) (view v) ∷ rest j
 
 in_slot_no_value : (v : Val) → value_of_cell (in_slot v) ≡ None
 in_slot_no_value (token n) = refl
 in_slot_no_value _ = refl
-
--- The same of what contracts see.
-
-pub same_length : (bits : BitSet) (vs : List Value) (cs : List Cell) → cells_of bits 0 vs ≡ cs → length cs ≡ length vs
-same_length bits vs cs e = sym (ap length e) ∙ cells_length bits 0 vs
-
-pub has_room : (bits : BitSet) (vs : List Value) (cs : List Cell) (k : ℕ) → length vs ≤ bits.capacity → cells_of bits 0 vs ≡ cs
-    → k < length cs → k < bits.capacity
-has_room bits vs cs k room e h = let n : length cs ≡ length vs = same_length bits vs cs e in omega arith
-
-pub cells_put : (bits other : BitSet) (vs : List Value) (cs : List Cell) (k : ℕ) (v : Value) (c : Cell) → cells_of bits 0 vs ≡ cs
-    → ((j : ℕ) → j ≢ k → finite.contains other.members j ≡ finite.contains bits.members j)
-    → cell (finite.contains other.members k) (view v) ≡ c → cells_of other 0 (set vs k v) ≡ set cs k c
-cells_put bits other vs cs k v c e same is =
-    let here : k ≡ 0 + k = omega arith in
-    cells_set bits other 0 vs k v c (λ j h. same j (let ne : j ≢ k = omega arith in ne))
-    (ap (λ (n : ℕ). cell (finite.contains other.members n) (view v)) (sym here) ∙ is) ∙ ap (λ (ds : List Cell). set ds k c) e
-
-pub nth_is : (vs : List Value) (k : ℕ) (v : Value) → k < length vs → v ≡ get_or vs k v → slice_get vs k ≡ Some v
-nth_is [] k v h e = absurd (omega arith)
-nth_is (w ∷ vs) zero v h e = ap (λ (x : Value). Some x) (sym e)
-nth_is (w ∷ vs) (suc k) v h e = nth_is vs k v (omega arith) e
-
-pub cell_is : (bits : BitSet) (vs : List Value) (cs : List Cell) (k : ℕ) (v : Value) → cells_of bits 0 vs ≡ cs → k < length cs
-    → v ≡ get_or vs k v → slice_get cs k ≡ Some (cell (finite.contains bits.members k) (view v))
-cell_is bits vs cs k v e h is =
-    let n : length cs ≡ length vs = same_length bits vs cs e in
-    let here : 0 + k ≡ k = omega arith in
-    ap (λ (ds : List Cell). slice_get ds k) (sym e) ∙ cells_nth bits 0 vs k v (nth_is vs k v (omega arith) is)
-    ∙ ap (λ (j : ℕ). Some (cell (finite.contains bits.members j) (view v))) here
 
 -- bits
 
@@ -119,151 +60,140 @@ bit_set i j old ne = grind (arith, common_steps, nat_tests)
 pub bit_set_here : (i : ℕ) (old : Bool) → (i == i || old) ≡ true
 bit_set_here i old = grind (arith, common_steps, nat_tests)
 
-pub bit_unset : (i j : ℕ) (old : Bool) → j ≢ i → (not (j == i) && old) ≡ old
+bit_unset : (i j : ℕ) (old : Bool) → j ≢ i → (not (j == i) && old) ≡ old
 bit_unset i j old ne = grind (arith, common_steps, nat_tests)
 
-pub bit_unset_here : (i : ℕ) (old : Bool) → (not (i == i) && old) ≡ false
+bit_unset_here : (i : ℕ) (old : Bool) → (not (i == i) && old) ≡ false
 bit_unset_here i old = grind (arith, common_steps, nat_tests)
 
 pub bit_below : (n j : ℕ) (old : Bool) → j < n → (nat_lt j n || old) ≡ true
 bit_below n j old h = grind (arith, common_steps, nat_tests)
 
--- values
+-- The same of what contracts see.
+module _ (bits : BitSet) (vs : List Value) (cs : List Cell) (seen : cells_of bits 0 vs ≡ cs) where
+  pub same_length : length cs ≡ length vs
+  same_length = sym (ap length seen) ∙ cells_length bits 0 vs
 
-pub value_here : (cs : List Cell) (k : ℕ) (b : Bool) (v : Val) → slice_get cs k ≡ Some (cell b v) → b ≡ true → value_at cs k ≡ Some v
-value_here cs k b v e is = ap (option_and_then value_of_cell) e ∙ ap (λ (d : Bool). value_of_cell (cell d v)) is
+  pub has_room : (k : ℕ) → length vs ≤ bits.capacity → k < length cs → k < bits.capacity
+  has_room k room h = omega (arith, same_length)
 
-pub no_value_here : (cs : List Cell) (k : ℕ) (b : Bool) (v : Val) → slice_get cs k ≡ Some (cell b v) → b ≡ false → value_at cs k ≡ None
-no_value_here cs k b v e is =
-    ap (option_and_then value_of_cell) e ∙ ap (λ (d : Bool). value_of_cell (cell d v)) is ∙ in_slot_no_value v
+  cell_at : (k : ℕ) → slice_get cs k ≡ option_map (λ (v : Value). cell (finite.contains bits.members k) (view v)) (slice_get vs k)
+  cell_at k =
+      let here : 0 + k ≡ k = omega arith in
+      ap (λ (ds : List Cell). slice_get ds k) (sym seen) ∙ cells_get bits 0 vs k
+      ∙ ap (λ (n : ℕ). option_map (λ (v : Value). cell (finite.contains bits.members n) (view v)) (slice_get vs k)) here
 
-pub slot_here : (cs : List Cell) (k : ℕ) (b : Bool) (v : Val) → slice_get cs k ≡ Some (cell b v) → b ≡ false
-    → slot_of_cell (in_slot v) ≡ slot_at cs k
-slot_here cs k b v e is = sym (ap (option_and_then slot_of_cell) e ∙ ap (λ (d : Bool). slot_of_cell (cell d v)) is)
+  -- what a child is, by its bit and by what is stored for it
+  module _ (k : ℕ) (v : Value) (inside : k < length cs) (is : v ≡ get_or vs k v) where
+    cell_is : (b : Bool) → finite.contains bits.members k ≡ b → slice_get cs k ≡ Some (cell b (view v))
+    cell_is b bit =
+        cell_at k ∙ ap (option_map (λ (x : Value). cell (finite.contains bits.members k) (view x))) (got vs k v (omega (arith, same_length)) is)
+        ∙ ap (λ (c : Bool). Some (cell c (view v))) bit
 
-pub no_slot_of_value : (cs : List Cell) (k : ℕ) (b : Bool) (v : Val) → slice_get cs k ≡ Some (cell b v) → b ≡ true → slot_at cs k ≡ None
-no_slot_of_value cs k b v e is = ap (option_and_then slot_of_cell) e ∙ ap (λ (d : Bool). slot_of_cell (cell d v)) is
+    pub value_here : finite.contains bits.members k ≡ true → Some (view v) ≡ value_at cs k
+    value_here bit = sym (ap (option_and_then value_of_cell) (cell_is true bit))
 
--- whether all are there
+    pub slot_here : finite.contains bits.members k ≡ false → slot_of_cell (in_slot (view v)) ≡ slot_at cs k
+    slot_here bit = sym (ap (option_and_then slot_of_cell) (cell_is false bit))
 
-some_more : (v : Val) (vs : Option Vals) → is_some (one_more (Some v) vs) ≡ is_some vs
-some_more v (Some us) = refl
-some_more v None = refl
+  pub no_value_at : (k : ℕ) → finite.contains bits.members k ≡ false → None ≡ value_at cs k
+  no_value_at k bit = sym (ap (option_and_then value_of_cell) (cell_at k) ∙ rw bit (none (slice_get vs k)))
+    where
+      none : (found : Option Value) → option_and_then value_of_cell (option_map (λ (v : Value). in_slot (view v)) found) ≡ None
+      none (Some v) = in_slot_no_value (view v)
+      none None = refl
 
-all_values : (bits : BitSet) (i : ℕ) (vs : List Value)
-    → ((j : ℕ) → i ≤ j → j < i + length vs → finite.contains bits.members j ≡ true)
-    → values_of (cells_of bits i vs) ≡ Some (vals_view vs)
-all_values bits i vs full = ap values_of (cells_given bits i vs full) ∙ values_of_given vs
+  pub no_slot_at : (k : ℕ) → finite.contains bits.members k ≡ true → None ≡ slot_at cs k
+  no_slot_at k bit = sym (ap (option_and_then slot_of_cell) (cell_at k) ∙ rw bit (none (slice_get vs k)))
+    where
+      none : (found : Option Value) → option_and_then slot_of_cell (option_map (λ (v : Value). given (view v)) found) ≡ None
+      none (Some v) = refl
+      none None = refl
 
-missing_value : (bits : BitSet) (i : ℕ) (vs : List Value) (k : ℕ) → k < length vs
-    → finite.contains bits.members (i + k) ≡ false → values_of (cells_of bits i vs) ≡ None
-missing_value bits i [] k h e = absurd (omega arith)
-missing_value bits i (v ∷ vs) zero h e =
-    let here : i ≡ i + 0 = omega arith in
-    ap (λ (b : Bool). one_more (value_of_cell (cell b (view v))) (values_of (cells_of bits (suc i) vs)))
-    (ap (finite.contains bits.members) here ∙ e)
-    ∙ ap (λ (o : Option Val). one_more o (values_of (cells_of bits (suc i) vs))) (in_slot_no_value (view v))
-missing_value bits i (v ∷ vs) (suc k) h e =
-    let here : suc i + k ≡ i + suc k = omega arith in
-    ap (one_more (value_of_cell (cell (finite.contains bits.members i) (view v))))
-    (missing_value bits (suc i) vs k (omega arith) (ap (finite.contains bits.members) here ∙ e))
-    ∙ none_more (value_of_cell (cell (finite.contains bits.members i) (view v)))
+  -- one child changed
+  module _ (other : BitSet) (k : ℕ) (v : Value) (c : Cell) (inside : k < length cs) where
+    pub cells_put : ((j : ℕ) → j ≢ k → finite.contains other.members j ≡ finite.contains bits.members j)
+        → cell (finite.contains other.members k) (view v) ≡ c → cells_of other 0 (set vs k v) ≡ set cs k c
+    cells_put same is =
+        let was : (d : Cell) × (slice_get cs k ≡ Some d) = element cs k inside in
+        let stored : (x : Value) × (slice_get vs k ≡ Some x) = element vs k (omega (arith, same_length)) in
+        is_set (cells_of other 0 (set vs k v)) cs k was.0 c was.1
+        (changed k ∙ ap (option_map (λ (x : Value). cell (finite.contains other.members k) (view x))) (set_gets vs k stored.0 v stored.1)
+        ∙ ap (λ (d : Cell). Some d) is)
+        (λ j ne. changed j ∙ (λ i. option_map (λ (x : Value). cell (same j ne i) (view x)) (set_keeps vs k v j ne i)) ∙ sym (cell_at j))
+      where
+        changed : (j : ℕ) → slice_get (cells_of other 0 (set vs k v)) j
+            ≡ option_map (λ (x : Value). cell (finite.contains other.members j) (view x)) (slice_get (set vs k v) j)
+        changed j =
+            let here : 0 + j ≡ j = omega arith in
+            cells_get other 0 (set vs k v) j
+            ∙ ap (λ (n : ℕ). option_map (λ (x : Value). cell (finite.contains other.members n) (view x)) (slice_get (set vs k v) j)) here
+
+    -- whose bit is unset
+    pub cells_unset : ((j : ℕ) → finite.contains other.members j ≡ (not (j == k) && finite.contains bits.members j)) → in_slot (view v) ≡ c
+        → cells_of other 0 (set vs k v) ≡ set cs k c
+    cells_unset unset is =
+        cells_put (λ j ne. unset j ∙ bit_unset k j (finite.contains bits.members j) ne)
+        (ap (λ (b : Bool). cell b (view v)) (unset k ∙ bit_unset_here k (finite.contains bits.members k)) ∙ is)
+
+-- Whether all are there.
+
+pub none_more : (o : Option Val) → one_more o None ≡ None
+none_more (Some v) = refl
+none_more None = refl
+
+-- all of these bits are set, and all values are there; or one bit isn't set, and a value is missing
+abbrev AllOrNot : BitSet → ℕ → List Value → Type 0
+AllOrNot bits i vs =
+    (((j : ℕ) → i ≤ j → j < i + length vs → finite.contains bits.members j ≡ true) × (values_of (cells_of bits i vs) ≡ Some (vals_view vs)))
+    ⊎ (((j : ℕ) × (i ≤ j) × (j < i + length vs) × (finite.contains bits.members j ≡ false)) × (values_of (cells_of bits i vs) ≡ None))
+
+all_or_not : (bits : BitSet) (i : ℕ) (vs : List Value) → AllOrNot bits i vs
+all_or_not bits i [] = inl (λ j l h. absurd (omega arith), refl)
+all_or_not bits i (v ∷ vs) = go (finite.contains bits.members i) refl (all_or_not bits (suc i) vs)
   where
-    none_more : (o : Option Val) → one_more o None ≡ None
-    none_more (Some v) = refl
-    none_more None = refl
+    go : (b : Bool) → finite.contains bits.members i ≡ b → AllOrNot bits (suc i) vs → AllOrNot bits i (v ∷ vs)
+    go false e rest = inr ((i, omega arith, omega arith, e), rw (e, in_slot_no_value) refl)
+    go true e (inr (one, none)) = inr ((one.0, omega (arith, one.1), omega (arith, one.2), one.3), rw (e, none) refl)
+    go true e (inl (all, is)) = inl (bit, rw (e, is) refl)
+      where
+        bit : (j : ℕ) → i ≤ j → j < i + suc (length vs) → finite.contains bits.members j ≡ true
+        bit j low high = elim (number_cases j i) [
+          | inl same ↦ ap (finite.contains bits.members) same ∙ e
+          | inr other ↦ all j (omega (arith, other)) (omega arith)
+        ]
 
-element : {X : Type 0} (xs : List X) (k : ℕ) → k < length xs → (x : X) × (slice_get xs k ≡ Some x)
-element [] k h = absurd (omega arith)
-element (x ∷ xs) zero h = (x, refl)
-element (x ∷ xs) (suc k) h = element xs k (omega arith)
+module _ (bits : BitSet) (vs : List Value) (cs : List Cell) (seen : cells_of bits 0 vs ≡ cs) where
+  missing : values_of (cells_of bits 0 vs) ≡ None → IsSome (values_of cs) → ⊥
+  missing none h = let no : false ≡ true = sym (ap is_some (ap values_of (sym seen) ∙ none)) ∙ h in cc
 
-element_cell : (bits : BitSet) (vs : List Value) (cs : List Cell) (k : ℕ) → cells_of bits 0 vs ≡ cs → k < length cs
-    → (v : Val) × (slice_get cs k ≡ Some (cell (finite.contains bits.members k) v))
-element_cell bits vs cs k e h =
-    let n : length cs ≡ length vs = same_length bits vs cs e in
-    let at : (v : Value) × (slice_get vs k ≡ Some v) = element vs k (omega arith) in
-    let here : 0 + k ≡ k = omega arith in (
-      view at.0,
-      ap (λ (ds : List Cell). slice_get ds k) (sym e) ∙ cells_nth bits 0 vs k at.0 at.1
-          ∙ ap (λ (j : ℕ). Some (cell (finite.contains bits.members j) (view at.0))) here,
-    )
+  -- values that are all there are those that are kept, and all their bits are set
+  pub values_are : IsSome (values_of cs) → values_of cs ≡ Some (vals_view vs)
+  values_are h = elim (all_or_not bits 0 vs) [ inl all ↦ ap values_of (sym seen) ∙ all.1 | inr some ↦ absurd (missing some.1 h) ]
 
-pub no_value_at : (bits : BitSet) (vs : List Value) (cs : List Cell) (k : ℕ) → cells_of bits 0 vs ≡ cs → k < length cs
-    → finite.contains bits.members k ≡ false → value_at cs k ≡ None
-no_value_at bits vs cs k e h is =
-    let at : (v : Val) × (slice_get cs k ≡ Some (cell (finite.contains bits.members k) v)) = element_cell bits vs cs k e h in
-    no_value_here cs k (finite.contains bits.members k) at.0 at.1 is
+  pub bits_by : IsSome (values_of cs) → (j : ℕ) → j < length vs → finite.contains bits.members j ≡ true
+  bits_by h j high = elim (all_or_not bits 0 vs) [
+    | inl all ↦ all.0 j (omega arith) (omega arith)
+    | inr some ↦ absurd (missing some.1 h)
+  ]
 
-pub no_slot_at : (bits : BitSet) (vs : List Value) (cs : List Cell) (k : ℕ) → cells_of bits 0 vs ≡ cs → k < length cs
-    → finite.contains bits.members k ≡ true → slot_at cs k ≡ None
-no_slot_at bits vs cs k e h is =
-    let at : (v : Val) × (slice_get cs k ≡ Some (cell (finite.contains bits.members k) v)) = element_cell bits vs cs k e h in
-    no_slot_of_value cs k (finite.contains bits.members k) at.0 at.1 is
-
--- values that are all there are those that are kept
-values_from : (bits : BitSet) (i : ℕ) (vs : List Value) → IsSome (values_of (cells_of bits i vs))
-    → values_of (cells_of bits i vs) ≡ Some (vals_view vs)
-values_from bits i [] h = refl
-values_from bits i (v ∷ vs) h = go (finite.contains bits.members i) refl (λ k. values_from bits (suc i) vs k)
-  where
-    go : (b : Bool) → finite.contains bits.members i ≡ b
-        → (IsSome (values_of (cells_of bits (suc i) vs)) → values_of (cells_of bits (suc i) vs) ≡ Some (vals_view vs))
-        → values_of (cells_of bits i (v ∷ vs)) ≡ Some (vals_view (v ∷ vs))
-    go true e rest =
-        let there : IsSome (values_of (cells_of bits (suc i) vs))
-        = sym (some_more (view v) (values_of (cells_of bits (suc i) vs)))
-        ∙ ap (λ (b : Bool). is_some (one_more (value_of_cell (cell b (view v))) (values_of (cells_of bits (suc i) vs)))) (sym e)
-        ∙ h in
-        ap (λ (b : Bool). one_more (value_of_cell (cell b (view v))) (values_of (cells_of bits (suc i) vs))) e
-        ∙ ap (one_more (Some (view v))) (rest there)
-    go false e rest =
-        let none : values_of (cells_of bits i (v ∷ vs)) ≡ None
-        = ap (λ (b : Bool). one_more (value_of_cell (cell b (view v))) (values_of (cells_of bits (suc i) vs))) e
-        ∙ ap (λ (o : Option Val). one_more o (values_of (cells_of bits (suc i) vs))) (in_slot_no_value (view v)) in
-        let no : false ≡ true = ap is_some (sym none) ∙ h in
-        cc
-
-pub values_are : (bits : BitSet) (vs : List Value) (cs : List Cell) → cells_of bits 0 vs ≡ cs → IsSome (values_of cs)
-    → values_of cs ≡ Some (vals_view vs)
-values_are bits vs cs e h = ap values_of (sym e) ∙ values_from bits 0 vs (ap (λ (ds : List Cell). is_some (values_of ds)) e ∙ h)
-
--- where a value is missing some bit isn't set, and where one bit isn't set a value is missing
-pub bits_by : (bits : BitSet) (i : ℕ) (vs : List Value) → IsSome (values_of (cells_of bits i vs)) → (j : ℕ) → i ≤ j → j < i + length vs
-    → finite.contains bits.members j ≡ true
-bits_by bits i vs h j low high = go (finite.contains bits.members j) refl
-  where
-    k : (k : ℕ) × (i + k ≡ j)
-    k = (j - i, omega arith)
-
-    go : (b : Bool) → finite.contains bits.members j ≡ b → finite.contains bits.members j ≡ true
-    go true e = e
-    go false e =
-        let none : values_of (cells_of bits i vs) ≡ None
-        = missing_value bits i vs k.0 (omega (arith, k.1)) (ap (finite.contains bits.members) k.1 ∙ e) in
-        let no : false ≡ true = ap is_some (sym none) ∙ h in
-        cc
-
--- whether all bits below the count are set is whether all values are there
-pub all_set_is : (bits : BitSet) (vs : List Value) (cs : List Cell) (b : Bool) → cells_of bits 0 vs ≡ cs
-    → (IsTrue b ↔ HasAllBelow (length vs) bits) → b ≡ is_some (values_of cs)
-all_set_is bits vs cs true e h =
-    sym (ap (λ (ds : List Cell). is_some (values_of ds)) (sym e)
-    ∙ ap is_some (all_values bits 0 vs (λ j l k. h.0 refl j (omega (arith, k)))))
-all_set_is bits vs cs false e h = go (is_some (values_of cs)) refl
-  where
-    go : (b : Bool) → is_some (values_of cs) ≡ b → false ≡ is_some (values_of cs)
-    go false n = sym n
-    go true n =
-        h.1 (λ j k. bits_by bits 0 vs (ap (λ (ds : List Cell). is_some (values_of ds)) e ∙ n) j (omega arith) (omega (arith, k))) ∙ sym n
+  -- whether all bits below the count are set is whether all values are there
+  pub all_set_is : (b : Bool) → (IsTrue b ↔ HasAllBelow (length vs) bits) → b ≡ is_some (values_of cs)
+  all_set_is b h = elim (all_or_not bits 0 vs) [
+    | inl all ↦ h.1 (λ j k. all.0 j (omega arith) (omega (arith, k))) ∙ sym (ap is_some (ap values_of (sym seen) ∙ all.1))
+    | inr some ↦ unset some.0 b h.0 ∙ sym (ap is_some (ap values_of (sym seen) ∙ some.1))
+  ]
+    where
+      unset : (j : ℕ) × (0 ≤ j) × (j < 0 + length vs) × (finite.contains bits.members j ≡ false) → (b : Bool)
+          → (IsTrue b → HasAllBelow (length vs) bits) → b ≡ false
+      unset one false all = refl
+      unset one true all = let no : true ≡ false = sym (all refl one.0 (omega (arith, one.2))) ∙ one.3 in cc
 
 -- children that are all there are what their values say
 pub cells_by_values : (cs : List Cell) (vs : List Value) → values_of cs ≡ Some (vals_view vs)
     → cs ≡ map (λ (v : Value). given (view v)) vs
 cells_by_values [] [] e = refl
 cells_by_values [] (v ∷ vs) e = cc
-cells_by_values (absent ∷ cs) vs e = let no : None ≡ Some (vals_view vs) = e in cc
-cells_by_values (placed n ∷ cs) vs e = let no : None ≡ Some (vals_view vs) = e in cc
 cells_by_values (given u ∷ cs) vs e = go (values_of cs) refl (λ ws. cells_by_values cs ws) vs e
   where
     go : (rest : Option Vals) → values_of cs ≡ rest
@@ -275,8 +205,9 @@ cells_by_values (given u ∷ cs) vs e = go (values_of cs) refl (λ ws. cells_by_
         let both_are : Some (first u us) ≡ Some (first (view v) (vals_view vs)) = e in
         let here : u ≡ view v = cc in
         let others : us ≡ vals_view vs = cc in
-        ap (λ (w : Val). given w ∷ cs) here ∙ ap (λ (l : List Cell). given (view v) ∷ l)
-        (so vs (is ∙ ap (λ (ws : Vals). Some ws) others))
+        let rest = so vs (is ∙ ap (λ (ws : Vals). Some ws) others) in
+        λ j. given (here j) ∷ rest j
+cells_by_values (_ ∷ cs) vs e = let no : None ≡ Some (vals_view vs) = e in cc
 
 -- Tokens of children.
 
@@ -307,19 +238,15 @@ occur_taken cs k d t h =
 
 pub values_occur : (cs : List Cell) (vs : Vals) (t : ℕ) → values_of cs ≡ Some vs → cells_occur cs t ≡ vals_occur vs t
 values_occur [] vs t e = let same : no_vals ≡ vs = cc in ap (λ (us : Vals). vals_occur us t) same
-values_occur (c ∷ cs) vs t e = go (value_of_cell c) refl (values_of cs) refl (λ us. values_occur cs us t)
+values_occur (given v ∷ cs) vs t e = go (values_of cs) refl e (λ us. values_occur cs us t)
   where
-    go : (o : Option Val) → value_of_cell c ≡ o → (rest : Option Vals) → values_of cs ≡ rest
-        → ((us : Vals) → values_of cs ≡ Some us → cells_occur cs t ≡ vals_occur us t) → cells_occur (c ∷ cs) t ≡ vals_occur vs t
-    go (Some v) a (Some us) b more =
-        let same : Some (first v us) ≡ Some vs = rw (a, b) at e in
-        let is : first v us ≡ vs = cc in
-        let here : cell_occurs c t ≡ occurs v t = cell_value_occurs c t ∙ ap (λ (o : Option Val). value_occurs o t) a in
-        let there : cells_occur cs t ≡ vals_occur us t = more us b in
-        let all : vals_occur vs t ≡ vals_occur (first v us) t = ap (λ (ws : Vals). vals_occur ws t) (sym is) in
-        omega arith
-    go (Some v) a None b more = let no : None ≡ Some vs = rw (a, b) at e in cc
-    go None a rest b more = let no : None ≡ Some vs = rw a at e in cc
+    go : (rest : Option Vals) → values_of cs ≡ rest → one_more (Some v) rest ≡ Some vs
+        → ((us : Vals) → values_of cs ≡ Some us → cells_occur cs t ≡ vals_occur us t) → occurs v t + cells_occur cs t ≡ vals_occur vs t
+    go (Some us) is e more =
+        let all : first v us ≡ vs = same_Some (first v us) vs e in
+        ap (λ (n : ℕ). occurs v t + n) (more us is) ∙ ap (λ (ws : Vals). vals_occur ws t) all
+    go None is e more = let no : None ≡ Some vs = e in cc
+values_occur (_ ∷ cs) vs t e = let no : None ≡ Some vs = e in cc
 
 -- nothing is left where all are cleared
 pub all_cleared : (cs : List Cell) (t : ℕ) → AreCleared cs (length cs) → cells_occur cs t ≡ 0
@@ -404,28 +331,9 @@ pub cells_of_given : (vs : List Value) → cells_of_vals (vals_view vs) ≡ map 
 cells_of_given [] = refl
 cells_of_given (v ∷ vs) = ap (λ (cs : List Cell). given (view v) ∷ cs) (cells_of_given vs)
 
--- a child in a slot has no value
-pub slot_no_value : (cs : List Cell) (k n : ℕ) → Some n ≡ slot_at cs k → value_at cs k ≡ None
-slot_no_value cs k n e = go (slice_get cs k) refl
-  where
-    go : (o : Option Cell) → slice_get cs k ≡ o → value_at cs k ≡ None
-    go None h = ap (option_and_then value_of_cell) h
-    go (Some absent) h = ap (option_and_then value_of_cell) h
-    go (Some (given v)) h =
-        let no : Some n ≡ None = e ∙ ap (option_and_then slot_of_cell) h in
-        cc
-    go (Some (placed m)) h = ap (option_and_then value_of_cell) h
-
--- nothing comes after all
-pub past_all : (cs : List Cell) (n : ℕ) → length cs ≤ n → drop n cs ≡ []
-past_all [] zero h = refl
-past_all [] (suc n) h = refl
-past_all (c ∷ cs) zero h = absurd (omega arith)
-past_all (c ∷ cs) (suc n) h = past_all cs n (omega arith)
-
 -- One more child behind the others.
 
-pub cells_more : (bits other : BitSet) (i : ℕ) (vs : List Value) (v : Value) (c : Cell)
+cells_more : (bits other : BitSet) (i : ℕ) (vs : List Value) (v : Value) (c : Cell)
     → ((j : ℕ) → j ≢ i + length vs → finite.contains other.members j ≡ finite.contains bits.members j)
     → cell (finite.contains other.members (i + length vs)) (view v) ≡ c
     → cells_of other i (vs ++ v ∷ []) ≡ cells_of bits i vs ++ c ∷ []
@@ -434,11 +342,10 @@ cells_more bits other i [] v c same is =
     ap (λ (n : ℕ). cell (finite.contains other.members n) (view v) ∷ []) here ∙ ap (λ (d : Cell). d ∷ []) is
 cells_more bits other i (w ∷ vs) v c same is =
     let here : suc i + length vs ≡ i + suc (length vs) = omega arith in
-    ap (λ (b : Bool). cell b (view w) ∷ cells_of other (suc i) (vs ++ v ∷ []))
-    (same i (let ne : i ≢ i + suc (length vs) = omega arith in ne))
-    ∙ ap (λ (cs : List Cell). cell (finite.contains bits.members i) (view w) ∷ cs)
-    (cells_more bits other (suc i) vs v c (λ j h. same j (let ne : j ≢ i + suc (length vs) = omega arith in ne))
-    (ap (λ (n : ℕ). cell (finite.contains other.members n) (view v)) here ∙ is))
+    let bit = same i (let ne : i ≢ i + suc (length vs) = omega arith in ne) in
+    let rest = cells_more bits other (suc i) vs v c (λ j h. same j (let ne : j ≢ i + suc (length vs) = omega arith in ne))
+    (ap (λ (n : ℕ). cell (finite.contains other.members n) (view v)) here ∙ is) in
+    λ j. cell (bit j) (view w) ∷ rest j
 
 pub cells_pushed : (bits wide other : BitSet) (vs : List Value) (cs : List Cell) (v : Value) → cells_of bits 0 vs ≡ cs
     → ((j : ℕ) → finite.contains wide.members j ≡ finite.contains bits.members j)

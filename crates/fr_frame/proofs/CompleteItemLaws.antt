@@ -1,6 +1,6 @@
 -- An item that completes: its slot has its value from then on, and contracts see its list with the value.
-use Rattle.std.proofs.Common.{◌≡◌, ◌≢◌, ◌⊎◌, ℕ, ◌+◌, ◌-◌, Bool, List, length, Option, Some, None, IsSomeAnd, slice_get, set, option_map, inl, inr, refl, sym, ◌∙◌, ap, subst, arith, if◌then◌else◌}
-use Rattle.fr_frame.specs.Common.{Body, Cell, FrameOwner, Heap, Held, IfInUse, IsSeenAs, Item, Node, Piece, Place, SameTokens, Shows, Slot, SlotId, Val, Value, as_tracker, body_occurs, body_of, cell_at, children_with, given, gives, heap_of, held_by, item_in, item_or, items_of, node_in, node_of, occurs, option_and_then, piece_with, placed, slot_occurs, slot_seen, slots_occur, slots_seen, unlinked, value_held, value_of, view, with_cell, with_slot, without}
+use Rattle.std.proofs.Common.{◌≡◌, ◌≢◌, ◌⊎◌, ℕ, ◌+◌, ◌-◌, Bool, List, length, Option, Some, None, IsSomeAnd, get_or, slice_get, set, length-set, option_map, inl, inr, refl, sym, ◌∙◌, ap, subst, arith, if◌then◌else◌}
+use Rattle.fr_frame.specs.Common.{Body, Cell, FrameOwner, Heap, Held, IfInUse, IsSeenAs, Item, Node, PartialValue, Place, SameTokens, Shows, Slot, SlotId, Val, Value, as_tracker, body_occurs, body_of, cell_at, children_with, given, gives, heap_of, held_by, item_in, item_or, items_of, node_in, node_of, occurs, option_and_then, partial_with, placed, slot_occurs, slot_seen, slots_occur, slots_seen, unlinked, value_held, value_of, view, with_cell, with_slot, without}
 use Rattle.fr_frame.specs.Handing.{handed, IsHanded, IsWhole}
 use Rattle.fr_frame.specs.Items.{seen_from}
 use Rattle.fr_frame.specs.RawItems.{IsKeptItem, IsListed}
@@ -9,7 +9,9 @@ use Rattle.fr_frame.proofs.AddItemLaws.{seen_kept}
 use Rattle.fr_frame.proofs.CellLaws.{occur_set as cells_set_occur}
 use Rattle.fr_frame.proofs.DrainLaws.{item_held, other_item, other_list}
 use Rattle.fr_frame.proofs.HandLaws.{no_child, relinked, so_of}
-use Rattle.fr_frame.proofs.HeapLaws.{alike, is_set, number_cases, occur_set, set_gets, set_keeps, set_swap, shows_set, with_body_at, with_body_twice}
+use Rattle.fr_frame.proofs.HeapLaws.{changed, is_set, number_cases, occur_set, read, set_gets, set_keeps, shown_is, shows_set, with_body_twice}
+use Rattle.std.proofs.lemmas.List.{set_comm}
+use Rattle.std.proofs.lemmas.Option.{slice_get_within}
 use Rattle.fr_frame.proofs.PlaceLaws.{of_node}
 use Rattle.fr_frame.proofs.RawLaws.{among}
 use Rattle.fr_frame.proofs.SeenLaws.{from_set, items_at, seen_by, seen_get, slot_seen_same}
@@ -27,17 +29,17 @@ holds (Slot.List place items) at t e = let same : node_of place ≡ at = cc in a
 holds _ at t e = cc
 
 -- a whole place is seen as it is
-whole_with : (held : Held) (n : ℕ) (items : List SlotId) (piece : Piece) → IsWhole (body_of (piece_with held n items piece))
-    → piece_with held n items piece ≡ piece
-whole_with held n items (Piece.Whole value) h = refl
-whole_with held n items Piece.Entered h = refl
-whole_with held n items (Piece.Begun tracker cells) h = absurd h
+whole_with : (held : Held) (n : ℕ) (items : List SlotId) (partial : PartialValue) → IsWhole (body_of (partial_with held n items partial))
+    → partial_with held n items partial ≡ partial
+whole_with held n items (PartialValue.Whole value) h = refl
+whole_with held n items PartialValue.Entered h = refl
+whole_with held n items (PartialValue.Begun tracker cells) h = absurd h
 
 seen_whole : (held : Held) (n : ℕ) (slot : Slot) → IsSomeAnd (node_in (slot_seen held n slot)) (λ (at : Node). IsWhole at.body)
     → node_in (slot_seen held n slot) ≡ node_in slot
 seen_whole held n (Slot.Used place) h = refl
 seen_whole held n (Slot.List place items) h =
-    ap (λ (piece : Piece). Some (node_of (record place { piece = piece }))) (whole_with held n items.value.items place.piece h)
+    ap (λ (partial : PartialValue). Some (node_of (record place { partial = partial }))) (whole_with held n items.value.items place.partial h)
 seen_whole held n _ h = absurd h
 
 module _ (raw slots : List Slot) (view_is : slots_seen raw ≡ slots) (id : ℕ) (whole : IfInUse slots id (λ (at : Node). IsWhole at.body)) where
@@ -82,13 +84,13 @@ module _ (raw : List Slot) (id : ℕ) (list : SlotId) (i : ℕ) (r : IsListed ra
 
   -- the list as it is seen with such children
   abbrev above : List Cell → Place
-  above cs = record r.above { piece = Piece.Begun r.listed.tracker cs }
+  above cs = record r.above { partial = PartialValue.Begun r.listed.tracker cs }
 
   list_seen : (held : Held) → slot_seen held list.0 (Slot.List r.above r.items) ≡ Slot.Used (above (cells held))
   list_seen held =
-      ap (λ (piece : Piece). Slot.Used (record r.above { piece = piece }))
-      (ap (piece_with held list.0 r.items.value.items) r.listed.is
-      ∙ ap (λ (b : Bool). Piece.Begun r.listed.tracker (if b then cells held else r.listed.cells)) r.listed.keeps)
+      ap (λ (partial : PartialValue). Slot.Used (record r.above { partial = partial }))
+      (ap (partial_with held list.0 r.items.value.items) r.listed.is
+      ∙ ap (λ (b : Bool). PartialValue.Begun r.listed.tracker (if b then cells held else r.listed.cells)) r.listed.keeps)
 
   list_by : (held : Held) → slice_get (seen_from held 0 raw) list.0 ≡ Some (Slot.Used (above (cells held)))
   list_by held =
@@ -125,7 +127,7 @@ module _ (raw : List Slot) (id : ℕ) (list : SlotId) (i : ℕ) (r : IsListed ra
         (is_set (seen_from (items_of now) 0 raw) (slots_seen raw) list.0 (Slot.Used (above (cells (items_of raw))))
         (Slot.Used (above completed)) (list_by (items_of raw))
         (list_by (items_of now) ∙ ap (λ (cs : List Cell). Some (Slot.Used (above cs))) cells_now) others)
-        ∙ set_swap (slots_seen raw) list.0 id (Slot.Used (above completed)) (Slot.Free None) apart
+        ∙ set_comm (slots_seen raw) list.0 id (Slot.Used (above completed)) (Slot.Free None) apart
       where
         same : (n : ℕ) (found : Option Slot) → n ≢ list.0
             → option_map (slot_seen (items_of now) n) found ≡ option_map (slot_seen (items_of raw) n) found
@@ -142,14 +144,11 @@ module _ (raw : List Slot) (id : ℕ) (list : SlotId) (i : ℕ) (r : IsListed ra
 
     pub completed_shows : Shows (slots_seen now)
         (gives (FrameOwner.Child list i) (view value) (without (heap_of (slots_seen raw)) id (FrameOwner.Child list i)))
-    completed_shows m =
-        ap (λ (slots : List Slot). heap_of slots m) seen_now
-        ∙ shows_set freed list.0 (Slot.Used (above (cells (items_of raw)))) (Slot.Used (above completed)) list_still m
-        ∙ ap (λ (heap : Heap). with_slot heap list.0 (Some (node_of (above completed))) m) gone_is
-        ∙ ap (λ (body : Body). with_slot gone list.0 (Some (record (node_of (above completed)) { body = body })) m)
-        (sym (relinked (as_tracker r.listed.tracker) (cells (items_of raw)) i id (given (view value)) placed_there))
-        ∙ sym (with_body_at gone list.0 (node_of (above (cells (items_of raw)))) both above_gone m) ∙ sym
-        (with_body_twice gone list.0 (unlinked id i) (λ (old : Body). with_cell old i (given (view value))) both (λ body. refl) m)
+    completed_shows =
+        subst (λ (slots : List Slot). Shows slots (gives (FrameOwner.Child list i) (view value)
+        (without (heap_of (slots_seen raw)) id (FrameOwner.Child list i)))) (sym seen_now)
+        (subst (Shows (set freed list.0 (Slot.Used (above completed)))) so
+        (shows_set freed list.0 (Slot.Used (above (cells (items_of raw)))) (Slot.Used (above completed)) list_still))
       where
         gone : Heap
         gone = with_slot (heap_of (slots_seen raw)) id None
@@ -158,10 +157,20 @@ module _ (raw : List Slot) (id : ℕ) (list : SlotId) (i : ℕ) (r : IsListed ra
         both body = with_cell (unlinked id i body) i (given (view value))
 
         gone_is : heap_of freed ≡ gone
-        gone_is = alike (heap_of freed) gone (shows_set (slots_seen raw) id (slot_seen (items_of raw) id r.slot) (Slot.Free None) item_seen)
+        gone_is =
+            shown_is freed gone (shows_set (slots_seen raw) id (slot_seen (items_of raw) id r.slot) (Slot.Free None) item_seen)
 
         above_gone : gone list.0 ≡ Some (node_of (above (cells (items_of raw))))
         above_gone = ap (λ (heap : Heap). heap list.0) (sym gone_is) ∙ ap (option_and_then node_in) list_still
+
+        so : with_slot (heap_of freed) list.0 (Some (node_of (above completed)))
+            ≡ gives (FrameOwner.Child list i) (view value) (without (heap_of (slots_seen raw)) id (FrameOwner.Child list i))
+        so =
+            ap (λ (heap : Heap). with_slot heap list.0 (Some (node_of (above completed)))) gone_is
+            ∙ ap (λ (body : Body). with_slot gone list.0 (Some (record (node_of (above completed)) { body = body })))
+            (sym (relinked (as_tracker r.listed.tracker) (cells (items_of raw)) i id (given (view value)) placed_there))
+            ∙ ap (λ (found : Option Node). with_slot gone list.0 (changed both found)) (sym above_gone)
+            ∙ sym (with_body_twice gone list.0 (unlinked id i) (λ (old : Body). with_cell old i (given (view value))))
 
     pub completed_occurs : (t : ℕ) → slots_occur (slots_seen now) t + slot_occurs (slot_seen (items_of raw) id r.slot) t
         ≡ slots_occur (slots_seen raw) t + occurs (view value) t
@@ -179,9 +188,17 @@ module _ (raw : List Slot) (id : ℕ) (list : SlotId) (i : ℕ) (r : IsListed ra
 module _ (raw slots : List Slot) (view_is : slots_seen raw ≡ slots) (id : ℕ) (list : SlotId) (i : ℕ) (r : IsListed raw id list i)
     (whole : IfInUse slots id (λ (at : Node). IsWhole at.body))
     (owned : IfInUse slots id (λ (at : Node). held_by (heap_of slots) at.owner ≡ Some (placed id)))
-    (was given_now found marked : Slot) (at to : ℕ) (here : slice_get raw id ≡ Some was)
+    (was given_now found marked : Slot) (at to : ℕ) (read_at : was ≡ get_or raw at was)
     (put : IsSomeAnd (node_in was) (λ (x : Node). IsKeptItem list i x.body given_now))
-    (at_is : at ≡ id) (to_is : to ≡ list.0) (there : slice_get (set raw at given_now) list.0 ≡ Some found) (same : IsSeenAs found marked) where
+    (at_is : at ≡ id) (to_is : to ≡ list.0) (read_to : found ≡ get_or (set raw at given_now) to found) (same : IsSeenAs found marked) where
+  here : slice_get raw id ≡ Some was
+  here = read raw id at was at_is (slice_get_within raw id r.slot r.here) read_at
+
+  there : slice_get (set raw at given_now) list.0 ≡ Some found
+  there =
+      read (set raw at given_now) list.0 to found to_is
+      (omega (arith, length-set raw at given_now, slice_get_within raw list.0 (Slot.List r.above r.items) r.there)) read_to
+
   same_slot : (a b : Slot) → Some a ≡ Some b → a ≡ b
   same_slot a b e = cc
 

@@ -1,12 +1,11 @@
 -- Lists whose items go into them, out of slots that are free then.
 use Rattle.std.proofs.Common.{◌≡◌, ◌≢◌, ◌⊎◌, ℕ, zero, suc, ◌+◌, ◌<◌, ◌≤◌, Bool, true, false, ◌&&◌, List, [], ◌∷◌, length, Option, Some, None, IsSomeAnd, slice_get, set, get_or, is_some, nat_eq, option_map, length-set, inl, inr, refl, sym, ◌∙◌, ap, subst, arith, add-one, if◌then◌else◌}
-use Rattle.fr_frame.specs.Common.{Box, Cell, FreesItem, FreesItems, Global, Held, IsPlain, IsPlainAt, Item, Piece, Place, Rope, Slot, SlotId, Val, is_list, item_cell, item_in, item_or, items_of, option_and_then, piece_with, slot_seen, slots_seen, value_held, view, with_items}
+use Rattle.fr_frame.specs.Common.{Box, Cell, FreesItem, FreesItems, Global, Held, IsPlain, IsPlainAt, Item, PartialValue, Place, Rope, Slot, SlotId, Val, is_list, item_cell, item_in, item_or, items_of, option_and_then, partial_with, slot_seen, slots_seen, value_held, view, with_items}
 use Rattle.std.proofs.lemmas.Bool.{eq-eqb, false≢true}
-use Rattle.std.proofs.lemmas.Bool.Decides.{eqb_tells}
 use Rattle.std.proofs.lemmas.Option.{get_or_from_slice_get, slice_get_read}
 use Rattle.fr_frame.specs.Items.{IsItemFreed}
 use Rattle.fr_frame.proofs.SeenLaws.{HoldSame, items_set, seen_as_same, slot_seen_same}
-use Rattle.fr_frame.proofs.HeapLaws.{set_gets, set_keeps}
+use Rattle.fr_frame.proofs.HeapLaws.{number_cases, other_number, set_gets, set_keeps}
 
 -- Children that are filled in, from number `at` on.
 
@@ -40,24 +39,14 @@ filled_next held n at cells now slot items h is = rw (add-one, is) (filled_from 
 
 -- an item of another list, or with another number
 pub other_list : (n i : ℕ) (item : Item) → item.list.0 ≢ n → value_held n i (Some item) ≡ None
-other_list n i item ne = go (eqb_tells item.list.0 n)
-  where
-    go : ((nat_eq item.list.0 n ≡ true) × (item.list.0 ≡ n)) ⊎ ((nat_eq item.list.0 n ≡ false) × (item.list.0 ≢ n))
-        → value_held n i (Some item) ≡ None
-    go (inl same) = absurd (ne same.1)
-    go (inr other) = rw other.0 refl
+other_list n i item ne = rw (other_number item.list.0 n ne) refl
 
 pub other_item : (n i : ℕ) (item : Item) → item.number ≢ i → value_held n i (Some item) ≡ None
-other_item n i item ne = go (eqb_tells item.number i) (nat_eq item.list.0 n)
+other_item n i item ne = rw (other_number item.number i ne) (either (nat_eq item.list.0 n))
   where
-    held : (of_list is_number : Bool) → Option Val
-    held of_list is_number = if of_list && is_number then Some (view item.value) else None
-
-    go : ((nat_eq item.number i ≡ true) × (item.number ≡ i)) ⊎ ((nat_eq item.number i ≡ false) × (item.number ≢ i))
-        → (of_list : Bool) → held of_list (nat_eq item.number i) ≡ None
-    go (inl same) b = absurd (ne same.1)
-    go (inr other) true = rw other.0 refl
-    go (inr other) false = refl
+    either : (of_list : Bool) → (if of_list && false then Some (view item.value) else None) ≡ None
+    either true = refl
+    either false = refl
 
 pub item_held : (n i : ℕ) (item : Item) → item.list.0 ≡ n → item.number ≡ i → value_held n i (Some item) ≡ Some (view item.value)
 item_held n i item list number =
@@ -73,19 +62,14 @@ ItemThere slots m n i = (item : Item) × (slice_get slots m ≡ Some (Slot.Item 
 item_there : (slots : List Slot) (m n i : ℕ) → is_some (value_held n i (items_of slots m)) ≡ true → ItemThere slots m n i
 item_there slots m n i e = go (slice_get slots m) refl e
   where
-    numbered : (item : Item) → slice_get slots m ≡ Some (Slot.Item item) → is_some (value_held n i (Some item)) ≡ true
-        → ((nat_eq item.list.0 n ≡ true) × (item.list.0 ≡ n)) ⊎ ((nat_eq item.list.0 n ≡ false) × (item.list.0 ≢ n))
-        → ((nat_eq item.number i ≡ true) × (item.number ≡ i)) ⊎ ((nat_eq item.number i ≡ false) × (item.number ≢ i))
-        → ItemThere slots m n i
-    numbered item at h (inl same) (inl number) = (item, at, same.1, number.1)
-    numbered item at h (inl same) (inr other) =
-        absurd (false≢true (sym (ap (λ (o : Option Val). is_some o) (other_item n i item other.1)) ∙ h))
-    numbered item at h (inr other) number =
-        absurd (false≢true (sym (ap (λ (o : Option Val). is_some o) (other_list n i item other.1)) ∙ h))
-
-    go : (o : Option Slot) → slice_get slots m ≡ o → is_some (value_held n i (option_and_then item_in o)) ≡ true
-        → ItemThere slots m n i
-    go (Some (Slot.Item item)) at h = numbered item at h (eqb_tells item.list.0 n) (eqb_tells item.number i)
+    go : (o : Option Slot) → slice_get slots m ≡ o → is_some (value_held n i (option_and_then item_in o)) ≡ true → ItemThere slots m n i
+    go (Some (Slot.Item item)) at h = elim (number_cases item.list.0 n) [
+      | inl list ↦ elim (number_cases item.number i) [
+        | inl number ↦ (item, at, list, number)
+        | inr other ↦ absurd (false≢true (sym (ap is_some (other_item n i item other)) ∙ h))
+      ]
+      | inr other ↦ absurd (false≢true (sym (ap is_some (other_list n i item other)) ∙ h))
+    ]
     go _ at h = absurd (false≢true h)
 
 module _ (slots : List Slot) (n i m at : ℕ) (slot : Slot) (is : is_some (value_held n i (items_of slots m)) ≡ true) (same : at ≡ m) (read : slot ≡ get_or slots at slot) where
@@ -121,23 +105,20 @@ frees_more : (n i m : ℕ) (a b c : List Slot) → FreesItems n a b → IsItemFr
 frees_more n i m a b c before next =
     record { as_many = ap length next.now ∙ length-set b m (Slot.Free next.next) ∙ before.as_many; each = each }
   where
+    after : Slot
+    after = Slot.Free next.next
+
+    here : FreesItem n (slice_get a m) (slice_get b m) → FreesItem n (slice_get a m) (slice_get c m)
+    here (inl same) =
+        inr (next.item, next.next, same ∙ next.held, next.of_list, ap (λ (l : List Slot). slice_get l m) next.now ∙ set_gets b m (Slot.Item next.item) after next.held)
+    here (inr freed) = let e : Some (Slot.Free freed.1) ≡ Some (Slot.Item next.item) = sym freed.4 ∙ next.held in cc
+
     each : (k : ℕ) → FreesItem n (slice_get a k) (slice_get c k)
-    each k = go (eqb_tells k m)
-      where
-        after : Slot
-        after = Slot.Free next.next
-
-        here : FreesItem n (slice_get a m) (slice_get b m) → FreesItem n (slice_get a m) (slice_get c m)
-        here (inl same) =
-            inr (next.item, next.next, same ∙ next.held, next.of_list, ap (λ (l : List Slot). slice_get l m) next.now ∙ set_gets b m (Slot.Item next.item) after next.held)
-        here (inr freed) =
-            let e : Some (Slot.Free freed.1) ≡ Some (Slot.Item next.item) = sym freed.4 ∙ next.held in cc
-
-        go : ((nat_eq k m ≡ true) × (k ≡ m)) ⊎ ((nat_eq k m ≡ false) × (k ≢ m)) → FreesItem n (slice_get a k) (slice_get c k)
-        go (inl same) = subst (λ (j : ℕ). FreesItem n (slice_get a j) (slice_get c j)) (sym same.1) (here (before.each m))
-        go (inr other) =
-            subst (λ (o : Option Slot). FreesItem n (slice_get a k) o)
-            (sym (ap (λ (l : List Slot). slice_get l k) next.now ∙ set_keeps b m after k other.1)) (before.each k)
+    each k = elim (number_cases k m) [
+      | inl same ↦ rw same (here (before.each m))
+      | inr other ↦ subst (FreesItem n (slice_get a k))
+          (sym (ap (λ (l : List Slot). slice_get l k) next.now ∙ set_keeps b m after k other)) (before.each k)
+    ]
 
 pub frees_on : (n i m : ℕ) (a b c : List Slot) → FreesItems n a b → (c ≡ b) ⊎ IsItemFreed b c m n i → FreesItems n a c
 frees_on n i m a b c before (inl same) = subst (λ (slots : List Slot). FreesItems n a slots) (sym same) before
@@ -148,20 +129,21 @@ abbrev pub HoldsFrom : (n i : ℕ) (a b : List Slot) → Type 0
 HoldsFrom n i a b = (j m : ℕ) → i ≤ j → value_held n j (items_of b m) ≡ value_held n j (items_of a m)
 
 holds_more : (n i m : ℕ) (a b c : List Slot) → HoldsFrom n i a b → IsItemFreed b c m n i → HoldsFrom n (i + 1) a c
-holds_more n i m a b c before next j k h = go (eqb_tells k m) ∙ before j k (omega arith)
+holds_more n i m a b c before next j k h = here k ∙ before j k (omega arith)
   where
-    go : ((nat_eq k m ≡ true) × (k ≡ m)) ⊎ ((nat_eq k m ≡ false) × (k ≢ m))
-        → value_held n j (items_of c k) ≡ value_held n j (items_of b k)
-    go (inl same) =
-        let after = ap (λ (l : List Slot). slice_get l m) next.now ∙ set_gets b m (Slot.Item next.item) (Slot.Free next.next) next.held in
-        let none : value_held n j (items_of c m) ≡ None = ap (λ (o : Option Slot). value_held n j (option_and_then item_in o)) after in
-        let was : value_held n j (items_of b m) ≡ value_held n j (Some next.item) = ap (λ (o : Option Slot). value_held n j (option_and_then item_in o)) next.held in
-        let other : next.item.number ≢ j = λ (e : next.item.number ≡ j). absurd (omega (arith, next.number)) in
-        subst (λ (x : ℕ). value_held n j (items_of c x) ≡ value_held n j (items_of b x)) (sym same.1)
-        (none ∙ sym (other_item n j next.item other) ∙ sym was)
-    go (inr other) =
-        ap (λ (o : Option Slot). value_held n j (option_and_then item_in o))
-        (ap (λ (l : List Slot). slice_get l k) next.now ∙ set_keeps b m (Slot.Free next.next) k other.1)
+    held : Option Slot → Option Val
+    held o = value_held n j (option_and_then item_in o)
+
+    other : next.item.number ≢ j
+    other e = absurd (omega (arith, next.number))
+
+    here : (k : ℕ) → held (slice_get c k) ≡ held (slice_get b k)
+    here k = elim (number_cases k m) [
+      | inl same ↦ rw same (ap (λ (l : List Slot). held (slice_get l m)) next.now
+          ∙ ap held (set_gets b m (Slot.Item next.item) (Slot.Free next.next) next.held) ∙ sym (other_item n j next.item other)
+          ∙ sym (ap held next.held))
+      | inr ne ↦ ap (λ (l : List Slot). held (slice_get l k)) next.now ∙ ap held (set_keeps b m (Slot.Free next.next) k ne)
+    ]
 
 pub holds_on : (n i m : ℕ) (a b c : List Slot) → HoldsFrom n i a b → (c ≡ b) ⊎ IsItemFreed b c m n i → HoldsFrom n (i + 1) a c
 holds_on n i m a b c before (inl same) j k h =
@@ -181,7 +163,10 @@ filled_on start now n at cells after slot items h held is =
 -- what is held of another list's items is as it was
 others_hold : (n : ℕ) (a b : List Slot) (l : ℕ) → l ≢ n → ((m : ℕ) → m ≢ n → FreesItem n (slice_get a m) (slice_get b m))
     → items_of a n ≡ items_of b n → HoldSame (items_of a) (items_of b) l
-others_hold n a b l ne each here m i = go (eqb_tells m n)
+others_hold n a b l ne each here m i = elim (number_cases m n) [
+  | inl same ↦ rw same (ap (value_held l i) here)
+  | inr other ↦ freed (each m other)
+]
   where
     held : Option Slot → Option Val
     held o = value_held l i (option_and_then item_in o)
@@ -191,16 +176,15 @@ others_hold n a b l ne each here m i = go (eqb_tells m n)
     freed (inr item) =
         ap held item.2 ∙ other_list l i item.0 (λ (e : item.0.list.0 ≡ l). ne (sym e ∙ item.3)) ∙ sym (ap held item.4)
 
-    go : ((nat_eq m n ≡ true) × (m ≡ n)) ⊎ ((nat_eq m n ≡ false) × (m ≢ n)) → held (slice_get a m) ≡ held (slice_get b m)
-    go (inl same) = subst (λ (k : ℕ). held (slice_get a k) ≡ held (slice_get b k)) (sym same.1) (ap (value_held l i) here)
-    go (inr other) = freed (each m other.1)
-
 -- all slots are seen as they were where the list's own is
 drained_seen : (n : ℕ) (a b : List Slot) → ((m : ℕ) → m ≢ n → FreesItem n (slice_get a m) (slice_get b m))
     → items_of a n ≡ items_of b n
     → option_map (slot_seen (items_of a) n) (slice_get a n) ≡ option_map (slot_seen (items_of b) n) (slice_get b n)
     → slots_seen a ≡ slots_seen b
-drained_seen n a b each here is = seen_as_same a b (λ (m : ℕ). go m (eqb_tells m n))
+drained_seen n a b each here is = seen_as_same a b (λ m. elim (number_cases m n) [
+  | inl same ↦ subst SeenSame (sym same) is
+  | inr other ↦ freed m other (each m other)
+])
   where
     SeenSame : ℕ → Type 0
     SeenSame m = option_map (slot_seen (items_of a) m) (slice_get a m) ≡ option_map (slot_seen (items_of b) m) (slice_get b m)
@@ -214,14 +198,17 @@ drained_seen n a b each here is = seen_as_same a b (λ (m : ℕ). go m (eqb_tell
     freed m ne (inr item) =
         ap (option_map (slot_seen (items_of a) m)) item.2 ∙ sym (ap (option_map (slot_seen (items_of b) m)) item.4)
 
-    go : (m : ℕ) → ((nat_eq m n ≡ true) × (m ≡ n)) ⊎ ((nat_eq m n ≡ false) × (m ≢ n)) → SeenSame m
-    go m (inl same) = subst SeenSame (sym same.1) is
-    go m (inr other) = freed m other.1 (each m other.1)
+-- slots where a list's items went into it
+pub record IsDrained (n : ℕ) (before after : List Slot) : Type 0 where
+  pub seen : slots_seen after ≡ slots_seen before
+  pub plain : IsPlainAt after n
+  pub others : (m : ℕ) → m ≢ n → FreesItem n (slice_get before m) (slice_get after m)
+  pub as_many : length after ≡ length before
 
 -- A list's place, taken out of its slot, in which it is again with its items.
-module _ (n : ℕ) (a b : List Slot) (place : Place) (items : Box (Rope SlotId) Global) (piece : Piece) (was : slice_get a n ≡ Some (Slot.List place items)) (frees : FreesItems n (set a n Slot.Reserved) b) (put : piece ≡ piece_with (items_of (set a n Slot.Reserved)) n items.value.items place.piece) where
+module _ (n : ℕ) (a b : List Slot) (place : Place) (items : Box (Rope SlotId) Global) (partial : PartialValue) (was : slice_get a n ≡ Some (Slot.List place items)) (frees : FreesItems n (set a n Slot.Reserved) b) (put : partial ≡ partial_with (items_of (set a n Slot.Reserved)) n items.value.items place.partial) where
   abbrev drained : List Slot
-  drained = set b n (Slot.Used (record place { piece = piece }))
+  drained = set b n (Slot.Used (record place { partial = partial }))
 
   reserved : slice_get (set a n Slot.Reserved) n ≡ Some Slot.Reserved
   reserved = set_gets a n (Slot.List place items) Slot.Reserved was
@@ -233,18 +220,12 @@ module _ (n : ℕ) (a b : List Slot) (place : Place) (items : Box (Rope SlotId) 
       go (inl same) = sym same ∙ reserved
       go (inr item) = let e : Some Slot.Reserved ≡ Some (Slot.Item item.0) = sym reserved ∙ item.2 in cc
 
-  used : slice_get drained n ≡ Some (Slot.Used (record place { piece = piece }))
-  used = set_gets b n Slot.Reserved (Slot.Used (record place { piece = piece })) still_reserved
+  used : slice_get drained n ≡ Some (Slot.Used (record place { partial = partial }))
+  used = set_gets b n Slot.Reserved (Slot.Used (record place { partial = partial })) still_reserved
 
   drain_others : (m : ℕ) → m ≢ n → FreesItem n (slice_get a m) (slice_get drained m)
   drain_others m ne =
-      rw (set_keeps b n (Slot.Used (record place { piece = piece })) m ne, ← set_keeps a n Slot.Reserved m ne) (frees.each m)
-
-  drain_as_many : length drained ≡ length a
-  drain_as_many = length-set b n (Slot.Used (record place { piece = piece })) ∙ frees.as_many ∙ length-set a n Slot.Reserved
-
-  drain_plain : IsPlainAt drained n
-  drain_plain = subst (λ (o : Option Slot). IsSomeAnd o IsPlain) (sym used) tt
+      rw (set_keeps b n (Slot.Used (record place { partial = partial })) m ne, ← set_keeps a n Slot.Reserved m ne) (frees.each m)
 
   drain_seen : slots_seen drained ≡ slots_seen a
   drain_seen = sym (drained_seen n a drained drain_others none same)
@@ -260,36 +241,27 @@ module _ (n : ℕ) (a b : List Slot) (place : Place) (items : Box (Rope SlotId) 
       same =
           ap (option_map (slot_seen (items_of a) n)) was
           ∙ ap (λ (x : Slot). Some x) (slot_seen_same (items_of a) (items_of (set a n Slot.Reserved)) n (Slot.List place items) as_was)
-          ∙ ap (λ (p : Piece). Some (Slot.Used (record place { piece = p }))) (sym put)
+          ∙ ap (λ (p : PartialValue). Some (Slot.Used (record place { partial = p }))) (sym put)
           ∙ sym (ap (option_map (slot_seen (items_of drained) n)) used)
 
--- slots where a list's items went into it
-pub record IsDrained (n : ℕ) (before after : List Slot) : Type 0 where
-  pub seen : slots_seen after ≡ slots_seen before
-  pub plain : IsPlainAt after n
-  pub others : (m : ℕ) → m ≢ n → FreesItem n (slice_get before m) (slice_get after m)
-  pub as_many : length after ≡ length before
+  drained_so : IsDrained n a drained
+  drained_so = record {
+    seen = drain_seen;
+    plain = subst (λ (o : Option Slot). IsSomeAnd o IsPlain) (sym used) tt;
+    others = drain_others;
+    as_many = length-set b n (Slot.Used (record place { partial = partial })) ∙ frees.as_many ∙ length-set a n Slot.Reserved;
+  }
 
-pub is_drained : (n : ℕ) (a b : List Slot) (at to : ℕ) (slot kept : Slot) (place : Place) (items : Box (Rope SlotId) Global) (piece : Piece)
+pub is_drained : (n : ℕ) (a b : List Slot) (at to : ℕ) (slot kept : Slot) (place : Place) (items : Box (Rope SlotId) Global) (partial : PartialValue)
     → at < length a → at ≡ n → slot ≡ get_or a at slot → slot ≡ Slot.List place items → kept ≡ Slot.Reserved
-    → FreesItems n (set a at kept) b → piece ≡ piece_with (items_of (set a at kept)) n items.value.items place.piece → to ≡ n
-    → IsDrained n a (set b to (Slot.Used (record place { piece = piece })))
-is_drained n a b at to slot kept place items piece h at_is read is kept_is frees put to_is = rw to_is (record {
-  seen = drain_seen n a b place items piece was freed filled;
-  plain = drain_plain n a b place items piece was freed filled;
-  others = drain_others n a b place items piece was freed filled;
-  as_many = drain_as_many n a b place items piece was freed filled;
-})
+    → FreesItems n (set a at kept) b → partial ≡ partial_with (items_of (set a at kept)) n items.value.items place.partial → to ≡ n
+    → IsDrained n a (set b to (Slot.Used (record place { partial = partial })))
+is_drained n a b at to slot kept place items partial h at_is read is kept_is frees put to_is =
+    rw to_is (drained_so n a b place items partial was (rw (at_is, kept_is) at frees) (rw (at_is, kept_is) at put))
   where
     was : slice_get a n ≡ Some (Slot.List place items)
     was =
         ap (slice_get a) (sym at_is) ∙ slice_get_read a (length a) at slot refl h read ∙ ap (λ (x : Slot). Some x) is
-
-    freed : FreesItems n (set a n Slot.Reserved) b
-    freed = rw (at_is, kept_is) at frees
-
-    filled : piece ≡ piece_with (items_of (set a n Slot.Reserved)) n items.value.items place.piece
-    filled = rw (at_is, kept_is) at put
 
 -- the list with its items
 pub list_in : (slot : Slot) → is_list slot ≡ true → (place : Place) × (items : Box (Rope SlotId) Global) × (slot ≡ Slot.List place items)

@@ -9,10 +9,6 @@ use Rattle.fr_model.specs.Dynamics.{dynamics_in, members_in}
 
 -- Parts
 
-pub none_left : {X : Type 0} (xs : List X) → length xs ≡ 0 → xs ≡ []
-none_left [] h = refl
-none_left (x ∷ xs) h = absurd (omega (arith, h))
-
 abbrev pub dynamic_of : Value → Dynamic
 dynamic_of v = dynamic_in (view v)
 

@@ -1,5 +1,6 @@
 -- The children of a whole map: the keys and values of its entries, in turn.
 use Rattle.std.proofs.Common.{◌≡◌, ℕ, zero, suc, ◌+◌, ◌≤◌, List, [], ◌∷◌, ◌++◌, length, replicate, ◌*◌, Option, Some, set, refl, sym, ◌∙◌, ap, subst, arith}
+use Rattle.std.proofs.lemmas.List.{append_assoc, length-append, length-replicate, length_push}
 use Rattle.fr_frame.specs.Common.{Cell, Entries, IfSome, IsSome, Val, Vals, Value, absent, cells_of_vals, entries_of, entries_view, entry, given, in_turn, map_of, no_entries, view}
 use Rattle.fr_model.specs.Places.{base_in, count_entries}
 
@@ -59,36 +60,24 @@ entering_begins all cells h = record {
   is = sym (append_nothing cells);
 }
 
-append_one : {X : Type 0} (xs : List X) (x : X) (ys : List X) → (xs ++ x ∷ []) ++ ys ≡ xs ++ x ∷ ys
-append_one [] x ys = refl
-append_one (z ∷ xs) x ys = ap (λ l. z ∷ l) (append_one xs x ys)
-
-length_one : {X : Type 0} (xs : List X) (x : X) → length (xs ++ x ∷ []) ≡ suc (length xs)
-length_one [] x = refl
-length_one (z ∷ xs) x = ap suc (length_one xs x)
-
-cells_length : (xs ys : List Cell) → length (xs ++ ys) ≡ length xs + length ys
-cells_length [] ys = omega arith
-cells_length (x ∷ xs) ys = omega (arith, cells_length xs ys)
-
 module _ (all rest : List (Value × Value)) (now : List Cell) (i : ℕ) (so_far : Entering all rest now i) where
   pub entering_count : length rest + length rest ≤ length now
   entering_count = omega (
     arith,
     ap length so_far.is,
-    cells_length so_far.left (entry_cells so_far.done),
+    length-append so_far.left (entry_cells so_far.done),
     so_far.room,
   )
 
   module _ (fewer : List (Value × Value)) (entry : Value × Value) (popped : rest ≡ fewer ++ entry ∷ []) where
     pub entering_one : length rest ≡ suc (length fewer)
-    entering_one = ap length popped ∙ length_one fewer entry
+    entering_one = omega (arith, ap length popped, length_push fewer entry)
 
     pub entering_step : (k : ℕ) (next : List Cell) → k ≡ length fewer + length fewer
         → next ≡ set (set now k (given (view entry.0))) (k + 1) (given (view entry.1)) → Entering all fewer next (i + 1)
     entering_step k next number is = record {
       done = entry ∷ so_far.done;
-      split = so_far.split ∙ ap (λ (l : List (Value × Value)). l ++ so_far.done) popped ∙ append_one fewer entry so_far.done;
+      split = so_far.split ∙ ap (λ (l : List (Value × Value)). l ++ so_far.done) popped ∙ append_assoc fewer (entry ∷ []) so_far.done;
       count = omega (arith, entering_one, so_far.count);
       left = more.rest;
       room = more.count ∙ number;
@@ -108,10 +97,6 @@ module _ (all rest : List (Value × Value)) (now : List Cell) (i : ℕ) (so_far 
       nothing_left [] h = refl
       nothing_left (x ∷ xs) h = absurd (omega arith)
 
-none_length : (n : ℕ) → length (replicate n absent) ≡ n
-none_length zero = refl
-none_length (suc n) = ap suc (none_length n)
-
 -- as many children as there are keys and values
 pub as_many : (found : Option Vals) (es : List (Value × Value)) (count : ℕ) (cells : List Cell)
     → found ≡ Some (in_turn (entries_view es)) → IfSome found (λ vs. count + count ≡ length (cells_of_vals vs))
@@ -119,7 +104,7 @@ pub as_many : (found : Option Vals) (es : List (Value × Value)) (count : ℕ) (
 as_many found es count cells is counted made =
     let so : count + count ≡ length (entry_cells es)
     = subst (λ (o : Option Vals). IfSome o (λ vs. count + count ≡ length (cells_of_vals vs))) is counted in
-    omega (arith, so, entry_count es, ap length made, none_length (2 * count))
+    omega (arith, so, entry_count es, ap length made, length-replicate (2 * count) absent)
 
 turns_counted : (es : Entries) → length (cells_of_vals (in_turn es)) ≡ count_entries es + count_entries es
 turns_counted no_entries = refl

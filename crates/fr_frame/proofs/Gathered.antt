@@ -1,7 +1,7 @@
 -- The places of the keys of entries and of items, as they come one after the other.
 use Rattle.std.proofs.Common.{◌≡◌, ℕ, suc, ◌+◌, ◌*◌, ◌<◌, ◌≤◌, Bool, true, false, ◌||◌, cond, List, [], ◌∷◌, ◌++◌, length, map, drop, get_or, Option, Some, None, unwrap_or, refl, sym, ap, ◌∙◌, arith}
 use Rattle.std.specs.Prelude.{option_map}
-use Rattle.std.proofs.lemmas.List.{drop_more, append_assoc, append-nil, length-drop}
+use Rattle.std.proofs.lemmas.List.{drop_more, append_assoc, append-nil, length-drop, length-map}
 use Rattle.fr_frame.specs.Common.{Entries, Val, Vals, Value, entry, entry_place, entry_places, first, is_there, item_place, item_places, no_entries, place, places_of, same, vals_view, view, with_entry_in, with_item_in, with_key}
 use Rattle.fr_shape.specs.View.{vals_of}
 use Rattle.fr_model.specs.Gathering.{and_last_val}
@@ -22,12 +22,8 @@ places_of_map f eq there (k ∷ ks) =
     place_map [] = refl
     place_map (m ∷ l) = ap (λ n. cond (eq (f m) (f k)) (Some 0) (option_map suc n)) (place_map l)
 
-    long : (l : List _) → length l ≡ length (map f l)
-    long [] = refl
-    long (m ∷ l) = ap suc (long l)
-
     at : (l : List _) → unwrap_or (place (λ a b. eq (f a) (f b)) l k) (length l) ≡ unwrap_or (place eq (map f l) (f k)) (length (map f l))
-    at l = λ j. unwrap_or (place_map l j) (long l j)
+    at l = λ j. unwrap_or (place_map l j) (sym (length-map l f) j)
 
     with_map : (l : List _) → map f (with_key (λ a b. eq (f a) (f b)) l k) ≡ with_key eq (map f l) (f k)
     with_map [] = refl

@@ -1,16 +1,12 @@
 -- A place that gets one child more, and the item that is entered there.
 use Rattle.std.proofs.Common.{◌≡◌, ℕ, ◌+◌, List, [], ◌∷◌, ◌++◌, Option, Some, None, option_map, refl, sym, ◌∙◌, ap}
-use Rattle.fr_frame.specs.Common.{Body, Cell, Def, Err, FrameOwner, Heap, Node, NodeId, Ok, OnErr, OnOk, Result, Shows, Slot, Val, absent, cell_occurs, cells_occur, depth_below, false, given, heap_of, held_by, links, placed, whole_body, with_entered, with_slot}
+use Rattle.fr_frame.specs.Common.{Body, Cell, Def, Err, FrameOwner, Heap, Node, NodeId, Ok, OnErr, OnOk, Result, Shows, Slot, Val, absent, cell_occurs, cells_occur, depth_below, false, given, held_by, links, placed, whole_body, with_entered, with_slot}
 use Rattle.fr_frame.specs.declared.places.Growth.{Growth}
 use Rattle.fr_frame.specs.Cells.{held_value}
 use Rattle.fr_frame.specs.Bodies.{fresh_body, taken_over}
 use Rattle.fr_frame.specs.Growing.{grown, grown_above}
 use Rattle.fr_frame.specs.Heap.{depth_above}
 use Rattle.fr_frame.proofs.HeapLaws.{with_here}
-
--- what is shown is what is in the slots
-pub shown_is : (slots : List Slot) (heap : Heap) → Shows slots heap → heap_of slots ≡ heap
-shown_is slots heap shows = λ j n. shows n j
 
 -- A place above that gets more lies as deep as before.
 pub grown_depth : (growth : Option Growth) (owner : FrameOwner) (heap : Heap) → depth_below (grown_above growth owner heap) owner ≡ depth_below heap owner

@@ -3,6 +3,7 @@ use Rattle.std.proofs.Common.{◌≡◌, ◌≢◌, ◌⊎◌, ℕ, zero, suc, �
 use Rattle.fr_frame.specs.Common.{Body, Heap, IsInUse, Node, Shows, Slot, heap_of, node_in, option_and_then, slot_occurs, slots_occur, with_body, with_slot}
 use Rattle.std.proofs.lemmas.Grind.{common_steps}
 use Rattle.std.proofs.lemmas.Bool.Decides.{nat_tests}
+use Rattle.std.proofs.lemmas.Option.{slice_get_read}
 
 -- Numbers.
 
@@ -18,9 +19,13 @@ number_cases m n = grind (arith, common_steps, nat_tests)
 -- Lists of whatever.
 
 pub got : {X : Type 0} (xs : List X) (n : ℕ) (x : X) → n < length xs → x ≡ get_or xs n x → slice_get xs n ≡ Some x
-got [] n x h e = absurd (omega arith)
-got (y ∷ xs) zero x h e = ap (λ z. Some z) (sym e)
-got (y ∷ xs) (suc n) x h e = got xs n x (omega arith) e
+got xs n x h e = slice_get_read xs (length xs) n x refl h e
+
+-- something stands at a number that is inside
+pub element : {X : Type 0} (xs : List X) (k : ℕ) → k < length xs → (x : X) × (slice_get xs k ≡ Some x)
+element [] k h = absurd (omega arith)
+element (x ∷ xs) zero h = (x, refl)
+element (x ∷ xs) (suc k) h = element xs k (omega arith)
 
 -- what is read at an index lies there
 pub read : {X : Type 0} (xs : List X) (n at : ℕ) (x : X) → at ≡ n → n < length xs → x ≡ get_or xs at x → slice_get xs n ≡ Some x
@@ -31,11 +36,6 @@ pub holds_inside : {X : Type 0} (xs : List X) (n : ℕ) (P : X → Type 0) → I
 holds_inside [] n P h = absurd h
 holds_inside (y ∷ xs) zero P h = omega arith
 holds_inside (y ∷ xs) (suc n) P h = let k : n < length xs = holds_inside xs n P h in omega arith
-
-pub there : {X : Type 0} (xs : List X) (n : ℕ) (x : X) → slice_get xs n ≡ Some x → n < length xs
-there [] n x e = cc
-there (y ∷ xs) zero x e = omega arith
-there (y ∷ xs) (suc n) x e = let k : n < length xs = there xs n x e in omega arith
 
 -- so it is so of what is read there
 pub holds_read : {X : Type 0} (xs : List X) (n at : ℕ) (x : X) (P : X → Type 0) → at ≡ n → x ≡ get_or xs at x
@@ -54,19 +54,6 @@ set_keeps (z ∷ xs) zero y (suc j) ne = refl
 set_keeps (z ∷ xs) (suc i) y zero ne = refl
 set_keeps (z ∷ xs) (suc i) y (suc j) ne = set_keeps xs i y j (λ (e : j ≡ i). ne (ap (λ (k : ℕ). suc k) e))
 
-pub set_twice : {X : Type 0} (xs : List X) (n : ℕ) (a b : X) → set (set xs n a) n b ≡ set xs n b
-set_twice [] n a b = refl
-set_twice (x ∷ xs) zero a b = refl
-set_twice (x ∷ xs) (suc n) a b = ap (λ (l : List _). x ∷ l) (set_twice xs n a b)
-
-pub set_swap : {X : Type 0} (xs : List X) (n m : ℕ) (a b : X) → n ≢ m → set (set xs n a) m b ≡ set (set xs m b) n a
-set_swap [] n m a b ne = refl
-set_swap (x ∷ xs) zero zero a b ne = absurd (ne refl)
-set_swap (x ∷ xs) zero (suc m) a b ne = refl
-set_swap (x ∷ xs) (suc n) zero a b ne = refl
-set_swap (x ∷ xs) (suc n) (suc m) a b ne =
-    ap (λ (l : List _). x ∷ l) (set_swap xs n m a b (λ (e : n ≡ m). ne (ap (λ (k : ℕ). suc k) e)))
-
 -- lists that have the same under each number
 pub same_lists : {X : Type 0} (a b : List X) → ((n : ℕ) → slice_get a n ≡ slice_get b n) → a ≡ b
 same_lists [] [] same = refl
@@ -80,11 +67,10 @@ same_lists (x ∷ a) (y ∷ b) same =
 -- a list that has the same as another but under one number
 pub is_set : {X : Type 0} (a b : List X) (k : ℕ) (was now : X) → slice_get b k ≡ Some was → slice_get a k ≡ Some now
     → ((n : ℕ) → n ≢ k → slice_get a n ≡ slice_get b n) → a ≡ set b k now
-is_set a b k was now before here others = same_lists a (set b k now) (λ n. go n (number_cases n k))
-  where
-    go : (n : ℕ) → (n ≡ k) ⊎ (n ≢ k) → slice_get a n ≡ slice_get (set b k now) n
-    go n (inl e) = ap (slice_get a) e ∙ here ∙ sym (set_gets b k was now before) ∙ sym (ap (slice_get (set b k now)) e)
-    go n (inr ne) = others n ne ∙ sym (set_keeps b k now n ne)
+is_set a b k was now before here others = same_lists a (set b k now) (λ n. elim (number_cases n k) [
+  | inl e ↦ rw e (here ∙ sym (set_gets b k was now before))
+  | inr ne ↦ others n ne ∙ sym (set_keeps b k now n ne)
+])
 
 -- Heaps.
 
@@ -94,58 +80,47 @@ with_here heap n x = rw same_number refl
 pub with_other : (heap : Heap) (n : ℕ) (x : Option Node) (m : ℕ) → m ≢ n → with_slot heap n x m ≡ heap m
 with_other heap n x m ne = let e : nat_eq m n ≡ false = other_number m n ne in rw e refl
 
-abbrev pub Alike : Heap → Heap → Type 0
-Alike a b = (m : ℕ) → a m ≡ b m
-
-pub alike : (a b : Heap) → Alike a b → a ≡ b
-alike a b same = λ i m. same m i
-
-pub with_slot_alike : (a b : Heap) (n : ℕ) (x : Option Node) → Alike a b → Alike (with_slot a n x) (with_slot b n x)
-with_slot_alike a b n x same m = ap (λ (heap : Heap). with_slot heap n x m) (alike a b same)
+-- what is shown is what is in the slots
+pub shown_is : (slots : List Slot) (heap : Heap) → Shows slots heap → heap_of slots ≡ heap
+shown_is slots heap shows = λ i m. shows m i
 
 -- a slot that is given what it has
-pub with_same : (heap : Heap) (n : ℕ) → Alike (with_slot heap n (heap n)) heap
-with_same heap n m = go (number_cases m n)
+pub with_same : (heap : Heap) (n : ℕ) → with_slot heap n (heap n) ≡ heap
+with_same heap n = λ i m. same m i
   where
-    go : (m ≡ n) ⊎ (m ≢ n) → with_slot heap n (heap n) m ≡ heap m
-    go (inl e) = ap (with_slot heap n (heap n)) e ∙ with_here heap n (heap n) ∙ sym (ap heap e)
-    go (inr ne) = with_other heap n (heap n) m ne
+    same : (m : ℕ) → with_slot heap n (heap n) m ≡ heap m
+    same m = elim (number_cases m n) [
+      | inl e ↦ rw e (with_here heap n (heap n))
+      | inr ne ↦ with_other heap n (heap n) m ne
+    ]
 
 -- a slot that is given one thing after another
-pub slot_twice : (heap : Heap) (n : ℕ) (x y : Option Node) → Alike (with_slot (with_slot heap n x) n y) (with_slot heap n y)
-slot_twice heap n x y m = go (nat_eq m n)
+pub slot_twice : (heap : Heap) (n : ℕ) (x y : Option Node) → with_slot (with_slot heap n x) n y ≡ with_slot heap n y
+slot_twice heap n x y = λ i m. last (nat_eq m n) (heap m) i
   where
-    go : (b : Bool) → (if b then y else (if b then x else heap m)) ≡ (if b then y else heap m)
-    go true = refl
-    go false = refl
+    last : (b : Bool) (z : Option Node) → (if b then y else (if b then x else z)) ≡ (if b then y else z)
+    last true z = refl
+    last false z = refl
 
 -- the place that is found, with something else put at it
 abbrev pub changed : (Body → Body) → Option Node → Option Node
 changed change found = option_map (λ (x : Node). record x { body = change x.body }) found
 
-pub with_body_at : (heap : Heap) (n : ℕ) (at : Node) (change : Body → Body) → heap n ≡ Some at
-    → Alike (with_body heap n change) (with_slot heap n (Some (record at { body = change at.body })))
-with_body_at heap n at change here m = ap (λ (found : Option Node). with_slot heap n (changed change found) m) here
-
 -- where no place is, nothing changes
-pub with_body_free : (heap : Heap) (n : ℕ) (change : Body → Body) → heap n ≡ None → Alike heap (with_body heap n change)
-with_body_free heap n change free m =
-    sym (ap (λ (found : Option Node). with_slot heap n (changed change found) m) free
-    ∙ ap (λ (found : Option Node). with_slot heap n found m) (sym free) ∙ with_same heap n m)
+pub with_body_free : (heap : Heap) (n : ℕ) (change : Body → Body) → heap n ≡ None → heap ≡ with_body heap n change
+with_body_free heap n change free =
+    sym (ap (λ (found : Option Node). with_slot heap n (changed change found)) free ∙ ap (with_slot heap n) (sym free) ∙ with_same heap n)
 
 -- one change after another of the same place
-pub with_body_twice : (heap : Heap) (n : ℕ) (first then_next both_in_one : Body → Body)
-    → ((body : Body) → then_next (first body) ≡ both_in_one body)
-    → Alike (with_body (with_body heap n first) n then_next) (with_body heap n both_in_one)
-with_body_twice heap n first then_next both_in_one same m =
-    ap (λ (found : Option Node). with_slot (with_body heap n first) n (changed then_next found) m)
-    (with_here heap n (changed first (heap n)))
-    ∙ slot_twice heap n (changed first (heap n)) (changed then_next (changed first (heap n))) m
-    ∙ ap (λ (found : Option Node). with_slot heap n found m) (value (heap n))
+pub with_body_twice : (heap : Heap) (n : ℕ) (first then_next : Body → Body)
+    → with_body (with_body heap n first) n then_next ≡ with_body heap n (λ body. then_next (first body))
+with_body_twice heap n first then_next =
+    ap (λ (found : Option Node). with_slot (with_body heap n first) n (changed then_next found)) (with_here heap n (changed first (heap n)))
+    ∙ slot_twice heap n (changed first (heap n)) (changed then_next (changed first (heap n))) ∙ ap (with_slot heap n) (value (heap n))
   where
-    value : (found : Option Node) → changed then_next (changed first found) ≡ changed both_in_one found
+    value : (found : Option Node) → changed then_next (changed first found) ≡ changed (λ body. then_next (first body)) found
     value None = refl
-    value (Some at) = ap (λ (b : Body). Some (record at { body = b })) (same at.body)
+    value (Some at) = refl
 
 -- Slots.
 
@@ -187,10 +162,7 @@ free_holds _ t e = refl
 -- a slot that is given something else
 pub shows_set : (slots : List Slot) (n : ℕ) (was now : Slot) → slice_get slots n ≡ Some was
     → Shows (set slots n now) (with_slot (heap_of slots) n (node_in now))
-shows_set slots n was now e m = go (number_cases m n)
-  where
-    go : (m ≡ n) ⊎ (m ≢ n) → heap_of (set slots n now) m ≡ with_slot (heap_of slots) n (node_in now) m
-    go (inl same) =
-        ap (heap_of (set slots n now)) same ∙ ap (option_and_then node_in) (set_gets slots n was now e)
-        ∙ sym (with_here (heap_of slots) n (node_in now)) ∙ sym (ap (with_slot (heap_of slots) n (node_in now)) same)
-    go (inr ne) = ap (option_and_then node_in) (set_keeps slots n now m ne) ∙ sym (with_other (heap_of slots) n (node_in now) m ne)
+shows_set slots n was now e m = elim (number_cases m n) [
+  | inl same ↦ rw same (ap (option_and_then node_in) (set_gets slots n was now e) ∙ sym (with_here (heap_of slots) n (node_in now)))
+  | inr ne ↦ ap (option_and_then node_in) (set_keeps slots n now m ne) ∙ sym (with_other (heap_of slots) n (node_in now) m ne)
+]

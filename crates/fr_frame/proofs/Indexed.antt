@@ -1,10 +1,10 @@
 -- Runs of numbers that rise by the order of values.
-use Rattle.std.proofs.Common.{◌≡◌, ℕ, zero, suc, ◌+◌, ◌<◌, ◌≤◌, Bool, true, false, ◌||◌, true≢false, List, [], ◌∷◌, ◌++◌, length, map, take, drop, get_or, nat_eq, Option, Some, None, is_some, IfSome, IfNone, refl, sym, ap, subst, ◌∙◌, ◌⊎◌, inl, inr, ⊎_elim, arith}
+use Rattle.std.proofs.Common.{◌≡◌, ℕ, zero, suc, ◌+◌, ◌<◌, ◌≤◌, Bool, true, false, ◌||◌, true≢false, List, [], ◌∷◌, ◌++◌, length, map, take, drop, get_or, nat_eq, Option, Some, None, is_some, IfSome, IfNone, refl, sym, ap, subst, ◌∙◌, ⊎_elim, arith}
 use Rattle.std.proofs.lemmas.List.{drop_more, map_more, append_assoc, length-map, length-append, length-take-le, get_or-map, get_or-take, get_or_append_left, get_or_at, take-append-drop}
 use Rattle.std.proofs.lemmas.List.Folds.{list_any_at, list_any_more, list_any-append}
 use Rattle.std.proofs.lemmas.List.Sorted.{list_any-IsPermutation, sorted_far, ranks_by, IsPermutation-map, All-permutation}
 use Rattle.std.proofs.lemmas.List.Elements.{All-nil, All-cons}
-use Rattle.std.proofs.lemmas.Bool.{cases_lt}
+use Rattle.std.proofs.lemmas.Bool.{cases_Bool, cases_lt, or_cases, or_left, or_right}
 use Rattle.std.proofs.lemmas.Map.Views.{exact_unsigned_eq}
 use Rattle.std.specs.Cmp.{IsTotalOrder, IsStrictWeakOrder, nat_eq_equiv, nat_cmp_total, on_total, then_total}
 use Rattle.fr_frame.specs.Common.{All, ByContents, Greater, IsPermutation, IsRun, Less, Val, Value, compare, has_number, is_held, is_there, joined, same, same_tied, unit, val_at, vals_view, view}
@@ -39,12 +39,9 @@ val_is values n x h is = get_or-map view values n x unit h ∙ ap view (sym is)
 
 pub there_at : (values : List Value) (n : ℕ) (v : Val) → n < length values → same (val_at (map view values) n) v ≡ true → is_there v (vals_view values) ≡ true
 there_at [] n v h is = absurd (omega (arith, h))
-there_at (x ∷ values) zero v h is = ap (λ b. b || is_there v (vals_view values)) is
-there_at (x ∷ values) (suc n) v h is = ap (λ b. same (view x) v || b) (there_at values n v (omega (arith, h)) is) ∙ or_true (same (view x) v)
-  where
-    or_true : (b : Bool) → b || true ≡ true
-    or_true true = refl
-    or_true false = refl
+there_at (x ∷ values) zero v h is = or_left (same (view x) v) (is_there v (vals_view values)) is
+there_at (x ∷ values) (suc n) v h is = or_right (same (view x) v) (is_there v (vals_view values))
+    (there_at values n v (omega (arith, h)) is)
 
 pub there_none : (values : List Value) (v : Val) → ((n : ℕ) → n < length values → same (val_at (map view values) n) v ≡ false) → is_there v (vals_view values) ≡ false
 there_none [] v none = refl
@@ -106,20 +103,12 @@ run_grows vs m run within is_run = record {
     first : (k : ℕ) → k < length run → val_at (take m vs) (get_or run k 0) ≡ val_at vs (get_or run k 0)
     first k h = get_or-take m vs (get_or run k 0) unit (omega (arith, below_at is_run k h, length-take-le m vs within))
 
-or_split : (a b : Bool) → a || b ≡ true → (a ≡ true) ⊎ (b ≡ true)
-or_split true b is = inl refl
-or_split false b is = inr is
-
 -- what stands in runs of numbers of some values is one of these
 in_runs : {vs : List Val} (runs : List (List ℕ)) → ((j : ℕ) → j < length runs → IsRun vs (get_or runs j [])) → (n : ℕ) → is_held runs n ≡ true → n < length vs
 in_runs [] are n held = absurd (cc held)
 in_runs {vs = vs} (run ∷ runs) are n held =
     ⊎_elim (λ has. (are 0 (omega arith)).below n has) (in_runs {vs = vs} runs (λ j h. are (suc j) (omega (arith, h))) n)
-    (or_split (has_number run n) (is_held runs n) held)
-
-or_true : (b : Bool) → b || true ≡ true
-or_true true = refl
-or_true false = refl
+    (or_cases (has_number run n) (is_held runs n) held)
 
 held_before : (runs : List (List ℕ)) (from n : ℕ) → is_held runs n ≡ is_held (take from runs) n || is_held (drop from runs) n
 held_before runs from n =
@@ -127,7 +116,8 @@ held_before runs from n =
 
 -- the next number and those of runs of the first values are numbers of the values
 pub numbers_after : (vs : List Val) (m : ℕ) (runs : List (List ℕ)) (from : ℕ) → length vs ≡ m + 1 → AreRuns (take m vs) runs → (n : ℕ) → has_number (m ∷ joined (drop from runs)) n ≡ true → n < length vs
-numbers_after vs m runs from more were n has = ⊎_elim here there (or_split (nat_eq n m) (has_number (joined (drop from runs)) n) has)
+numbers_after vs m runs from more were n has = ⊎_elim here there (or_cases (nat_eq n m)
+    (has_number (joined (drop from runs)) n) has)
   where
     here : nat_eq n m ≡ true → n < length vs
     here is = omega (arith, exact_unsigned_eq n m is)
@@ -135,7 +125,8 @@ numbers_after vs m runs from more were n has = ⊎_elim here there (or_split (na
     there : has_number (joined (drop from runs)) n ≡ true → n < length vs
     there is =
         let held : is_held runs n ≡ true =
-        held_before runs from n ∙ ap (λ b. is_held (take from runs) n || b) (sym (number_joined (drop from runs) n) ∙ is) ∙ or_true (is_held (take from runs) n) in
+        held_before runs from n ∙ or_right (is_held (take from runs) n) (is_held (drop from runs) n)
+        (sym (number_joined (drop from runs) n) ∙ is) in
         let below : n < length (take m vs) = in_runs runs were.sorted n held in
         omega (arith, length-take-le m vs (omega arith))
 
@@ -155,25 +146,23 @@ module _ (vs : List Val) (m : ℕ) (runs : List (List ℕ)) (from : ℕ) (run : 
       or_false false = refl
 
   each_held : (n : ℕ) → n < length vs → is_held (take from runs ++ run ∷ []) n ≡ true
-  each_held n h = held_after n ∙ by (nat_eq n m) refl
+  each_held n h = held_after n ∙ ⊎_elim (λ is. or_right before (new || behind) (or_left new behind is)) older (cases_Bool new)
     where
-      with_or : (a b c : Bool) → a || c ≡ true → a || (b || c) ≡ true
-      with_or true b c is = refl
-      with_or false true c is = refl
-      with_or false false c is = is
+      before : Bool
+      before = is_held (take from runs) n
 
-      last : (a b : Bool) → a || (true || b) ≡ true
-      last true b = refl
-      last false b = refl
+      new : Bool
+      new = nat_eq n m
 
-      by : (b : Bool) → nat_eq n m ≡ b → is_held (take from runs) n || (nat_eq n m || is_held (drop from runs) n) ≡ true
-      by true is = ap (λ b. is_held (take from runs) n || (b || is_held (drop from runs) n)) is ∙ last (is_held (take from runs) n) (is_held (drop from runs) n)
-      by false is =
-          with_or (is_held (take from runs) n) (nat_eq n m) (is_held (drop from runs) n)
-          (sym (held_before runs from n) ∙ were.each n (omega (arith, short, h, other is)))
+      behind : Bool
+      behind = is_held (drop from runs) n
+
+      older : new ≡ false → (before || (new || behind)) ≡ true
+      older is = ⊎_elim (λ a. or_left before (new || behind) a) (λ b. or_right before (new || behind) (or_right new behind b))
+          (or_cases before behind (sym (held_before runs from n) ∙ were.each n (omega (arith, short, h, other))))
         where
-          other : nat_eq n m ≡ false → n ≡ m → ⊥
-          other is e = true≢false (sym (ap (λ k. nat_eq k m) e ∙ nat_eq_equiv.refl m) ∙ is)
+          other : n ≡ m → ⊥
+          other e = true≢false (sym (ap (λ k. nat_eq k m) e ∙ nat_eq_equiv.refl m) ∙ is)
 
   pub runs_after : from ≤ length runs → IsRun vs run → AreRuns vs (take from runs ++ run ∷ [])
   runs_after within is_run = record { sorted = λ j h. at j h; each = each_held }
@@ -284,4 +273,5 @@ of_none (Some n) none p = absurd (true≢false none)
 pub lacks_more : {P : ℕ → Type 0} (runs : List (List ℕ)) (i : ℕ) → i < length runs → ((n : ℕ) → is_held (take i runs) n ≡ true → P n) → ((n : ℕ) → has_number (get_or runs i []) n ≡ true → P n) → (n : ℕ) → is_held (take (i + 1) runs) n ≡ true → P n
 lacks_more runs i h before here n held =
     ⊎_elim (before n) (here n)
-    (or_split (is_held (take i runs) n) (has_number (get_or runs i []) n) (sym (list_any_more (λ r. has_number r n) runs i [] h) ∙ held))
+    (or_cases (is_held (take i runs) n) (has_number (get_or runs i []) n)
+    (sym (list_any_more (λ r. has_number r n) runs i [] h) ∙ held))

@@ -1,9 +1,12 @@
 -- A set's children: one that moves behind the others, and the search for a value that is `same`.
-use Rattle.std.proofs.Common.{◌≡◌, ℕ, zero, suc, ◌+◌, ◌-◌, ◌<◌, ◌≤◌, Bool, true, false, List, [], ◌∷◌, ◌++◌, length, drop, take, Option, Some, None, slice_get, set, refl, sym, ◌∙◌, ap, subst, arith, if◌then◌else◌, ◌||◌}
+use Rattle.std.proofs.Common.{◌≡◌, ◌≢◌, ℕ, zero, suc, ◌+◌, ◌-◌, ◌<◌, ◌≤◌, Bool, true, false, List, [], ◌∷◌, ◌++◌, length, drop, take, Option, Some, None, slice_get, set, refl, sym, ◌∙◌, ap, subst, arith, if◌then◌else◌, ◌||◌}
 use Rattle.std.specs.FinSet as finite
 use Rattle.fr_frame.specs.Common.{BitSet, Cell, Conserved, RoseBy, Val, Value, absent, and_item_cell, cell, cell_occurs, cells_occur, cells_of, given, has_same_cell, is_same_cell, occurs, option_and_then, placed, same, slot_at, slot_of_cell, value_at, value_of_cell, view, without_cell}
 use Rattle.fr_frame.specs.Cells.{swapped}
 use Rattle.fr_frame.proofs.CellLaws.{same_length}
+use Rattle.fr_frame.proofs.HeapLaws.{element, set_keeps}
+use Rattle.fr_frame.proofs.PlaceLaws.{set_as_was}
+use Rattle.std.proofs.lemmas.List.{length_push, set_at, take_at}
 
 -- these children with one more, of this number
 abbrev pub with_one : (n : ℕ) → Cell → List Cell → List Cell
@@ -39,22 +42,10 @@ one_back n c [] e = cc
 one_back zero c (d ∷ cs) e = let is : c ≡ d = cc in ap (λ (x : Cell). x ∷ cs) is
 one_back (suc n) c (d ∷ cs) e = ap (λ (l : List Cell). d ∷ l) (one_back n c cs e)
 
-pub get_inside : (cs : List Cell) (i : ℕ) (c : Cell) → slice_get cs i ≡ Some c → i < length cs
-get_inside [] i c e = cc
-get_inside (d ∷ cs) zero c e = omega arith
-get_inside (d ∷ cs) (suc i) c e = let k : i < length cs = get_inside cs i c e in omega arith
-
-pub without_length : (i : ℕ) (cs : List Cell) → i < length cs → suc (length (without_cell i cs)) ≡ length cs
-without_length i [] h = absurd (omega arith)
-without_length zero (c ∷ cs) h = refl
-without_length (suc i) (c ∷ cs) h = ap suc (without_length i cs (omega arith))
-
--- without the last one
-pub all_but_last : (rest : List Cell) (last : Cell) (n : ℕ) → n ≡ length rest → take n (rest ++ last ∷ []) ≡ rest
-all_but_last [] last zero e = refl
-all_but_last [] last (suc n) e = absurd (omega arith)
-all_but_last (c ∷ rest) last zero e = absurd (omega arith)
-all_but_last (c ∷ rest) last (suc n) e = ap (λ (l : List Cell). c ∷ l) (all_but_last rest last n (omega arith))
+pub without_length : (i : ℕ) (cs : List Cell) (c : Cell) → slice_get cs i ≡ Some c → suc (length (without_cell i cs)) ≡ length cs
+without_length i [] c e = cc
+without_length zero (d ∷ cs) c e = refl
+without_length (suc i) (d ∷ cs) c e = ap suc (without_length i cs c e)
 
 cells_taken : (bits : BitSet) (i : ℕ) (vs : List Value) (n : ℕ) → cells_of bits i (take n vs) ≡ take n (cells_of bits i vs)
 cells_taken bits i [] zero = refl
@@ -63,21 +54,11 @@ cells_taken bits i (v ∷ vs) zero = refl
 cells_taken bits i (v ∷ vs) (suc n) =
     ap (λ (l : List Cell). cell (finite.contains bits.members i) (view v) ∷ l) (cells_taken bits (suc i) vs n)
 
-one_longer : (rest : List Cell) (last : Cell) → length (rest ++ last ∷ []) ≡ suc (length rest)
-one_longer [] last = refl
-one_longer (c ∷ rest) last = ap suc (one_longer rest last)
-
 pub cells_popped : (bits : BitSet) (vs fewer : List Value) (cs rest : List Cell) (last : Cell) (n : ℕ) → cells_of bits 0 vs ≡ cs
     → cs ≡ rest ++ last ∷ [] → n ≡ length vs → fewer ≡ take (n - 1) vs → cells_of bits 0 fewer ≡ rest
 cells_popped bits vs fewer cs rest last n e is count popped =
-    ap (cells_of bits 0) popped ∙ cells_taken bits 0 vs (n - 1) ∙ ap (take (n - 1)) (e ∙ is)
-    ∙ all_but_last rest last (n - 1) (omega (
-      arith,
-      count,
-      same_length bits vs cs e,
-      ap length is,
-      one_longer rest last,
-    ))
+    ap (cells_of bits 0) popped ∙ cells_taken bits 0 vs (n - 1) ∙ ap (take (n - 1)) (e ∙ is) ∙ take_at rest (last ∷ []) (n - 1)
+    (omega (arith, count, same_length bits vs cs e, ap length is, length_push rest last))
 
 -- a child that isn't there and the next one
 
@@ -92,21 +73,11 @@ move_given (d ∷ x ∷ cs) zero c e f =
 move_given (d ∷ []) (suc i) c e f = cc
 move_given (d ∷ x ∷ cs) (suc i) c e f = ap (λ (l : List Cell). d ∷ l) (move_given (x ∷ cs) i c e f)
 
-set_same : (cs : List Cell) (i : ℕ) (c : Cell) → slice_get cs i ≡ Some c → set cs i c ≡ cs
-set_same [] i c e = refl
-set_same (d ∷ cs) zero c e = let is : c ≡ d = cc in ap (λ (x : Cell). x ∷ cs) is
-set_same (d ∷ cs) (suc i) c e = ap (λ (l : List Cell). d ∷ l) (set_same cs i c e)
-
-get_set_other : (cs : List Cell) (i : ℕ) (c : Cell) → slice_get (set cs (suc i) c) i ≡ slice_get cs i
-get_set_other [] i c = refl
-get_set_other (d ∷ cs) zero c = refl
-get_set_other (d ∷ []) (suc i) c = refl
-get_set_other (d ∷ x ∷ cs) (suc i) c = get_set_other (x ∷ cs) i c
-
 move_nothing : (cs : List Cell) (i : ℕ) → slice_get cs i ≡ Some absent → slice_get cs (suc i) ≡ Some absent
     → set cs (suc i) absent ≡ swapped i cs
 move_nothing cs i e f =
-    sym (set_same (set cs (suc i) absent) i absent (get_set_other cs i absent ∙ e)) ∙ move_given cs i absent e f
+    let other : i ≢ suc i = omega arith in
+    sym (set_as_was (set cs (suc i) absent) i absent (set_keeps cs (suc i) absent i other ∙ e)) ∙ move_given cs i absent e f
 
 -- the same of the number of the next one
 pub moved_given : (cs : List Cell) (i next : ℕ) (c : Cell) → next ≡ suc i → slice_get cs i ≡ Some absent → slice_get cs next ≡ Some c
@@ -122,42 +93,30 @@ moved_nothing cs i next is e =
 -- what a child is whose slot or value is known
 
 pub slot_child : (cs : List Cell) (i n : ℕ) → Some n ≡ slot_at cs i → slice_get cs i ≡ Some (placed n)
-slot_child cs i n e = go (slice_get cs i) refl
+slot_child cs i n e = go (slice_get cs i) e
   where
-    go : (found : Option Cell) → slice_get cs i ≡ found → slice_get cs i ≡ Some (placed n)
-    go None h = let no : Some n ≡ None = e ∙ ap (option_and_then slot_of_cell) h in cc
-    go (Some absent) h = let no : Some n ≡ None = e ∙ ap (option_and_then slot_of_cell) h in cc
-    go (Some (given v)) h = let no : Some n ≡ None = e ∙ ap (option_and_then slot_of_cell) h in cc
-    go (Some (placed m)) h =
-        let so : Some n ≡ Some m = e ∙ ap (option_and_then slot_of_cell) h in
-        let is : m ≡ n = cc in
-        h ∙ ap (λ (k : ℕ). Some (placed k)) is
+    go : (found : Option Cell) → Some n ≡ option_and_then slot_of_cell found → found ≡ Some (placed n)
+    go (Some (placed m)) e = let is : m ≡ n = cc in ap (λ (k : ℕ). Some (placed k)) is
+    go None e = cc
+    go _ e = cc
 
 pub value_child : (cs : List Cell) (i : ℕ) (v : Val) → Some v ≡ value_at cs i → slice_get cs i ≡ Some (given v)
-value_child cs i v e = go (slice_get cs i) refl
+value_child cs i v e = go (slice_get cs i) e
   where
-    go : (found : Option Cell) → slice_get cs i ≡ found → slice_get cs i ≡ Some (given v)
-    go None h = let no : Some v ≡ None = e ∙ ap (option_and_then value_of_cell) h in cc
-    go (Some absent) h = let no : Some v ≡ None = e ∙ ap (option_and_then value_of_cell) h in cc
-    go (Some (placed m)) h = let no : Some v ≡ None = e ∙ ap (option_and_then value_of_cell) h in cc
-    go (Some (given u)) h =
-        let so : Some v ≡ Some u = e ∙ ap (option_and_then value_of_cell) h in
-        let is : u ≡ v = cc in
-        h ∙ ap (λ (x : Val). Some (given x)) is
+    go : (found : Option Cell) → Some v ≡ option_and_then value_of_cell found → found ≡ Some (given v)
+    go (Some (given u)) e = let is : u ≡ v = cc in ap (λ (x : Val). Some (given x)) is
+    go None e = cc
+    go _ e = cc
 
 pub no_child : (cs : List Cell) (i : ℕ) → i < length cs → None ≡ slot_at cs i → None ≡ value_at cs i → slice_get cs i ≡ Some absent
-no_child cs i h e f = go (slice_get cs i) refl
+no_child cs i h e f =
+    let at = element cs i h in
+    at.1 ∙ ap (λ (c : Cell). Some c) (go at.0 (e ∙ ap (option_and_then slot_of_cell) at.1) (f ∙ ap (option_and_then value_of_cell) at.1))
   where
-    outside : (l : List Cell) (k : ℕ) → k < length l → slice_get l k ≡ None → slice_get cs i ≡ Some absent
-    outside [] k h e = absurd (omega arith)
-    outside (c ∷ l) zero h e = cc
-    outside (c ∷ l) (suc k) h e = outside l k (omega arith) e
-
-    go : (found : Option Cell) → slice_get cs i ≡ found → slice_get cs i ≡ Some absent
-    go None g = outside cs i h g
-    go (Some absent) g = g
-    go (Some (placed m)) g = let no : None ≡ Some m = e ∙ ap (option_and_then slot_of_cell) g in cc
-    go (Some (given u)) g = let no : None ≡ Some u = f ∙ ap (option_and_then value_of_cell) g in cc
+    go : (c : Cell) → None ≡ slot_of_cell c → None ≡ value_of_cell c → c ≡ absent
+    go absent e f = refl
+    go (given v) e f = cc
+    go (placed n) e f = cc
 
 -- The search.
 
@@ -176,11 +135,6 @@ drop_here (suc i) (d ∷ cs) c e = drop_here i cs c e
 
 pub next_number : (i : ℕ) → suc i ≡ i + 1
 next_number i = omega arith
-
-element : (cs : List Cell) (i : ℕ) → i < length cs → (c : Cell) × (slice_get cs i ≡ Some c)
-element [] i h = absurd (omega arith)
-element (c ∷ cs) zero h = (c, refl)
-element (c ∷ cs) (suc i) h = element cs i (omega arith)
 
 pub value_same : (v u : Val) (cs : List Cell) (i : ℕ) (c : Cell) → Some u ≡ value_at cs i → slice_get cs i ≡ Some c
     → same u v ≡ is_same_cell v c
@@ -216,16 +170,12 @@ pub there_already : (v : Val) (i : ℕ) (cs : List Cell) → slice_get cs i ≡ 
 there_already v i cs e is =
     ap (λ (b : Bool). if b then without_cell i cs else without_cell i cs ++ given v ∷ []) (sym (same_without v i cs e ∙ is))
 
-set_last : (cs : List Cell) (c d : Cell) → set (cs ++ c ∷ []) (length cs) d ≡ cs ++ d ∷ []
-set_last [] c d = refl
-set_last (x ∷ cs) c d = ap (λ (l : List Cell). x ∷ l) (set_last cs c d)
-
 pub comes_last : (v : Val) (i : ℕ) (cs moved : List Cell) (last : ℕ) → slice_get cs i ≡ Some absent → has_same_cell v cs ≡ false
     → moved ≡ without_cell i cs ++ absent ∷ [] → last ≡ length (without_cell i cs)
     → set moved last (given v) ≡ and_item_cell (without_cell i cs) v
 comes_last v i cs moved last e is moved_is last_is =
     ap (λ (l : List Cell). set l last (given v)) moved_is
-    ∙ ap (λ (k : ℕ). set (without_cell i cs ++ absent ∷ []) k (given v)) last_is ∙ set_last (without_cell i cs) absent (given v)
+    ∙ ap (λ (k : ℕ). set (without_cell i cs ++ absent ∷ []) k (given v)) last_is ∙ set_at (without_cell i cs) absent [] (given v) (length (without_cell i cs)) refl
     ∙ ap (λ (b : Bool). if b then without_cell i cs else without_cell i cs ++ given v ∷ []) (sym (same_without v i cs e ∙ is))
 
 without_occurs : (i : ℕ) (cs : List Cell) (t : ℕ) → slice_get cs i ≡ Some absent → cells_occur (without_cell i cs) t ≡ cells_occur cs t

@@ -1,7 +1,8 @@
 -- Finding a key by the index of the names.
-use Rattle.std.proofs.Common.{◌≡◌, ℕ, zero, suc, ◌<◌, ◌≤◌, Bool, true, false, not, ◌&&◌, ◌||◌, true≢false, List, [], ◌∷◌, length, map, Option, Some, None, is_some, IfSome, slice_get, refl, sym, ap, subst, ◌∙◌, arith}
+use Rattle.std.proofs.Common.{◌≡◌, ℕ, zero, suc, ◌<◌, ◌≤◌, Bool, true, false, not, ◌||◌, true≢false, List, [], ◌∷◌, length, map, Option, Some, None, is_some, IfSome, slice_get, refl, sym, ap, subst, ◌∙◌, arith}
 use Rattle.fr_frame.specs.Common.{Val, Value, entry_found, is_there, keys_apart, names_of, option_map, same, val_at, vals_view, view}
 use Rattle.std.specs.Str.{bytes_eq}
+use Rattle.std.proofs.lemmas.Bool.{and_parts}
 use Rattle.std.proofs.lemmas.List.{length-map}
 use Rattle.std.proofs.lemmas.Slice.Eq.{bytes_eq-Decides}
 use Rattle.fr_shape.specs.Val.{text}
@@ -15,20 +16,16 @@ bytes_are xs ys e = (bytes_eq-Decides xs ys).0 e
 bytes_same : (xs ys : List ℕ) → xs ≡ ys → bytes_eq xs ys ≡ true
 bytes_same xs ys e = (bytes_eq-Decides xs ys).1 e
 
-both_true : (a b : Bool) → a && b ≡ true → (a ≡ true) × (b ≡ true)
-both_true true b e = (refl, e)
-both_true false b e = absurd (cc e)
-
 -- a key that is lacked isn't at any place
 lacked : (key : List ℕ) (keys : List (List ℕ)) (n : ℕ) → lacks key keys ≡ true → n < length keys
     → same (val_at (map text keys) n) (text key) ≡ true → ⊥
 lacked key [] n e h is = absurd (omega (arith, h))
 lacked key (other ∷ keys) zero e h is =
-    let both = both_true (not (bytes_eq key other)) (lacks key keys) e in
+    let both = and_parts (not (bytes_eq key other)) (lacks key keys) e in
     let same_one : bytes_eq key other ≡ true = bytes_same key other (sym (bytes_are other key is)) in
     true≢false (sym both.0 ∙ ap not same_one)
 lacked key (other ∷ keys) (suc n) e h is =
-    let both = both_true (not (bytes_eq key other)) (lacks key keys) e in
+    let both = and_parts (not (bytes_eq key other)) (lacks key keys) e in
     lacked key keys n both.1 (omega (arith, h)) is
 
 at_key : (key : List ℕ) (keys : List (List ℕ)) (n : ℕ) → keys_apart keys ≡ true → n < length keys
@@ -38,7 +35,7 @@ at_key key (other ∷ keys) zero e h is =
     let same_one : bytes_eq key other ≡ true = bytes_same key other (sym (bytes_are other key is)) in
     rw same_one refl
 at_key key (other ∷ keys) (suc n) e h is =
-    let both = both_true (lacks other keys) (keys_apart keys) e in
+    let both = and_parts (lacks other keys) (keys_apart keys) e in
     let rest : Some n ≡ entry_found key keys = at_key key keys n both.1 (omega (arith, h)) is in
     go (bytes_eq key other) refl both.0 rest
   where

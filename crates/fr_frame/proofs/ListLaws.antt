@@ -1,5 +1,6 @@
 -- An item that is entered into a list: it gets its room and its slot at once.
-use Rattle.std.proofs.Common.{◌≡◌, ℕ, Bool, true, false, List, [], ◌∷◌, ◌++◌, length, nat_eq, Option, Some, None, IsSomeAnd, slice_get, set, option_map, refl, sym, ◌∙◌, ap, subst, if◌then◌else◌}
+use Rattle.std.proofs.Common.{◌≡◌, ℕ, Bool, true, false, List, [], ◌∷◌, ◌++◌, length, Option, Some, None, IsSomeAnd, slice_get, set, option_map, refl, sym, ◌∙◌, ap, subst, if◌then◌else◌}
+use Rattle.std.proofs.lemmas.List.{set_at}
 use Rattle.fr_frame.specs.Common.{Body, Cell, Def, FrameOwner, Heap, Node, NodeId, Plan, SlotId, Table, TypePlanNode, absent, added, begun_body, body_occurs, cell_at, count_cells, def_of, entered_body, held_by, is_list_body, linked, links, no_vals, option_and_then, placed, product, shape_of, unwrap_or, whole_body, with_body, with_placed, with_slot}
 use Rattle.fr_shape.specs.Fills.{is_empty_struct}
 use Rattle.fr_plan.specs.Lookups.{node_at}
@@ -7,15 +8,11 @@ use Rattle.fr_frame.specs.declared.places.Growth.{Growth}
 use Rattle.fr_frame.specs.Cells.{held_value}
 use Rattle.fr_frame.specs.Growing.{grown_above, MayGrow, MayGrowAbove}
 use Rattle.fr_frame.specs.Bodies.{fresh_body, linked_by}
-use Rattle.fr_frame.proofs.HeapLaws.{alike, with_body_twice, with_here}
+use Rattle.fr_frame.proofs.HeapLaws.{with_body_twice, with_here}
 
 last_there : {X : Type 0} → (xs : List X) (x : X) → slice_get (xs ++ x ∷ []) (length xs) ≡ Some x
 last_there [] x = refl
 last_there (y ∷ xs) x = last_there xs x
-
-last_set : {X : Type 0} → (xs : List X) (x y : X) → set (xs ++ x ∷ []) (length xs) y ≡ xs ++ y ∷ []
-last_set [] x y = refl
-last_set (z ∷ xs) x y = ap (λ (l : List _). z ∷ l) (last_set xs x y)
 
 -- the child that was added isn't there
 held_last : (body : Body) → is_list_body body ≡ true → cell_at (added body) (count_cells body) ≡ Some absent
@@ -25,7 +22,7 @@ held_last _ list = cc
 linked_last : (id : ℕ) (body : Body) → is_list_body body ≡ true → linked id (count_cells body) (added body) ≡ with_placed id body
 linked_last id (begun_body tracker cells) list =
     ap (linked_by id (length cells) (begun_body tracker (cells ++ absent ∷ []))) (last_there cells absent)
-    ∙ ap (begun_body tracker) (last_set cells absent (placed id))
+    ∙ ap (begun_body tracker) (set_at cells absent [] (placed id) (length cells) refl)
 linked_last id _ list = cc
 
 -- what is the same change at a place is the same
@@ -43,7 +40,7 @@ module _ (heap : Heap) (parent : SlotId) (i : ℕ) (next : IsSomeAnd (heap paren
     (list : IsSomeAnd (heap parent.0) (λ (above : Node). is_list_body above.body ≡ true)) where
   pub item_linked : (id : ℕ) → links (FrameOwner.Child parent i) id (with_body heap parent.0 added) ≡ with_body heap parent.0 (with_placed id)
   item_linked id =
-      alike _ _ (with_body_twice heap parent.0 added (linked id i) (λ body. linked id i (added body)) (λ body. refl))
+      with_body_twice heap parent.0 added (linked id i)
       ∙ same_change heap parent.0 (λ body. linked id i (added body)) (with_placed id) (go (heap parent.0) next list)
     where
       go : (found : Option Node) → IsSomeAnd found (λ (above : Node). (i ≡ count_cells above.body) × MayGrow Growth.Item above.body)

@@ -1,30 +1,31 @@
 -- A place that is changed in its slot.
 use Rattle.std.proofs.Common.{◌≡◌, ◌≢◌, ℕ, zero, suc, ◌+◌, Bool, List, [], ◌∷◌, Option, Some, None, IsSomeAnd, slice_get, set, option_map, refl, sym, ◌∙◌, ap, subst}
-use Rattle.fr_frame.specs.Common.{Becomes, Body, IfInUse, KeepsReserved, Node, Piece, Place, Shows, Slot, body_occurs, body_of, heap_of, node_in, node_of, option_and_then, slots_occur, with_body, with_mark, with_slot}
-use Rattle.fr_frame.proofs.HeapLaws.{occur_set, set_gets, set_keeps, shows_set, with_body_at, with_same}
+use Rattle.fr_frame.specs.Common.{Becomes, Body, Heap, IfInUse, KeepsReserved, Node, PartialValue, Place, Shows, Slot, body_occurs, body_of, heap_of, node_in, node_of, option_and_then, slots_occur, with_body, with_mark, with_slot}
+use Rattle.fr_frame.proofs.HeapLaws.{changed, occur_set, set_gets, set_keeps, shows_set, with_same}
 
 pub set_other : (slots : List Slot) (n : ℕ) (now : Slot) (m : ℕ) → m ≢ n → heap_of (set slots n now) m ≡ heap_of slots m
 set_other slots n now m ne = ap (option_and_then node_in) (set_keeps slots n now m ne)
 
--- a slot that is given what it had
-pub set_as_was : (slots : List Slot) (n : ℕ) (slot : Slot) → slice_get slots n ≡ Some slot → set slots n slot ≡ slots
-set_as_was [] n slot e = refl
-set_as_was (s ∷ slots) zero slot e = let same : slot ≡ s = cc in ap (λ (x : Slot). x ∷ slots) same
-set_as_was (s ∷ slots) (suc n) slot e = ap (λ (l : List Slot). s ∷ l) (set_as_was slots n slot e)
+-- a list that is given at a number what it had there
+pub set_as_was : {X : Type 0} (xs : List X) (n : ℕ) (x : X) → slice_get xs n ≡ Some x → set xs n x ≡ xs
+set_as_was [] n x e = refl
+set_as_was (y ∷ xs) zero x e = let same : x ≡ y = cc in ap (λ (z : _). z ∷ xs) same
+set_as_was (y ∷ xs) (suc n) x e = ap (λ (l : List _). y ∷ l) (set_as_was xs n x e)
 
--- the place with another piece
-abbrev pub repieced : Place → Piece → Place
-repieced at piece = record at { piece = piece }
+-- the place with another partial value
+abbrev pub with_partial : Place → PartialValue → Place
+with_partial at partial = record at { partial = partial }
 
 pub of_node : (found : Option Node) (at : Node) (So : Node → Type 0) → found ≡ Some at → So at → IsSomeAnd found So
 of_node found at So e so = subst (λ (o : Option Node). IsSomeAnd o So) (sym e) so
 
+-- the place that is found, where so it is of one
+pub found_so : (found : Option Node) (So : Node → Type 0) → IsSomeAnd found So → (at : Node) × (found ≡ Some at) × So at
+found_so (Some at) So h = (at, refl, h)
+found_so None So h = absurd h
+
 pub in_use_so : (slots : List Slot) (n : ℕ) (P Q : Node → Type 0) → ((at : Node) → P at → Q at) → IfInUse slots n P → IfInUse slots n Q
-in_use_so slots n P Q so h = go (heap_of slots n) h
-  where
-    go : (found : Option Node) → IsSomeAnd found P → IsSomeAnd found Q
-    go (Some at) h = so at h
-    go None h = absurd h
+in_use_so slots n P Q so h = let at = found_so (heap_of slots n) P h in of_node (heap_of slots n) at.0 Q at.1 (so at.0 at.2)
 
 module _ (slots : List Slot) (n : ℕ) (at : Place) (was : slice_get slots n ≡ Some (Slot.Used at)) where
   here : heap_of slots n ≡ Some (node_of at)
@@ -36,15 +37,15 @@ module _ (slots : List Slot) (n : ℕ) (at : Place) (was : slice_get slots n ≡
   pub changes : (now : Place) → Shows (set slots n (Slot.Used now)) (with_slot (heap_of slots) n (Some (node_of now)))
   changes now = shows_set slots n (Slot.Used at) (Slot.Used now) was
 
-  pub becomes : (piece : Piece) → Becomes slots (set slots n (Slot.Used (repieced at piece))) n (node_of at) (body_of piece)
-  becomes piece = changes (repieced at piece)
+  pub becomes : (partial : PartialValue) → Becomes slots (set slots n (Slot.Used (with_partial at partial))) n (node_of at) (body_of partial)
+  becomes partial = changes (with_partial at partial)
 
-  -- what is so of the place with another piece is so of what is then in the slot
-  pub of_repieced : (piece : Piece) (So : Node → Type 0) → So (node_of (repieced at piece))
-      → IfInUse (set slots n (Slot.Used (repieced at piece))) n So
-  of_repieced piece So so =
-      of_node (heap_of (set slots n (Slot.Used (repieced at piece))) n) (node_of (repieced at piece)) So
-      (ap (option_and_then node_in) (set_gets slots n (Slot.Used at) (Slot.Used (repieced at piece)) was)) so
+  -- what is so of the place with another partial value is so of what is then in the slot
+  pub of_with_partial : (partial : PartialValue) (So : Node → Type 0) → So (node_of (with_partial at partial))
+      → IfInUse (set slots n (Slot.Used (with_partial at partial))) n So
+  of_with_partial partial So so =
+      of_node (heap_of (set slots n (Slot.Used (with_partial at partial))) n) (node_of (with_partial at partial)) So
+      (ap (option_and_then node_in) (set_gets slots n (Slot.Used at) (Slot.Used (with_partial at partial)) was)) so
 
   pub marks : (stored : Bool)
       → Shows (set slots n (Slot.Used (record at { stored = stored }))) (with_mark (heap_of slots) n stored)
@@ -52,22 +53,22 @@ module _ (slots : List Slot) (n : ℕ) (at : Place) (was : slice_get slots n ≡
       changes (record at { stored = stored }) m
       ∙ sym (ap (λ (x : Option Node). with_slot (heap_of slots) n (option_map (λ (y : Node). record y { stored = stored }) x) m) here)
 
-  pub shows : (piece : Piece) (change : Body → Body) → body_of piece ≡ change (body_of at.piece)
-      → Shows (set slots n (Slot.Used (repieced at piece))) (with_body (heap_of slots) n change)
-  shows piece change is m =
-      becomes piece m ∙ ap (λ (b : Body). with_slot (heap_of slots) n (Some (record (node_of at) { body = b })) m) is
-      ∙ sym (with_body_at (heap_of slots) n (node_of at) change here m)
+  pub shows : (partial : PartialValue) (change : Body → Body) → body_of partial ≡ change (body_of at.partial)
+      → Shows (set slots n (Slot.Used (with_partial at partial))) (with_body (heap_of slots) n change)
+  shows partial change is m =
+      becomes partial m ∙ ap (λ (b : Body). with_slot (heap_of slots) n (Some (record (node_of at) { body = b })) m) is
+      ∙ sym (ap (λ (x : Option Node). with_slot (heap_of slots) n (changed change x) m) here)
 
-  pub shows_same : (piece : Piece) → body_of piece ≡ body_of at.piece
-      → Shows (set slots n (Slot.Used (repieced at piece))) (heap_of slots)
-  shows_same piece is m =
-      becomes piece m ∙ ap (λ (b : Body). with_slot (heap_of slots) n (Some (record (node_of at) { body = b })) m) is
-      ∙ ap (λ (x : Option Node). with_slot (heap_of slots) n x m) (sym here) ∙ with_same (heap_of slots) n m
+  pub shows_same : (partial : PartialValue) → body_of partial ≡ body_of at.partial
+      → Shows (set slots n (Slot.Used (with_partial at partial))) (heap_of slots)
+  shows_same partial is m =
+      becomes partial m ∙ ap (λ (b : Body). with_slot (heap_of slots) n (Some (record (node_of at) { body = b })) m) is
+      ∙ ap (λ (x : Option Node). with_slot (heap_of slots) n x m) (sym here) ∙ ap (λ (heap : Heap). heap m) (with_same (heap_of slots) n)
 
-  pub occur_change : (piece : Piece) (t : ℕ)
-      → slots_occur (set slots n (Slot.Used (repieced at piece))) t + body_occurs (body_of at.piece) t
-      ≡ slots_occur slots t + body_occurs (body_of piece) t
-  occur_change piece t = occur_set slots n (Slot.Used at) (Slot.Used (repieced at piece)) t was
+  pub occur_change : (partial : PartialValue) (t : ℕ)
+      → slots_occur (set slots n (Slot.Used (with_partial at partial))) t + body_occurs (body_of at.partial) t
+      ≡ slots_occur slots t + body_occurs (body_of partial) t
+  occur_change partial t = occur_set slots n (Slot.Used at) (Slot.Used (with_partial at partial)) t was
 
 -- a slot that is kept for a place stays so where another changes
 pub keeps_reserved : (slots : List Slot) (n : ℕ) (was : Place) (now : Slot) → slice_get slots n ≡ Some (Slot.Used was)

@@ -1,7 +1,7 @@
 -- One slot that is changed where a list's items lie in slots of their own, and what contracts see of that.
 use Rattle.std.proofs.Common.{◌≡◌, ℕ, zero, suc, ◌+◌, ◌-◌, ◌<◌, ◌≤◌, Bool, true, false, List, [], ◌∷◌, length, Option, Some, None, IsSomeAnd, is_some, get_or, slice_get, set, refl, sym, ◌∙◌, ap, ap₂, subst, arith, if◌then◌else◌}
 use Rattle.std.proofs.lemmas.Option.{slice_get_past}
-use Rattle.fr_frame.specs.Common.{Body, Box, Cell, Global, Held, IsInUse, Node, Piece, Place, Rope, SameTokens, Shows, Slot, SlotId, Val, as_tracker, begun_body, body_occurs, body_of, body_with, cell_at, children_with, count_cells, entered_body, heap_of, is_list_body, is_used, item_cell, item_in, item_or, items_of, keeps_items, node_in, option_and_then, piece_with, place_with, reformed, slot_of_cell, slot_seen, slots_occur, slots_seen, value_held, with_body, with_items, with_mark}
+use Rattle.fr_frame.specs.Common.{Body, Box, Cell, Global, Held, IsInUse, Node, PartialValue, Place, Rope, SameTokens, Shows, Slot, SlotId, Val, as_tracker, begun_body, body_occurs, body_of, body_with, cell_at, children_with, count_cells, entered_body, heap_of, is_list_body, is_used, item_cell, item_in, item_or, items_of, keeps_items, node_in, option_and_then, partial_with, place_with, reformed, slot_of_cell, slot_seen, slots_occur, slots_seen, value_held, with_body, with_items, with_mark}
 use Rattle.fr_model.specs.Trackers.{Tracker as TreeTracker}
 use Rattle.fr_frame.specs.declared.places.ItemsKind.{ItemsKind}
 use Rattle.fr_frame.specs.declared.places.Tracker.{Tracker}
@@ -23,9 +23,9 @@ keeps_same (Tracker.Items ItemsKind.Set) = refl
 keeps_same (Tracker.Items ItemsKind.Array) = refl
 keeps_same _ = refl
 
-pub body_of_with : (held : Held) (n : ℕ) (items : List SlotId) (piece : Piece)
-    → body_of (piece_with held n items piece) ≡ body_with held n items (body_of piece)
-body_of_with held n items (Piece.Begun tracker children) =
+pub body_of_with : (held : Held) (n : ℕ) (items : List SlotId) (partial : PartialValue)
+    → body_of (partial_with held n items partial) ≡ body_with held n items (body_of partial)
+body_of_with held n items (PartialValue.Begun tracker children) =
     ap (λ (kept : Bool). begun_body (as_tracker tracker) (if kept then children_with held n children items else children)) (keeps_same tracker)
 body_of_with held n items _ = refl
 
@@ -129,43 +129,43 @@ marked_as held n stored (Slot.List place items) used = record {
 }
 marked_as held n stored _ used = cc
 
--- a list whose form keeps items gets another form that keeps them
+-- a list whose tracker keeps items is begun with another tracker that keeps them
 module _ (raw : List Slot) (n : ℕ) (tracker : Tracker) (was now : Slot) (there : slice_get raw n ≡ Some was)
     (made : IsReformed tracker was now) where
   abbrev before : Place
   before = place_with (items_of raw) n made.place made.items.value.items
 
-  abbrev piece : Piece
-  piece = piece_with (items_of raw) n made.items.value.items made.piece
+  abbrev partial : PartialValue
+  partial = partial_with (items_of raw) n made.items.value.items made.partial
 
   was_there : slice_get (slots_seen raw) n ≡ Some (Slot.Used before)
   was_there =
       get_seen raw (slots_seen raw) refl n was there ∙ ap (λ (slot : Slot). Some (slot_seen (items_of raw) n slot)) made.was
 
-  seen_now : slots_seen (set raw n now) ≡ set (slots_seen raw) n (Slot.Used (record before { piece = piece }))
+  seen_now : slots_seen (set raw n now) ≡ set (slots_seen raw) n (Slot.Used (record before { partial = partial }))
   seen_now =
       ap (λ (slot : Slot). slots_seen (set raw n slot)) made.now
-      ∙ seen_set raw n (Slot.List made.place made.items) (Slot.List (record made.place { piece = made.piece }) made.items)
+      ∙ seen_set raw n (Slot.List made.place made.items) (Slot.List (record made.place { partial = made.partial }) made.items)
       (there ∙ ap (λ (slot : Slot). Some slot) made.was) refl
 
-  body_is : body_of piece ≡ reformed (as_tracker tracker) (body_of before.piece)
+  body_is : body_of partial ≡ reformed (as_tracker tracker) (body_of before.partial)
   body_is =
-      body_of_with (items_of raw) n made.items.value.items made.piece
+      body_of_with (items_of raw) n made.items.value.items made.partial
       ∙ ap (body_with (items_of raw) n made.items.value.items) made.body
-      ∙ reformed_with (items_of raw) n made.items.value.items (as_tracker tracker) (body_of made.place.piece) (sym (keeps_same tracker) ∙ made.keeps) made.list
-      ∙ ap (reformed (as_tracker tracker)) (sym (body_of_with (items_of raw) n made.items.value.items made.place.piece))
+      ∙ reformed_with (items_of raw) n made.items.value.items (as_tracker tracker) (body_of made.place.partial) (sym (keeps_same tracker) ∙ made.keeps) made.list
+      ∙ ap (reformed (as_tracker tracker)) (sym (body_of_with (items_of raw) n made.items.value.items made.place.partial))
 
   reform_seen : Shows (slots_seen (set raw n now)) (with_body (heap_of (slots_seen raw)) n (reformed (as_tracker tracker)))
   reform_seen m =
       ap (λ (slots : List Slot). heap_of slots m) seen_now
-      ∙ shows (slots_seen raw) n before was_there piece (reformed (as_tracker tracker)) body_is m
+      ∙ shows (slots_seen raw) n before was_there partial (reformed (as_tracker tracker)) body_is m
 
   reform_tokens : SameTokens (slots_seen raw) (slots_seen (set raw n now))
   reform_tokens t =
-      let same : body_occurs (body_of piece) t ≡ body_occurs (body_of before.piece) t
-      = ap (λ (b : Body). body_occurs b t) body_is ∙ reformed_occurs (as_tracker tracker) (body_of before.piece) t in
-      let changed : slots_occur (set (slots_seen raw) n (Slot.Used (record before { piece = piece }))) t ≡ slots_occur (slots_seen raw) t
-      = omega (arith, occur_change (slots_seen raw) n before was_there piece t, same) in
+      let same : body_occurs (body_of partial) t ≡ body_occurs (body_of before.partial) t
+      = ap (λ (b : Body). body_occurs b t) body_is ∙ reformed_occurs (as_tracker tracker) (body_of before.partial) t in
+      let changed : slots_occur (set (slots_seen raw) n (Slot.Used (record before { partial = partial }))) t ≡ slots_occur (slots_seen raw) t
+      = omega (arith, occur_change (slots_seen raw) n before was_there partial t, same) in
       ap (λ (slots : List Slot). slots_occur slots t) seen_now ∙ changed
 
 pub used_inside : (raw seen : List Slot) (n : ℕ) → slots_seen raw ≡ seen → IsInUse seen n → n < length raw
@@ -209,10 +209,10 @@ module _ (raw seen : List Slot) (is : slots_seen raw ≡ seen) (n at i : ℕ) (s
 
   pub child_of_list : (place : Place) (items : Box (Rope SlotId) Global) → slot ≡ Slot.List place items
       → child_slot (heap_of seen) n i
-      ≡ option_and_then slot_of_cell (cell_at (body_with (items_of raw) n items.value.items (body_of place.piece)) i)
+      ≡ option_and_then slot_of_cell (cell_at (body_with (items_of raw) n items.value.items (body_of place.partial)) i)
   child_of_list place items same =
       child_seen (Slot.List place items) same
-      ∙ ap (λ (body : Body). option_and_then slot_of_cell (cell_at body i)) (body_of_with (items_of raw) n items.value.items place.piece)
+      ∙ ap (λ (body : Body). option_and_then slot_of_cell (cell_at body i)) (body_of_with (items_of raw) n items.value.items place.partial)
 
   pub child_of_none : IsNoPlace slot → child_slot (heap_of seen) n i ≡ None
   child_of_none none = child_seen slot refl ∙ ap slot_in (no_place slot none (items_of raw) n)

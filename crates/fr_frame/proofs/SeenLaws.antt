@@ -1,6 +1,6 @@
 -- Slots as contracts see them: what one change of a slot does to that.
 use Rattle.std.proofs.Common.{◌≡◌, ℕ, zero, suc, ◌+◌, ◌-◌, List, [], ◌∷◌, ◌++◌, length, Option, Some, None, slice_get, set, option_map, if◌then◌else◌, refl, sym, ◌∙◌, ap, ap₂, subst, add-zero, zero-add, arith}
-use Rattle.fr_frame.specs.Common.{Cell, Held, Piece, Slot, SlotId, Val, children_with, heap_of, item_in, item_or, items_of, keeps_items, node_in, option_and_then, piece_with, slot_seen, slots_seen, value_held, with_items}
+use Rattle.fr_frame.specs.Common.{Cell, Held, PartialValue, Slot, SlotId, Val, children_with, heap_of, item_in, item_or, items_of, keeps_items, node_in, option_and_then, partial_with, slot_seen, slots_seen, value_held, with_items}
 use Rattle.fr_frame.specs.Items.{seen_from}
 use Rattle.fr_frame.proofs.HeapLaws.{same_lists}
 
@@ -24,17 +24,17 @@ items_at a b n i zero (c ∷ cells) (slot ∷ items) zero j at same =
 items_at a b n i zero (c ∷ cells) (slot ∷ items) (suc k) j at same =
     items_at a b n (suc i) zero cells items k j (omega (arith, at)) same
 
-piece_same : (a b : Held) (n : ℕ) (items : List SlotId) (piece : Piece) → HoldSame a b n
-    → piece_with a n items piece ≡ piece_with b n items piece
-piece_same a b n items (Piece.Begun tracker children) same =
-    ap (λ (l : List Cell). Piece.Begun tracker (if keeps_items tracker then l else children))
+partial_same : (a b : Held) (n : ℕ) (items : List SlotId) (partial : PartialValue) → HoldSame a b n
+    → partial_with a n items partial ≡ partial_with b n items partial
+partial_same a b n items (PartialValue.Begun tracker children) same =
+    ap (λ (l : List Cell). PartialValue.Begun tracker (if keeps_items tracker then l else children))
     (same_lists (children_with a n children items) (children_with b n children items)
     (λ k. items_at a b n 0 (length children - length items) children items k k (omega arith) (λ m. same m k)))
-piece_same a b n items _ same = refl
+partial_same a b n items _ same = refl
 
 pub slot_seen_same : (a b : Held) (n : ℕ) (slot : Slot) → HoldSame a b n → slot_seen a n slot ≡ slot_seen b n slot
 slot_seen_same a b n (Slot.List place items) same =
-    ap (λ (piece : Piece). Slot.Used (record place { piece = piece })) (piece_same a b n items.value.items place.piece same)
+    ap (λ (partial : PartialValue). Slot.Used (record place { partial = partial })) (partial_same a b n items.value.items place.partial same)
 slot_seen_same a b n _ same = refl
 
 -- From a slot on.
@@ -52,12 +52,13 @@ from_length held k (slot ∷ raw) = ap (λ (n : ℕ). suc n) (from_length held (
 further : (k n : ℕ) → suc k + n ≡ k + suc n
 further k n = omega arith
 
-from_get : (held : Held) (k : ℕ) (raw : List Slot) (n : ℕ)
-    → slice_get (seen_from held k raw) n ≡ option_map (slot_seen held (k + n)) (slice_get raw n)
-from_get held k [] n = refl
-from_get held k (slot ∷ raw) zero = ap (λ (m : ℕ). Some (slot_seen held m slot)) (sym (add-zero k))
-from_get held k (slot ∷ raw) (suc n) =
-    from_get held (suc k) raw n ∙ ap (λ (m : ℕ). option_map (slot_seen held m) (slice_get raw n)) (further k n)
+from_get : (held : Held) (k : ℕ) (raw : List Slot) (n m : ℕ) → m ≡ k + n
+    → slice_get (seen_from held k raw) n ≡ option_map (slot_seen held m) (slice_get raw n)
+from_get held k [] n m e = refl
+from_get held k (slot ∷ raw) zero m e =
+    let here : k ≡ m = omega (arith, e) in
+    ap (λ (j : ℕ). Some (slot_seen held j slot)) here
+from_get held k (slot ∷ raw) (suc n) m e = from_get held (suc k) raw n m (omega (arith, e))
 
 pub from_set : (held : Held) (k : ℕ) (raw : List Slot) (n : ℕ) (now : Slot)
     → seen_from held k (set raw n now) ≡ set (seen_from held k raw) n (slot_seen held (k + n) now)
@@ -67,18 +68,19 @@ from_set held k (slot ∷ raw) (suc n) now =
     ap (λ (l : List Slot). slot_seen held k slot ∷ l) (from_set held (suc k) raw n now
     ∙ ap (λ (m : ℕ). set (seen_from held (suc k) raw) n (slot_seen held m now)) (further k n))
 
-from_append : (held : Held) (k : ℕ) (raw : List Slot) (slot : Slot)
-    → seen_from held k (raw ++ slot ∷ []) ≡ seen_from held k raw ++ slot_seen held (k + length raw) slot ∷ []
-from_append held k [] slot = ap (λ (m : ℕ). slot_seen held m slot ∷ []) (sym (add-zero k))
-from_append held k (first ∷ raw) slot =
-    ap (λ (l : List Slot). slot_seen held k first ∷ l) (from_append held (suc k) raw slot
-    ∙ ap (λ (m : ℕ). seen_from held (suc k) raw ++ slot_seen held m slot ∷ []) (further k (length raw)))
+from_append : (held : Held) (k : ℕ) (raw : List Slot) (slot : Slot) (m : ℕ) → m ≡ k + length raw
+    → seen_from held k (raw ++ slot ∷ []) ≡ seen_from held k raw ++ slot_seen held m slot ∷ []
+from_append held k [] slot m e =
+    let here : k ≡ m = omega (arith, e) in
+    ap (λ (j : ℕ). slot_seen held j slot ∷ []) here
+from_append held k (first ∷ raw) slot m e =
+    ap (λ (l : List Slot). slot_seen held k first ∷ l) (from_append held (suc k) raw slot m (omega (arith, e)))
 
 pub seen_length : (raw : List Slot) → length (slots_seen raw) ≡ length raw
 seen_length raw = from_length (items_of raw) 0 raw
 
 pub seen_by : (held : Held) (raw : List Slot) (n : ℕ) → slice_get (seen_from held 0 raw) n ≡ option_map (slot_seen held n) (slice_get raw n)
-seen_by held raw n = from_get held 0 raw n ∙ ap (λ (m : ℕ). option_map (slot_seen held m) (slice_get raw n)) (zero-add n)
+seen_by held raw n = from_get held 0 raw n n (omega arith)
 
 pub seen_get : (raw : List Slot) (n : ℕ) → slice_get (slots_seen raw) n ≡ option_map (slot_seen (items_of raw) n) (slice_get raw n)
 seen_get raw n = seen_by (items_of raw) raw n
@@ -123,5 +125,4 @@ pub seen_append : (raw : List Slot) (slot : Slot) → item_in slot ≡ None
     → slots_seen (raw ++ slot ∷ []) ≡ slots_seen raw ++ slot_seen (items_of raw) (length raw) slot ∷ []
 seen_append raw slot none =
     from_same (items_of (raw ++ slot ∷ [])) (items_of raw) (items_append raw slot none) 0 (raw ++ slot ∷ [])
-    ∙ from_append (items_of raw) 0 raw slot
-    ∙ ap (λ (m : ℕ). slots_seen raw ++ slot_seen (items_of raw) m slot ∷ []) (zero-add (length raw))
+    ∙ from_append (items_of raw) 0 raw slot (length raw) (omega arith)

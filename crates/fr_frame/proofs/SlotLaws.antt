@@ -1,6 +1,6 @@
 -- What slots' own functions rely on, of single slots as contracts see them.
 use Rattle.std.proofs.Common.{◌≡◌, ◌⊎◌, ℕ, zero, suc, ◌+◌, ◌-◌, ◌<◌, ◌≤◌, true, List, [], ◌∷◌, ◌++◌, length, Option, Some, None, IsSomeAnd, is_some, replicate, get_or, slice_get, set, option_map, if◌then◌else◌, inl, inr, refl, sym, ◌∙◌, ap, ap₂, subst}
-use Rattle.fr_frame.specs.Common.{Box, Cell, Global, Held, IsInUse, IsPlain, IsPlainAt, IsReserved, IsUsedAt, Item, Node, Piece, Place, Rope, Shows, Slot, SlotId, absent, as_items, begun_body, body_of, heap_of, is_used, item_in, items_of, keeps_items, node_in, node_of, option_and_then, outlined, piece_with, place_with, slot_occurs, slot_seen, slots_occur, slots_seen, with_items, with_slot}
+use Rattle.fr_frame.specs.Common.{Box, Cell, Global, Heap, Held, IsInUse, IsPlain, IsPlainAt, IsReserved, IsUsedAt, Item, Node, PartialValue, Place, Rope, Shows, Slot, SlotId, absent, as_items, begun_body, body_of, heap_of, is_used, item_in, items_of, keeps_items, node_in, node_of, option_and_then, outlined, partial_with, place_with, slot_occurs, slot_seen, slots_occur, slots_seen, with_items, with_slot}
 use Rattle.fr_model.specs.Trackers.{ItemsKind as TreeItems}
 use Rattle.fr_frame.specs.declared.places.ItemsKind.{ItemsKind}
 use Rattle.fr_frame.specs.declared.places.Tracker.{Tracker}
@@ -18,7 +18,7 @@ cells_long held n i zero (c ∷ cells) [] = refl
 cells_long held n i zero (c ∷ cells) (slot ∷ items) = ap (λ (k : ℕ). suc k) (cells_long held n (suc i) zero cells items)
 
 begun_same : (tracker : Tracker) (cells now : List Cell) → length now ≡ length cells
-    → outline (body_of (Piece.Begun tracker (if keeps_items tracker then now else cells))) ≡ outline (body_of (Piece.Begun tracker cells))
+    → outline (body_of (PartialValue.Begun tracker (if keeps_items tracker then now else cells))) ≡ outline (body_of (PartialValue.Begun tracker cells))
 begun_same (Tracker.Items ItemsKind.List) cells now long = ap (λ (k : ℕ). begun_body (as_items TreeItems.List) (replicate k absent)) long
 begun_same (Tracker.Items ItemsKind.Slice) cells now long = ap (λ (k : ℕ). begun_body (as_items TreeItems.Slice) (replicate k absent)) long
 begun_same (Tracker.Items ItemsKind.ClosedSlice) cells now long =
@@ -27,17 +27,17 @@ begun_same (Tracker.Items ItemsKind.Set) cells now long = refl
 begun_same (Tracker.Items ItemsKind.Array) cells now long = refl
 begun_same _ cells now long = refl
 
-piece_outline : (held : Held) (n : ℕ) (items : List SlotId) (piece : Piece)
-    → outline (body_of (piece_with held n items piece)) ≡ outline (body_of piece)
-piece_outline held n items (Piece.Begun tracker children) =
+partial_outline : (held : Held) (n : ℕ) (items : List SlotId) (partial : PartialValue)
+    → outline (body_of (partial_with held n items partial)) ≡ outline (body_of partial)
+partial_outline held n items (PartialValue.Begun tracker children) =
     begun_same tracker children (with_items held n 0 (length children - length items) children items)
     (cells_long held n 0 (length children - length items) children items)
-piece_outline held n items _ = refl
+partial_outline held n items _ = refl
 
 pub place_outline : (held : Held) (n : ℕ) (place : Place) (items : List SlotId)
     → outlined (node_of place) ≡ outlined (node_of (place_with held n place items))
 place_outline held n place items =
-    ap (λ body. record (node_of place) { body = body }) (sym (piece_outline held n items place.piece))
+    ap (λ body. record (node_of place) { body = body }) (sym (partial_outline held n items place.partial))
 
 -- What lies in a slot.
 
@@ -123,7 +123,7 @@ module _ (raw seen : List Slot) (is : slots_seen raw ≡ seen) (n : ℕ) where
         → Shows (slots_seen (set raw n now)) (heap_of seen)
     set_same free m =
         set_shows m ∙ ap (λ (found : Option Node). with_slot (heap_of seen) n found m) (free ∙ sym (node_seen was e))
-        ∙ with_same (heap_of seen) n m
+        ∙ ap (λ (heap : Heap). heap m) (with_same (heap_of seen) n)
 
 -- A slot behind the others.
 module _ (raw seen : List Slot) (is : slots_seen raw ≡ seen) where

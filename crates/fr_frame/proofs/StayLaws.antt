@@ -1,23 +1,18 @@
 -- Places that stay as they are: one that is begun again, and a list, of whose items no validator is told.
-use Rattle.std.proofs.Common.{◌≡◌, ◌≢◌, ◌⊎◌, ℕ, true, List, Option, Some, None, IsSomeAnd, option_map, inl, inr, refl, sym, ◌∙◌, ap, subst}
-use Rattle.fr_frame.specs.Common.{Body, ContentKind, EntriesKind, Heap, IfInUse, ItemsKind, Meanings, Node, Shows, Slot, Table, Tracker, as_content, as_elements, as_entries, as_fields, as_items, begun_body, count_cells, entered_body, entry_found, fields_of_tracker, heap_of, invalid, is_begun_body, is_list_body, keys_in, opened, whole_body, with_body, with_entry_for, with_slot}
-use Rattle.fr_model.specs.DynamicPlaces.{number_or_last}
-use Rattle.fr_frame.specs.Bodies.{entry_in, with_entry_unless}
+use Rattle.std.proofs.Common.{◌≡◌, ℕ, true, List, Option, Some, None, IsSomeAnd, refl, sym, ◌∙◌, ap, subst}
+use Rattle.fr_frame.specs.Common.{Body, Heap, IfInUse, ItemsKind, Meanings, Node, Shows, Slot, Table, Tracker, as_items, begun_body, fields_of_tracker, heap_of, invalid, is_begun_body, is_list_body, opened, with_body, with_slot}
 use Rattle.fr_frame.specs.Outlines.{has_items}
-use Rattle.fr_frame.proofs.HeapLaws.{Alike, with_same}
-use Rattle.fr_frame.proofs.PlaceLaws.{in_use_so}
+use Rattle.fr_frame.proofs.HeapLaws.{changed, with_same}
+use Rattle.fr_frame.proofs.PlaceLaws.{found_so, in_use_so}
 use Rattle.fr_frame.proofs.AskLaws.{others_valid}
 
 -- a place that is changed to what it was
-unchanged_alike : (heap : Heap) (n : ℕ) (change : Body → Body) → IsSomeAnd (heap n) (λ (at : Node). change at.body ≡ at.body)
-    → Alike heap (with_body heap n change)
-unchanged_alike heap n change same m =
-    sym (with_same heap n m) ∙ ap (λ (found : Option Node). with_slot heap n found m) (sym (go (heap n) same))
-  where
-    go : (found : Option Node) → IsSomeAnd found (λ (at : Node). change at.body ≡ at.body)
-        → option_map (λ (at : Node). record at { body = change at.body }) found ≡ found
-    go (Some at) e = ap (λ (b : Body). Some (record at { body = b })) e
-    go None e = refl
+unchanged : (heap : Heap) (n : ℕ) (change : Body → Body) → IsSomeAnd (heap n) (λ (at : Node). change at.body ≡ at.body)
+    → heap ≡ with_body heap n change
+unchanged heap n change same =
+    let at = found_so (heap n) (λ (x : Node). change x.body ≡ x.body) same in
+    sym (ap (λ (found : Option Node). with_slot heap n (changed change found)) at.1
+    ∙ ap (λ (b : Body). with_slot heap n (Some (record at.0 { body = b }))) at.2 ∙ ap (with_slot heap n) (sym at.1) ∙ with_same heap n)
 
 opened_begun : (tracker : Tracker) (count : ℕ) (body : Body) → is_begun_body body ≡ true → opened tracker count body ≡ body
 opened_begun tracker count (begun_body before cells) begun = refl
@@ -28,9 +23,9 @@ pub begun_before : (slots : List Slot) (n : ℕ) (tracker : Tracker) (count : �
     → IfInUse slots n (λ (at : Node). is_begun_body at.body ≡ true)
     → Shows slots (with_body (heap_of slots) n (opened tracker count))
 begun_before slots n tracker count begun =
-    unchanged_alike (heap_of slots) n (opened tracker count)
+    subst (Shows slots) (unchanged (heap_of slots) n (opened tracker count)
     (in_use_so slots n (λ (at : Node). is_begun_body at.body ≡ true) (λ (at : Node). opened tracker count at.body ≡ at.body)
-    (λ at. opened_begun tracker count at.body) begun)
+    (λ at. opened_begun tracker count at.body) begun)) (λ m. refl)
 
 parts_of_items : (tracker : Tracker) → has_items tracker ≡ true → fields_of_tracker tracker ≡ None
 parts_of_items (as_items ItemsKind.List) items = refl

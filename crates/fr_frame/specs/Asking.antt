@@ -43,8 +43,7 @@ ask_field question means table meant own = ask question means table meant.shape.
 -- the first validator that the plan tells of a field and that its value doesn't pass
 abbrev pub refused_of : Meanings → Plan → (told : Option FieldPlan) → (own : Option Val) → Option ReflectErrorKind
 refused_of means plan (Some told) (Some v) = first_refused means told.field (part_of plan.lists.validators told.validators) v
-refused_of means plan (Some told) None = None
-refused_of means plan None own = None
+refused_of means plan _ own = None
 
 -- Children.
 
@@ -84,8 +83,7 @@ asked Question.There means table s body = left_out s body
 -- this is what is lacking; only a value that fails needs memory to say why
 abbrev pub IsAnswer : Question → (lacking : Option ReflectErrorKind) → ReflectErrorKind → Type 0
 IsAnswer Question.Strict lacking kind = IsCauseOf lacking kind
-IsAnswer Question.Marks lacking kind = lacking ≡ Some kind
-IsAnswer Question.There lacking kind = lacking ≡ Some kind
+IsAnswer _ lacking kind = lacking ≡ Some kind
 
 -- what is asked before fills are taken by the rules of the column
 abbrev pub question_of : FillColumn → Question

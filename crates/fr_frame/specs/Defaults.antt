@@ -48,21 +48,7 @@ abbrev pub defaulted_by : Def → (preset : Option Val) → (of_fills : Body) �
 defaulted_by (Def.Struct struct) (Some v) of_fills = whole_body v
 defaulted_by (Def.Struct struct) None of_fills = of_fills
 defaulted_by (Def.Option t) (Some v) of_fills = whole_body none
-defaulted_by (Def.Option t) None of_fills = entered_body
-defaulted_by (Def.Scalar kind) preset of_fills = entered_body
-defaulted_by Def.Str preset of_fills = entered_body
-defaulted_by Def.Opaque preset of_fills = entered_body
-defaulted_by (Def.Enum enumeration) preset of_fills = entered_body
-defaulted_by (Def.Result t e) preset of_fills = entered_body
-defaulted_by (Def.List t) preset of_fills = entered_body
-defaulted_by (Def.Map key item) preset of_fills = entered_body
-defaulted_by (Def.Set t) preset of_fills = entered_body
-defaulted_by (Def.Array t n) preset of_fills = entered_body
-defaulted_by (Def.Pointer pointer) preset of_fills = entered_body
-defaulted_by (Def.Slice t) preset of_fills = entered_body
-defaulted_by Def.Dynamic preset of_fills = entered_body
-defaulted_by Def.Undefined preset of_fills = entered_body
-defaulted_by Def.Other preset of_fills = entered_body
+defaulted_by _ preset of_fills = entered_body
 
 -- a place of shape s with all fills taken
 abbrev pub defaulted : Column → Table → ℕ → Body → Body
@@ -74,21 +60,7 @@ defaulted column table s (begun_body tracker cells) = begun_body tracker (defaul
 abbrev pub unmet_entered : Def → (preset : Option Val) → (of_holes : Option ReflectErrorKind) → Option ReflectErrorKind
 unmet_entered (Def.Struct struct) (Some v) of_holes = None
 unmet_entered (Def.Struct struct) None of_holes = of_holes
-unmet_entered (Def.Scalar kind) preset of_holes = None
-unmet_entered Def.Str preset of_holes = None
-unmet_entered Def.Opaque preset of_holes = None
-unmet_entered (Def.Enum enumeration) preset of_holes = None
-unmet_entered (Def.Option t) preset of_holes = None
-unmet_entered (Def.Result t e) preset of_holes = None
-unmet_entered (Def.List t) preset of_holes = None
-unmet_entered (Def.Map key item) preset of_holes = None
-unmet_entered (Def.Set t) preset of_holes = None
-unmet_entered (Def.Array t n) preset of_holes = None
-unmet_entered (Def.Pointer pointer) preset of_holes = None
-unmet_entered (Def.Slice t) preset of_holes = None
-unmet_entered Def.Dynamic preset of_holes = None
-unmet_entered Def.Undefined preset of_holes = None
-unmet_entered Def.Other preset of_holes = None
+unmet_entered _ preset of_holes = None
 
 -- the first field, if any, that isn't there and is marked to take a default that there isn't
 abbrev pub unmet : Table → ℕ → Body → Option ReflectErrorKind

@@ -11,7 +11,7 @@ use Rattle.fr_frame.specs.declared.places.ContentKind.{ContentKind as DeclaredCo
 use Rattle.fr_frame.specs.declared.places.ItemsKind.{ItemsKind as DeclaredItemsKind}
 use Rattle.fr_frame.specs.declared.places.EntriesKind.{EntriesKind as DeclaredEntriesKind}
 use Rattle.fr_frame.specs.declared.places.FrameOwner.{FrameOwner}
-use Rattle.fr_frame.specs.declared.places.Piece.{Piece}
+use Rattle.fr_frame.specs.declared.places.PartialValue.{PartialValue}
 use Rattle.fr_frame.specs.declared.places.Place.{Place}
 use Rattle.fr_frame.specs.declared.places.Slot.{Slot}
 use Rattle.fr_frame.specs.Cells.{Cell, given, slot_of_cell}
@@ -61,10 +61,10 @@ fields_of_tracker (as_content kind) = None
 fields_of_tracker (as_items kind) = None
 fields_of_tracker (as_entries kind) = None
 
-abbrev pub body_of : Piece → Body
-body_of Piece.Entered = entered_body
-body_of (Piece.Whole v) = whole_body (view v)
-body_of (Piece.Begun tracker children) = begun_body (as_tracker tracker) children
+abbrev pub body_of : PartialValue → Body
+body_of PartialValue.Entered = entered_body
+body_of (PartialValue.Whole v) = whole_body (view v)
+body_of (PartialValue.Begun tracker children) = begun_body (as_tracker tracker) children
 
 abbrev pub node_of : Place → Node
 node_of place = record {
@@ -72,7 +72,7 @@ node_of place = record {
   owner = place.owner;
   stored = place.stored;
   depth = place.depth;
-  body = body_of place.piece;
+  body = body_of place.partial;
 }
 
 abbrev pub node_in : Slot → Option Node
@@ -90,8 +90,8 @@ heap_of slots n = option_and_then node_in (slice_get slots n)
 abbrev pub slot_occurs : Slot → ℕ → ℕ
 slot_occurs (Slot.Free next) t = 0
 slot_occurs Slot.Reserved t = 0
-slot_occurs (Slot.Used place) t = body_occurs (body_of place.piece) t
-slot_occurs (Slot.List place items) t = body_occurs (body_of place.piece) t
+slot_occurs (Slot.Used place) t = body_occurs (body_of place.partial) t
+slot_occurs (Slot.List place items) t = body_occurs (body_of place.partial) t
 slot_occurs (Slot.Item item) t = 0
 
 abbrev pub slots_occur : List Slot → ℕ → ℕ

@@ -7,7 +7,7 @@ use Rattle.fr_shape.specs.View.{view}
 use Rattle.fr_frame.specs.declared.places.ItemsKind.{ItemsKind}
 use Rattle.fr_frame.specs.declared.places.Tracker.{Tracker}
 use Rattle.fr_frame.specs.declared.places.Item.{Item}
-use Rattle.fr_frame.specs.declared.places.Piece.{Piece}
+use Rattle.fr_frame.specs.declared.places.PartialValue.{PartialValue}
 use Rattle.fr_frame.specs.declared.places.Place.{Place}
 use Rattle.fr_frame.specs.declared.places.Slot.{Slot}
 use Rattle.fr_frame.specs.declared.places.SlotId.{SlotId}
@@ -61,14 +61,14 @@ with_items held n i zero (c ∷ cells) [] = c ∷ cells
 abbrev pub children_with : Held → (n : ℕ) → List Cell → (items : List SlotId) → List Cell
 children_with held n cells items = with_items held n 0 (length cells - length items) cells items
 
-abbrev pub piece_with : Held → (n : ℕ) → (items : List SlotId) → Piece → Piece
-piece_with held n items Piece.Entered = Piece.Entered
-piece_with held n items (Piece.Whole v) = Piece.Whole v
-piece_with held n items (Piece.Begun tracker children) =
-    Piece.Begun tracker (if keeps_items tracker then children_with held n children items else children)
+abbrev pub partial_with : Held → (n : ℕ) → (items : List SlotId) → PartialValue → PartialValue
+partial_with held n items PartialValue.Entered = PartialValue.Entered
+partial_with held n items (PartialValue.Whole v) = PartialValue.Whole v
+partial_with held n items (PartialValue.Begun tracker children) =
+    PartialValue.Begun tracker (if keeps_items tracker then children_with held n children items else children)
 
 abbrev pub place_with : Held → (n : ℕ) → Place → (items : List SlotId) → Place
-place_with held n place items = record place { piece = piece_with held n items place.piece }
+place_with held n place items = record place { partial = partial_with held n items place.partial }
 
 -- What contracts see of slots. A list is seen with its items: one that has completed is a child with its value, any other a child in
 -- its slot. So where a clause speaks of the children of a place, or of the tokens that were put there, those of its items are among
@@ -151,10 +151,10 @@ with_placed slot (whole_body v) = whole_body v
 with_placed slot (begun_body tracker cells) = begun_body tracker (cells ++ placed slot ∷ [])
 
 -- a list whose items are in these slots has slot m for its item i
-pub record IsListedIn (piece : Piece) (items : List SlotId) (m i : ℕ) : Type 0 where
+pub record IsListedIn (partial : PartialValue) (items : List SlotId) (m i : ℕ) : Type 0 where
   pub tracker : Tracker
   pub cells : List Cell
-  pub is : piece ≡ Piece.Begun tracker cells
+  pub is : partial ≡ PartialValue.Begun tracker cells
   pub keeps : keeps_items tracker ≡ true
   pub behind : length cells - length items ≤ i
   pub inside : i < length cells

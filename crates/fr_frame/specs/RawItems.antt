@@ -6,7 +6,7 @@ use Rattle.fr_arena.specs.Ropes.{Rope}
 use Rattle.fr_shape.specs.View.{view}
 use Rattle.fr_shape.specs.declared.value.Value.{Value}
 use Rattle.fr_frame.specs.declared.places.FrameOwner.{FrameOwner}
-use Rattle.fr_frame.specs.declared.places.Piece.{Piece}
+use Rattle.fr_frame.specs.declared.places.PartialValue.{PartialValue}
 use Rattle.fr_frame.specs.declared.places.Place.{Place}
 use Rattle.fr_frame.specs.declared.places.Slot.{Slot}
 use Rattle.fr_frame.specs.declared.places.SlotId.{SlotId}
@@ -26,7 +26,7 @@ pub record IsListed (slots : List Slot) (m : ℕ) (list : SlotId) (i : ℕ) : Ty
   pub above : Place
   pub items : Box (Rope SlotId) Global
   pub there : slice_get slots list.0 ≡ Some (Slot.List above items)
-  pub listed : IsListedIn above.piece items.value.items m i
+  pub listed : IsListedIn above.partial items.value.items m i
 
 -- contracts see the same in the slot
 pub record IsSeenAs (before after : Slot) : Type 0 where
@@ -40,22 +40,22 @@ pub record IsKeptItem (list : SlotId) (i : ℕ) (body : Body) (after : Slot) : T
   pub whole : body ≡ whole_body (view value)
   pub now : after ≡ Slot.Item (record { value = value; list = list; number = i })
 
--- a begun piece with one more child, which isn't there
-abbrev pub with_room : Piece → Piece
-with_room Piece.Entered = Piece.Entered
-with_room (Piece.Whole v) = Piece.Whole v
-with_room (Piece.Begun tracker children) = Piece.Begun tracker (children ++ absent ∷ [])
+-- a begun partial value with one more child, which isn't there
+abbrev pub with_room : PartialValue → PartialValue
+with_room PartialValue.Entered = PartialValue.Entered
+with_room (PartialValue.Whole v) = PartialValue.Whole v
+with_room (PartialValue.Begun tracker children) = PartialValue.Begun tracker (children ++ absent ∷ [])
 
-abbrev pub piece_with_placed : (slot : ℕ) → Piece → Piece
-piece_with_placed slot Piece.Entered = Piece.Entered
-piece_with_placed slot (Piece.Whole v) = Piece.Whole v
-piece_with_placed slot (Piece.Begun tracker children) = Piece.Begun tracker (children ++ placed slot ∷ [])
+abbrev pub partial_with_placed : (slot : ℕ) → PartialValue → PartialValue
+partial_with_placed slot PartialValue.Entered = PartialValue.Entered
+partial_with_placed slot (PartialValue.Whole v) = PartialValue.Whole v
+partial_with_placed slot (PartialValue.Begun tracker children) = PartialValue.Begun tracker (children ++ placed slot ∷ [])
 
 -- contracts see in the slot a place with one more child, which is in slot m
 pub record IsSeenWith (m : ℕ) (held : Held) (n : ℕ) (before after : Slot) : Type 0 where
   pub at : Place
   pub was : slot_seen held n before ≡ Slot.Used at
-  pub now : slot_seen held n after ≡ Slot.Used (record at { piece = piece_with_placed m at.piece })
+  pub now : slot_seen held n after ≡ Slot.Used (record at { partial = partial_with_placed m at.partial })
 
 -- a slot whose place has one more child behind the others, which is in slot m
 pub record IsAddedIn (m : ℕ) (before after : Slot) : Type 0 where
@@ -63,11 +63,11 @@ pub record IsAddedIn (m : ℕ) (before after : Slot) : Type 0 where
   pub item_after : item_in after ≡ None
   pub seen : (held : Held) (n : ℕ) → held m ≡ None → IsSeenWith m held n before after
 
--- a piece has a child for each of these items
-abbrev pub HasRoomIn : List SlotId → Piece → Type 0
-HasRoomIn items Piece.Entered = ⊥
-HasRoomIn items (Piece.Whole v) = ⊥
-HasRoomIn items (Piece.Begun tracker children) = length items ≤ length children
+-- a partial value has a child for each of these items
+abbrev pub HasRoomIn : List SlotId → PartialValue → Type 0
+HasRoomIn items PartialValue.Entered = ⊥
+HasRoomIn items (PartialValue.Whole v) = ⊥
+HasRoomIn items (PartialValue.Begun tracker children) = length items ≤ length children
 
 -- a list or a pointer to a slice is in the slot
 abbrev pub IsListIn : Slot → Type 0

@@ -4,7 +4,7 @@ use Rattle.std.specs.declared.alloc.Global.{Global}
 use Rattle.std.specs.declared.boxed.Box.{Box}
 use Rattle.fr_arena.specs.Ropes.{Rope}
 use Rattle.fr_frame.specs.declared.places.Tracker.{Tracker}
-use Rattle.fr_frame.specs.declared.places.Piece.{Piece}
+use Rattle.fr_frame.specs.declared.places.PartialValue.{PartialValue}
 use Rattle.fr_frame.specs.declared.places.Place.{Place}
 use Rattle.fr_frame.specs.declared.places.Slot.{Slot}
 use Rattle.fr_frame.specs.declared.places.SlotId.{SlotId}
@@ -32,18 +32,18 @@ pub record IsReformed (tracker : Tracker) (before after : Slot) : Type 0 where
   pub place : Place
   pub items : Box (Rope SlotId) Global
   pub was : before ≡ Slot.List place items
-  pub list : is_list_body (body_of place.piece) ≡ true
+  pub list : is_list_body (body_of place.partial) ≡ true
   pub keeps : keeps_items tracker ≡ true
-  pub piece : Piece
-  pub body : body_of piece ≡ reformed (as_tracker tracker) (body_of place.piece)
-  pub now : after ≡ Slot.List (record place { piece = piece }) items
+  pub partial : PartialValue
+  pub body : body_of partial ≡ reformed (as_tracker tracker) (body_of place.partial)
+  pub now : after ≡ Slot.List (record place { partial = partial }) items
 
 -- a list in its slot, with its items in others, may leave them there where it is begun so instead
 abbrev pub stays_list : (tracker : Tracker) → Slot → Bool
 stays_list tracker (Slot.Free next) = false
 stays_list tracker Slot.Reserved = false
 stays_list tracker (Slot.Used place) = false
-stays_list tracker (Slot.List place items) = keeps_items tracker && is_list_body (body_of place.piece)
+stays_list tracker (Slot.List place items) = keeps_items tracker && is_list_body (body_of place.partial)
 stays_list tracker (Slot.Item item) = false
 
 -- the slot is free

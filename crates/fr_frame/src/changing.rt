@@ -4,8 +4,8 @@ ghost use Rattle.fr_frame.specs.Common.{IfInUse, IsInUse, IsOk, OnErr, OnOk, Roo
 ghost use Rattle.fr_frame.specs.Bodies.{MayOpen};
 
 use crate::children::Children;
-use crate::pieces::{open, put_child, release_piece};
-use crate::places::{Piece, SlotId, Tracker};
+use crate::partial_values::{open, put_child, release_partial};
+use crate::places::{PartialValue, SlotId, Tracker};
 use crate::slots::Slots;
 use fr_shape::{Ledger, OutOfMemory, Value};
 
@@ -24,8 +24,8 @@ impl SlotId {
             ≡ slots_occur slots.new t + body_occurs at.body t) }
     {
         let place = slots.place_mut(self);
-        let before = std::mem::replace(&mut place.piece, Piece::Whole(value));
-        release_piece(before, ledger);
+        let before = std::mem::replace(&mut place.partial, PartialValue::Whole(value));
+        release_partial(before, ledger);
     }
 
     /// Begins the place, so that its children can be entered: an entered one has none of so many
@@ -44,7 +44,7 @@ impl SlotId {
         }
         let alloc = slots.alloc();
         let place = slots.place_mut(self);
-        open(alloc, &mut place.piece, tracker, count)
+        open(alloc, &mut place.partial, tracker, count)
     }
 
     /// Begins the place anew, with so many children, none of which is there. The tokens of what was
@@ -71,8 +71,8 @@ impl SlotId {
     {
         let children = Children::none_yet(slots.alloc(), count)?;
         let place = slots.place_mut(self);
-        let was = std::mem::replace(&mut place.piece, Piece::Begun(tracker, children));
-        release_piece(was, ledger);
+        let was = std::mem::replace(&mut place.partial, PartialValue::Begun(tracker, children));
+        release_partial(was, ledger);
         Ok(())
     }
 
@@ -87,6 +87,6 @@ impl SlotId {
             ≡ slots_occur slots.old t + occurs (view value) t }
     {
         let place = slots.place_mut(self);
-        put_child(&mut place.piece, i, value);
+        put_child(&mut place.partial, i, value);
     }
 }

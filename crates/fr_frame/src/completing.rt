@@ -6,8 +6,8 @@ ghost use Rattle.fr_shape.specs.declared.error.ReflectErrorKind.{ReflectErrorKin
 
 use crate::field_plans::FillColumn;
 use crate::filling::fill;
-use crate::lacking::{Question, test_piece};
-use crate::places::{Piece, SlotId};
+use crate::lacking::{Question, test_partial};
+use crate::places::{PartialValue, SlotId};
 use crate::slots::Slots;
 use fr_plan::{NodeId, TypePlanCore};
 use fr_shape::{Hooks, OutOfMemory, ReflectErrorKind, ShapeTable};
@@ -26,35 +26,35 @@ fn question_for(column: FillColumn) -> Question
 /// Lets a place, all of whose children are given or not there, take its fills by the rules of this
 /// column. Only copies of templates, and what is said of a value that fails, need memory. Where
 /// there is none, some of its holes may be filled.
-fn fill_piece<H: Hooks>(
+fn fill_partial<H: Hooks>(
     alloc: Global,
     table: &ShapeTable,
     plan: &TypePlanCore,
     hooks: &H,
     node: NodeId,
     column: FillColumn,
-    piece: &mut Piece,
+    partial: &mut PartialValue,
 ) -> Result<(), ReflectErrorKind>
     requires checked { IsChecked table.now }
     requires planned { IsPlanFor table.now plan.now }
     requires inside { node.0 < length plan.now.nodes }
-    requires full { IsFull table.now (shape_of plan.now node) (body_of piece.old) }
-    requires closed { IsClosed (body_of piece.old) }
-    ensures filled { OnOk result (body_of piece.new ≡ defaulted (column_of column) table.now
-        (shape_of plan.now node) (body_of piece.old)) }
+    requires full { IsFull table.now (shape_of plan.now node) (body_of partial.old) }
+    requires closed { IsClosed (body_of partial.old) }
+    ensures filled { OnOk result (body_of partial.new ≡ defaulted (column_of column) table.now
+        (shape_of plan.now node) (body_of partial.old)) }
     ensures met { OnOk result (asked (question_of column) (H.means hooks.now) table.now
-        (shape_of plan.now node) (body_of piece.old) ≡ None) }
+        (shape_of plan.now node) (body_of partial.old) ≡ None) }
     ensures why { IfErr result (IsUnfilled column (H.means hooks.now) table.now
-        (shape_of plan.now node) (body_of piece.old)) }
+        (shape_of plan.now node) (body_of partial.old)) }
     ensures unchanged { IfErr result (λ kind. (kind ≡ Kind.OutOfMemory)
-        ⊎ (body_of piece.new ≡ body_of piece.old)) }
+        ⊎ (body_of partial.new ≡ body_of partial.old)) }
     ensures tokens { (t : ℕ) →
-        body_occurs (body_of piece.new) t ≡ body_occurs (body_of piece.old) t }
-    ensures closed { IsClosed (body_of piece.new) }
+        body_occurs (body_of partial.new) t ≡ body_occurs (body_of partial.old) t }
+    ensures closed { IsClosed (body_of partial.new) }
 {
     let question = question_for(column);
-    test_piece(alloc, table, plan, hooks, node, question, piece)?;
-    match fill(alloc, table, plan, node, column, piece) {
+    test_partial(alloc, table, plan, hooks, node, question, partial)?;
+    match fill(alloc, table, plan, node, column, partial) {
         Ok(()) => Ok(()),
         Err(OutOfMemory) => Err(ReflectErrorKind::OutOfMemory),
     }
@@ -90,14 +90,14 @@ impl SlotId {
     {
         let alloc = slots.alloc();
         let place = slots.place_mut(self);
-        fill_piece(
+        fill_partial(
             alloc,
             table,
             plan,
             hooks,
             place.node,
             column,
-            &mut place.piece,
+            &mut place.partial,
         )
     }
 

@@ -5,8 +5,8 @@ ghost use Rattle.fr_frame.specs.Common.{Becomes, FillsAt, HasAllChildren, IfErr,
 ghost use Rattle.fr_shape.specs.declared.error.ReflectErrorKind.{ReflectErrorKind as Kind};
 
 use crate::field_plans::FillColumn;
-use crate::lacking::{Question, test_piece};
-use crate::pieces::is_list;
+use crate::lacking::{Question, test_partial};
+use crate::partial_values::is_list;
 use crate::places::SlotId;
 use crate::slots::Slots;
 use crate::validating::test_valid;
@@ -66,14 +66,14 @@ impl SlotId {
     {
         let alloc = slots.alloc();
         let place = slots.place_mut(self);
-        test_piece(
+        test_partial(
             alloc,
             table,
             plan,
             hooks,
             place.node,
             Question::There,
-            &place.piece,
+            &place.partial,
         )
     }
 
@@ -102,10 +102,10 @@ impl SlotId {
             Some(place) => {
                 // What is told of a list doesn't say whether its items are there, and it has no
                 // fields.
-                if is_list(&place.piece) {
+                if is_list(&place.partial) {
                     return Ok(());
                 }
-                test_valid(slots.alloc(), plan, hooks, place.node, &place.piece)
+                test_valid(slots.alloc(), plan, hooks, place.node, &place.partial)
             }
             None => unreachable!(),
         }

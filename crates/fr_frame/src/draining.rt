@@ -1,10 +1,10 @@
 //! Lists whose items lie in slots of their own: all items go into their list, behind its base.
 ghost use Rattle.std.specs.Prelude.{◌<◌, ◌≡◌, ◌≢◌, ◌⊎◌};
-ghost use Rattle.fr_frame.specs.Common.{FreesItem, FreesItems, IfNone, IfSome, IsPlainAt, IsUsedAt, children_with, false, is_some, item_cell, items_of, length, option_map, piece_with, slice_get, slice_set, slots_seen, true, value_held, view, ℕ};
+ghost use Rattle.fr_frame.specs.Common.{FreesItem, FreesItems, IfNone, IfSome, IsPlainAt, IsUsedAt, children_with, false, is_some, item_cell, items_of, length, option_map, partial_with, slice_get, slice_set, slots_seen, true, value_held, view, ℕ};
 ghost use Rattle.fr_frame.specs.Items.{IsItemFreed, IsListAt};
 
 use crate::children::Children;
-use crate::places::{ItemsKind, Piece, Slot, SlotId, Tracker};
+use crate::places::{ItemsKind, PartialValue, Slot, SlotId, Tracker};
 use fr_arena::{Arena, ListRope};
 use fr_shape::Value;
 
@@ -101,20 +101,20 @@ fn put_items_in(
     free: &mut Option<SlotId>,
     list: SlotId,
     items: Box<ListRope<SlotId>>,
-    piece: &mut Piece,
+    partial: &mut PartialValue,
 )
-    ensures piece { piece.new ≡ piece_with (items_of entries.old) list.0 items.value.items
-        piece.old }
+    ensures partial { partial.new ≡ partial_with (items_of entries.old) list.0 items.value.items
+        partial.old }
     ensures freed { FreesItems list.0 entries.old entries.new }
 {
-    match piece {
-        Piece::Begun(
+    match partial {
+        PartialValue::Begun(
             Tracker::Items(ItemsKind::List)
             | Tracker::Items(ItemsKind::Slice)
             | Tracker::Items(ItemsKind::ClosedSlice),
             children,
         ) => { put_items(entries, free, list, items, children) }
-        Piece::Entered | Piece::Whole(_) | Piece::Begun(..) => {}
+        PartialValue::Entered | PartialValue::Whole(_) | PartialValue::Begun(..) => {}
     }
 }
 
@@ -146,7 +146,7 @@ fn drain_list(entries: &mut Arena<Slot>, free: &mut Option<SlotId>, id: SlotId)
     else {
         unreachable!()
     };
-    put_items_in(entries, free, id, items, &mut place.piece);
+    put_items_in(entries, free, id, items, &mut place.partial);
     *entries.get_mut(id.idx()) = Slot::Used(place);
 }
 

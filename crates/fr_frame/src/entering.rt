@@ -7,10 +7,10 @@ ghost use Rattle.fr_frame.specs.Growing.{grown_above, number_by, widened, IsNarr
 ghost use Rattle.fr_frame.specs.Kids.{child_owner};
 ghost use Rattle.fr_frame.specs.declared.places.ChildWay.{ChildWay as Way};
 
-use crate::dynamic_pieces::entry_number;
+use crate::dynamic_values::entry_number;
 use crate::growing::narrow;
-use crate::pieces::fresh;
-use crate::places::{ChildWay, FrameOwner, Growth, Piece, Place, SlotId};
+use crate::partial_values::fresh;
+use crate::places::{ChildWay, FrameOwner, Growth, PartialValue, Place, SlotId};
 use crate::slots::Slots;
 use fr_plan::{NodeId, TypePlanCore};
 use fr_shape::{OutOfMemory, ShapeTable, Text};
@@ -27,7 +27,7 @@ impl Slots {
         ensures key { result.1 ≡ key }
     {
         match self.place(parent) {
-            Some(above) => entry_number(&above.piece, key),
+            Some(above) => entry_number(&above.partial, key),
             None => unreachable!(),
         }
     }
@@ -63,8 +63,8 @@ impl Slots {
             self.give_back(id);
             return Err(OutOfMemory);
         };
-        let piece = match held {
-            Some(value) => Piece::Whole(value),
+        let partial = match held {
+            Some(value) => PartialValue::Whole(value),
             None => fresh(self.alloc(), table, plan.node(node).shape),
         };
         let place = Place {
@@ -72,9 +72,9 @@ impl Slots {
             owner,
             stored: false,
             depth,
-            piece,
+            partial,
         };
-        self.lower(id, place);
+        self.occupy(id, place);
         Ok(id)
     }
 

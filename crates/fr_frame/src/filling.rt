@@ -4,7 +4,7 @@ ghost use Rattle.fr_frame.specs.Common.{AreUnplaced, IfOk, IsChecked, IsClosed, 
 
 use crate::children::Children;
 use crate::field_plans::{FillColumn, copy_fill, plans_of_fields};
-use crate::places::{Piece, Tracker};
+use crate::places::{PartialValue, Tracker};
 use fr_plan::{FieldPlan, NodeId, TypePlanCore};
 use fr_shape::{Def, OutOfMemory, ShapeTable, Value, clone_template};
 use std::alloc::Global;
@@ -76,7 +76,7 @@ fn struct_of_fills(
     node: NodeId,
     column: FillColumn,
     count: usize,
-) -> Result<Piece, OutOfMemory>
+) -> Result<PartialValue, OutOfMemory>
     requires checked { IsChecked table.now }
     requires planned { IsPlanFor table.now plan.now }
     requires inside { node.0 < length plan.now.nodes }
@@ -86,7 +86,7 @@ fn struct_of_fills(
 {
     let mut children = Children::none_yet(alloc, count)?;
     fill_holes(alloc, table, plan, node, column, None, &mut children)?;
-    Ok(Piece::Begun(Tracker::Fields(None), children))
+    Ok(PartialValue::Begun(Tracker::Fields(None), children))
 }
 
 /// What becomes of a place that was only entered.
@@ -96,7 +96,7 @@ fn fill_entered(
     plan: &TypePlanCore,
     node: NodeId,
     column: FillColumn,
-) -> Result<Piece, OutOfMemory>
+) -> Result<PartialValue, OutOfMemory>
     requires checked { IsChecked table.now }
     requires planned { IsPlanFor table.now plan.now }
     requires inside { node.0 < length plan.now.nodes }
@@ -104,21 +104,25 @@ fn fill_entered(
         ≡ defaulted (column_of column) table.now (shape_of plan.now node) entered_body) }
 {
     let Some(entry) = table.get(plan.node(node).shape) else {
-        return Ok(Piece::Entered);
+        return Ok(PartialValue::Entered);
     };
     match (&entry.def, &entry.preset) {
-        (Def::Option(_), Some(_)) => Ok(Piece::Whole(Value::None)),
+        (Def::Option(_), Some(_)) => Ok(PartialValue::Whole(Value::None)),
         (Def::Struct(_), Some(template)) => {
-            Ok(Piece::Whole(clone_template(alloc, template.value())?))
+            Ok(PartialValue::Whole(clone_template(alloc, template.value())?))
         }
         (Def::Struct(described), None) => {
             struct_of_fills(alloc, table, plan, node, column, described.fields.len())
         }
-        (Def::Option(_), None) => Ok(Piece::Entered),
-        (Def::Scalar(_) | Def::Str | Def::Opaque | Def::Dynamic, _) => Ok(Piece::Entered),
-        (Def::Undefined | Def::Other | Def::Enum(_) | Def::Result(..), _) => Ok(Piece::Entered),
-        (Def::List(_) | Def::Map(..) | Def::Set(_) | Def::Array(..), _) => Ok(Piece::Entered),
-        (Def::Slice(_) | Def::Pointer(_), _) => Ok(Piece::Entered),
+        (Def::Option(_), None) => Ok(PartialValue::Entered),
+        (Def::Scalar(_) | Def::Str | Def::Opaque | Def::Dynamic, _) => Ok(PartialValue::Entered),
+        (Def::Undefined | Def::Other | Def::Enum(_) | Def::Result(..), _) => Ok(
+            PartialValue::Entered,
+        ),
+        (Def::List(_) | Def::Map(..) | Def::Set(_) | Def::Array(..), _) => Ok(
+            PartialValue::Entered,
+        ),
+        (Def::Slice(_) | Def::Pointer(_), _) => Ok(PartialValue::Entered),
     }
 }
 
@@ -130,27 +134,27 @@ pub(crate) fn fill(
     plan: &TypePlanCore,
     node: NodeId,
     column: FillColumn,
-    piece: &mut Piece,
+    partial: &mut PartialValue,
 ) -> Result<(), OutOfMemory>
     requires checked { IsChecked table.now }
     requires planned { IsPlanFor table.now plan.now }
     requires inside { node.0 < length plan.now.nodes }
-    requires full { IsFull table.now (shape_of plan.now node) (body_of piece.old) }
-    requires closed { IsClosed (body_of piece.old) }
-    ensures filled { OnOk result (body_of piece.new ≡ defaulted (column_of column) table.now
-        (shape_of plan.now node) (body_of piece.old)) }
-    ensures memory { OnErr result (takes_template (body_of piece.old) ≡ true) }
+    requires full { IsFull table.now (shape_of plan.now node) (body_of partial.old) }
+    requires closed { IsClosed (body_of partial.old) }
+    ensures filled { OnOk result (body_of partial.new ≡ defaulted (column_of column) table.now
+        (shape_of plan.now node) (body_of partial.old)) }
+    ensures memory { OnErr result (takes_template (body_of partial.old) ≡ true) }
     ensures tokens { (t : ℕ) →
-        body_occurs (body_of piece.new) t ≡ body_occurs (body_of piece.old) t }
-    ensures closed { IsClosed (body_of piece.new) }
+        body_occurs (body_of partial.new) t ≡ body_occurs (body_of partial.old) t }
+    ensures closed { IsClosed (body_of partial.new) }
 {
-    match piece {
-        Piece::Entered => {
-            *piece = fill_entered(alloc, table, plan, node, column)?;
+    match partial {
+        PartialValue::Entered => {
+            *partial = fill_entered(alloc, table, plan, node, column)?;
             Ok(())
         }
-        Piece::Whole(_) => Ok(()),
-        Piece::Begun(tracker, children) => match tracker.fields() {
+        PartialValue::Whole(_) => Ok(()),
+        PartialValue::Begun(tracker, children) => match tracker.fields() {
             Some(selected) => fill_holes(alloc, table, plan, node, column, selected, children),
             None => Ok(()),
         },

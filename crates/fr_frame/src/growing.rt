@@ -7,7 +7,7 @@ ghost use Rattle.fr_frame.specs.Cells.{held_value, value_occurs};
 ghost use Rattle.fr_frame.specs.Changes.{IsOwnerInUse};
 ghost use Rattle.fr_frame.specs.RawSlots.{stays_list, IsReformed};
 
-use crate::pieces::{count_children, grow, is_begun, is_list, reform};
+use crate::partial_values::{count_children, grow, is_begun, is_list, reform};
 use crate::places::{FrameOwner, Growth, Slot, SlotId, Tracker};
 use crate::slots::Slots;
 use fr_shape::{OutOfMemory, Value};
@@ -18,7 +18,7 @@ fn stays_list(slot: &Slot, tracker: &Tracker) -> bool
     ensures { result ≡ stays_list tracker.now slot.now }
 {
     match slot {
-        Slot::List(place, _) => tracker.keeps_items() && is_list(&place.piece),
+        Slot::List(place, _) => tracker.keeps_items() && is_list(&place.partial),
         Slot::Free(_) | Slot::Reserved | Slot::Used(_) | Slot::Item(_) => false,
     }
 }
@@ -29,7 +29,7 @@ fn reform_list(slot: &mut Slot, tracker: Tracker)
     ensures { IsReformed tracker slot.old slot.new }
 {
     match slot {
-        Slot::List(place, _) => reform(&mut place.piece, tracker),
+        Slot::List(place, _) => reform(&mut place.partial, tracker),
         Slot::Free(_) | Slot::Reserved | Slot::Used(_) | Slot::Item(_) => unreachable!(),
     }
 }
@@ -59,7 +59,7 @@ impl SlotId {
             return;
         }
         let place = slots.place_mut(self);
-        reform(&mut place.piece, tracker);
+        reform(&mut place.partial, tracker);
     }
 }
 
@@ -70,7 +70,7 @@ impl Slots {
         ensures { IfInUse self.now id.0 (λ at. result ≡ is_list_body at.body) }
     {
         match self.place(id) {
-            Some(place) => is_list(&place.piece),
+            Some(place) => is_list(&place.partial),
             None => unreachable!(),
         }
     }
@@ -81,7 +81,7 @@ impl Slots {
         ensures { IfInUse self.now id.0 (λ at. result ≡ is_begun_body at.body) }
     {
         match self.place(id) {
-            Some(place) => is_begun(&place.piece),
+            Some(place) => is_begun(&place.partial),
             None => unreachable!(),
         }
     }
@@ -97,7 +97,7 @@ impl Slots {
         let Some(above) = self.place(parent) else {
             unreachable!()
         };
-        narrow(count_children(&above.piece))
+        narrow(count_children(&above.partial))
     }
 
     /// More at a begun place, behind the children that it has, and nothing there yet.
@@ -111,7 +111,7 @@ impl Slots {
     {
         let alloc = self.alloc();
         let place = self.place_mut(parent);
-        grow(alloc, &mut place.piece, growth)
+        grow(alloc, &mut place.partial, growth)
     }
 
     /// Lets the place above have a child in this slot, which it gets first, if it is new, and hands

@@ -5,29 +5,29 @@ ghost use Rattle.fr_frame.specs.Handing.{IsHanded, IsWhole};
 ghost use Rattle.fr_frame.specs.RawItems.{with_room, IsAddedIn, IsKeptItem, IsListed, IsListIn};
 ghost use Rattle.fr_frame.specs.declared.places.Taker.{Taker};
 
-use crate::places::{FrameOwner, Item, ItemsKind, Piece, Place, Slot, SlotId, Tracker};
+use crate::places::{FrameOwner, Item, ItemsKind, PartialValue, Place, Slot, SlotId, Tracker};
 use crate::slots::Slots;
 use fr_arena::{Arena, ListRope};
 use fr_shape::{OutOfMemory, Value};
 use std::alloc::Global;
 
-/// One item more in a list, which will be in this slot: it has its room in the piece, and the slot
-/// comes behind those of the other items. It is refused where these have no room in the piece,
-/// which doesn't happen.
+/// One item more in a list, which will be in this slot: it has its room in the partial value, and
+/// the slot comes behind those of the other items. It is refused where these have no room in the
+/// partial value, which doesn't happen.
 fn push_item(
     alloc: Global,
-    piece: &mut Piece,
+    partial: &mut PartialValue,
     items: &mut ListRope<SlotId>,
     item: SlotId,
 ) -> Result<(), OutOfMemory>
-    requires { is_list_body (body_of piece.old) ≡ true }
-    ensures piece { OnOk result (piece.new ≡ with_room piece.old) }
+    requires { is_list_body (body_of partial.old) ≡ true }
+    ensures partial { OnOk result (partial.new ≡ with_room partial.old) }
     ensures items { OnOk result (items.new.items ≡ items.old.items ++ item ∷ []) }
-    ensures room { OnOk result (HasRoomIn items.old.items piece.old) }
-    ensures piece_kept { OnErr result (piece.new ≡ piece.old) }
+    ensures room { OnOk result (HasRoomIn items.old.items partial.old) }
+    ensures partial_kept { OnErr result (partial.new ≡ partial.old) }
     ensures items_kept { OnErr result (items.new ≡ items.old) }
 {
-    let Piece::Begun(_, children) = piece else {
+    let PartialValue::Begun(_, children) = partial else {
         unreachable!()
     };
     if children.len() < items.len() {
@@ -79,21 +79,22 @@ fn add_item_in(alloc: Global, slot: &mut Slot, item: SlotId) -> Result<(), OutOf
 {
     make_list(alloc, slot)?;
     match slot {
-        Slot::List(place, items) => push_item(alloc, &mut place.piece, items, item),
+        Slot::List(place, items) => push_item(alloc, &mut place.partial, items, item),
         Slot::Free(_) | Slot::Reserved | Slot::Used(_) | Slot::Item(_) => unreachable!(),
     }
 }
 
 /// Whether a list has this slot for its item of this number.
-fn is_item(piece: &Piece, items: &ListRope<SlotId>, number: u32, slot: SlotId) -> bool
-    ensures { result ≡ true → IsListedIn piece.now items.now.items slot.0 number }
+fn is_item(partial: &PartialValue, items: &ListRope<SlotId>, number: u32, slot: SlotId) -> bool
+    ensures listed { result ≡ true → IsListedIn partial.now items.now.items slot.0 number }
+    ensures other { IsListedIn partial.now items.now.items slot.0 number → result ≡ true }
 {
-    let Piece::Begun(
+    let PartialValue::Begun(
         Tracker::Items(ItemsKind::List)
         | Tracker::Items(ItemsKind::Slice)
         | Tracker::Items(ItemsKind::ClosedSlice),
         children,
-    ) = piece
+    ) = partial
     else {
         return false;
     };
@@ -126,7 +127,7 @@ fn list_of(entries: &Arena<Slot>, id: SlotId) -> Option<(SlotId, u32)>
         return None;
     }
     match entries.get(list.idx()) {
-        Slot::List(above, items) if is_item(&above.piece, items, *number, id) => {
+        Slot::List(above, items) if is_item(&above.partial, items, *number, id) => {
             Some((*list, *number))
         }
         Slot::Free(_) | Slot::Reserved | Slot::Used(_) | Slot::List(..) | Slot::Item(_) => None,
@@ -145,11 +146,11 @@ fn mark_item(slot: &mut Slot)
 }
 
 /// Puts an item that has completed into its slot, from which what was put at its place was taken.
-fn put_value(slot: &mut Slot, piece: Piece, list: SlotId, number: u32)
-    requires { IsWhole (body_of piece) }
-    ensures { IsKeptItem list number (body_of piece) slot.new }
+fn put_value(slot: &mut Slot, partial: PartialValue, list: SlotId, number: u32)
+    requires { IsWhole (body_of partial) }
+    ensures { IsKeptItem list number (body_of partial) slot.new }
 {
-    let Piece::Whole(value) = piece else {
+    let PartialValue::Whole(value) = partial else {
         unreachable!()
     };
     *slot = Slot::Item(Item {
@@ -160,14 +161,14 @@ fn put_value(slot: &mut Slot, piece: Piece, list: SlotId, number: u32)
 }
 
 /// Takes what was put at a whole place out of it.
-fn take_piece(slot: &mut Slot) -> Piece
+fn take_partial(slot: &mut Slot) -> PartialValue
     requires { IsSomeAnd (node_in slot.old) (λ at. IsWhole at.body) }
     ensures whole { IsWhole (body_of result) }
     ensures body { IsSomeAnd (node_in slot.old) (λ at. at.body ≡ body_of result) }
 {
     match slot {
-        Slot::Used(place) => std::mem::replace(&mut place.piece, Piece::Entered),
-        Slot::List(place, _) => std::mem::replace(&mut place.piece, Piece::Entered),
+        Slot::Used(place) => std::mem::replace(&mut place.partial, PartialValue::Entered),
+        Slot::List(place, _) => std::mem::replace(&mut place.partial, PartialValue::Entered),
         Slot::Free(_) | Slot::Reserved | Slot::Item(_) => unreachable!(),
     }
 }
@@ -178,8 +179,8 @@ fn put_item(slot: &mut Slot, list: SlotId, number: u32)
     requires { IsSomeAnd (node_in slot.old) (λ at. IsWhole at.body) }
     ensures { IsSomeAnd (node_in slot.old) (λ at. IsKeptItem list number at.body slot.new) }
 {
-    let piece = take_piece(slot);
-    put_value(slot, piece, list, number);
+    let partial = take_partial(slot);
+    put_value(slot, partial, list, number);
 }
 
 impl Slots {

@@ -6,7 +6,7 @@ ghost use Rattle.fr_frame.specs.declared.lacking.Question.{Question as Asking};
 
 use crate::children::Children;
 use crate::field_plans::{FillColumn, fill_of, has_validators, plans_of_fields};
-use crate::places::Piece;
+use crate::places::PartialValue;
 use fr_plan::{FieldPlan, NodeId, TypePlanCore};
 use fr_rules::{DeferredFill, PrecomputedValidator, deferred_fill};
 use fr_shape::{Def, FieldRef, Hooks, ReflectErrorKind, ShapeTable, Value};
@@ -131,8 +131,8 @@ fn test_field<H: Hooks>(
     }
 }
 
-/// Whether it is known that every field that is there passes, of a struct or of the variant that is selected. No
-/// field is looked at.
+/// Whether it is known that every field that is there passes, of a struct or of the variant that is
+/// selected. No field is looked at.
 fn passes_there(
     plan: &TypePlanCore,
     node: NodeId,
@@ -352,34 +352,34 @@ fn test_others(
 
 /// Asks this of a place. Where all children are there and none has a validator, no child is looked
 /// at.
-pub(crate) fn test_piece<H: Hooks>(
+pub(crate) fn test_partial<H: Hooks>(
     alloc: Global,
     table: &ShapeTable,
     plan: &TypePlanCore,
     hooks: &H,
     node: NodeId,
     question: Question,
-    piece: &Piece,
+    partial: &PartialValue,
 ) -> Result<(), ReflectErrorKind>
     requires checked { IsChecked table.now }
     requires planned { IsPlanFor table.now plan.now }
     requires inside { node.0 < length plan.now.nodes }
-    requires full { IsFull table.now (shape_of plan.now node) (body_of piece.now) }
+    requires full { IsFull table.now (shape_of plan.now node) (body_of partial.now) }
     ensures passing { OnOk result (asked question (H.means hooks.now) table.now
-        (shape_of plan.now node) (body_of piece.now) ≡ None) }
+        (shape_of plan.now node) (body_of partial.now) ≡ None) }
     ensures failing { IfErr result (IsAnswer question (asked question (H.means hooks.now) table.now
-        (shape_of plan.now node) (body_of piece.now))) }
+        (shape_of plan.now node) (body_of partial.now))) }
 {
-    match piece {
-        Piece::Entered => match question {
+    match partial {
+        PartialValue::Entered => match question {
             Question::Strict => test_entered(alloc, table, plan, hooks, node),
             Question::Marks => test_entered_marks(alloc, table, plan, hooks, node),
             Question::There => Err(ReflectErrorKind::UninitializedValue {
                 shape: plan.node(node).shape,
             }),
         },
-        Piece::Whole(_) => Ok(()),
-        Piece::Begun(tracker, children) => match tracker.fields() {
+        PartialValue::Whole(_) => Ok(()),
+        PartialValue::Begun(tracker, children) => match tracker.fields() {
             Some(selected) => {
                 let own = Some(children);
                 test_fields(alloc, table, plan, hooks, node, question, selected, own)

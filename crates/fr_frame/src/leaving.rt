@@ -5,15 +5,15 @@ ghost use Rattle.fr_frame.specs.Handing.{handed, unhanded, IsHanded, IsMadeWhole
 ghost use Rattle.fr_frame.specs.declared.places.Taker.{Taker};
 
 use crate::making::{make_whole, value_of};
-use crate::pieces::{end_child, release_piece};
-use crate::places::{FrameOwner, Piece, Place, SlotId, Taker};
+use crate::partial_values::{end_child, release_partial};
+use crate::places::{FrameOwner, PartialValue, Place, SlotId, Taker};
 use crate::slots::Slots;
 use fr_shape::{Ledger, OutOfMemory, Value};
 
 impl SlotId {
     /// Takes what was put at the place out of its slot, which is then free, and tells where the
     /// place belonged.
-    fn take_out(self, slots: &mut Slots) -> (FrameOwner, Piece)
+    fn take_out(self, slots: &mut Slots) -> (FrameOwner, PartialValue)
         requires { IsInUse slots.old self.0 }
         ensures owner { IfInUse slots.old self.0 (λ at. at.owner ≡ result.0) }
         ensures body { IfInUse slots.old self.0 (λ at. at.body ≡ body_of result.1) }
@@ -22,9 +22,9 @@ impl SlotId {
         ensures tokens { (t : ℕ) → slots_occur slots.old t
             ≡ slots_occur slots.new t + body_occurs (body_of result.1) t }
     {
-        let Place { owner, piece, .. } = slots.leave(self);
+        let Place { owner, partial, .. } = slots.vacate(self);
         slots.unlink(self, &owner);
-        (owner, piece)
+        (owner, partial)
     }
 
     /// The value of a place that is whole, or begun with each child there. Its slot is then free,
@@ -48,8 +48,8 @@ impl SlotId {
             RoseBy (body_occurs at.body) ledger.old ledger.new)) }
     {
         let alloc = slots.alloc();
-        let (_, piece) = self.take_out(slots);
-        value_of(alloc, piece, ledger)
+        let (_, partial) = self.take_out(slots);
+        value_of(alloc, partial, ledger)
     }
 
     /// Lets a place be whole where it is, with its value. It stays as it was where there is no
@@ -68,7 +68,7 @@ impl SlotId {
     {
         let alloc = slots.alloc();
         let place = slots.place_mut(self);
-        make_whole(alloc, &mut place.piece, ledger)
+        make_whole(alloc, &mut place.partial, ledger)
     }
 
     /// Takes a whole place, which its owner has in this slot, out of it, with its value.
@@ -81,11 +81,11 @@ impl SlotId {
         ensures tokens { (t : ℕ) → slots_occur slots.old t
             ≡ slots_occur slots.new t + occurs (view result.2) t }
     {
-        let (owner, piece) = self.take_out(slots);
+        let (owner, partial) = self.take_out(slots);
         let FrameOwner::Child(parent, i) = owner else {
             unreachable!()
         };
-        let Piece::Whole(value) = piece else {
+        let PartialValue::Whole(value) = partial else {
             unreachable!()
         };
         (parent, i, value)
@@ -120,14 +120,15 @@ impl SlotId {
     {
         let (parent, i, value) = self.take_whole(slots);
         let place = slots.place_mut(parent);
-        end_child(&mut place.piece, i, value, ledger);
+        end_child(&mut place.partial, i, value, ledger);
     }
 
     /// Hands the value of a place that is whole, or begun with each child there, to what takes it.
     /// No place is in the slot then, unless the place takes its value itself; an item of a list
     /// keeps the slot. What a set or a map leaves out of its value, as it is there twice, is
-    /// released, and so is the value of an item that its set has already. Where there is no memory for making the value, what was put at the
-    /// place is released, unless the place is to take it itself: then it stays as it was.
+    /// released, and so is the value of an item that its set has already. Where there is no memory
+    /// for making the value, what was put at the place is released, unless the place is to take it
+    /// itself: then it stays as it was.
     pub fn hand_over(
         self,
         slots: &mut Slots,
@@ -183,7 +184,7 @@ impl SlotId {
         ensures tokens { IfInUse slots.old self.0 (λ at. (t : ℕ) → slots_occur slots.old t
             ≡ slots_occur slots.new t + body_occurs at.body t) }
     {
-        let (_, piece) = self.take_out(slots);
-        release_piece(piece, ledger);
+        let (_, partial) = self.take_out(slots);
+        release_partial(partial, ledger);
     }
 }

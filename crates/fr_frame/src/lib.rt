@@ -11,7 +11,7 @@ mod completing;
 mod contents;
 mod defaulting;
 mod draining;
-mod dynamic_pieces;
+mod dynamic_values;
 mod dynamics;
 mod entering;
 mod field_plans;
@@ -26,7 +26,7 @@ mod leaving;
 mod linking;
 mod making;
 mod opening;
-mod pieces;
+mod partial_values;
 mod places;
 mod slots;
 mod storing;
@@ -36,7 +36,7 @@ mod value_index;
 pub use children::Children;
 pub use keys::Keys;
 pub use places::{
-    ChildWay, ContentKind, EntriesKind, FrameOwner, Item, ItemsKind, Piece, Place, Slot, SlotId,
-    Taker, Tracker,
+    ChildWay, ContentKind, EntriesKind, FrameOwner, Item, ItemsKind, PartialValue, Place, Slot,
+    SlotId, Taker, Tracker,
 };
 pub use slots::Slots;

@@ -4,7 +4,7 @@ ghost use Rattle.fr_frame.specs.Common.{IfSome, IsInUse, KeepsReserved, Node, Sa
 ghost use Rattle.fr_frame.specs.Cells.{held_value};
 ghost use Rattle.fr_frame.specs.Changes.{IsOwnerInUse};
 
-use crate::pieces::{link, unlink};
+use crate::partial_values::{link, unlink};
 use crate::places::{FrameOwner, SlotId};
 use crate::slots::Slots;
 use fr_shape::Value;
@@ -50,7 +50,7 @@ impl Slots {
         ensures reserved { KeepsReserved self.old self.new }
     {
         let place = self.place_mut(parent);
-        link(&mut place.piece, i, id)
+        link(&mut place.partial, i, id)
     }
 
     /// Lets the owner of a place have it in this slot, and hands out the value that it had there,
@@ -82,6 +82,6 @@ impl Slots {
             return;
         }
         let place = self.place_mut(*parent);
-        unlink(&mut place.piece, *i, id);
+        unlink(&mut place.partial, *i, id);
     }
 }

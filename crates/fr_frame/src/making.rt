@@ -8,8 +8,8 @@ ghost use Rattle.fr_frame.specs.Bodies.{around_as, boxed_as, boxes, gathers, is_
 use crate::children::Children;
 use crate::dynamics::{array_of, object_of};
 use crate::gathering::{distinct_items, merge_entries};
-use crate::pieces::release_piece;
-use crate::places::{ContentKind, EntriesKind, ItemsKind, Piece, Tracker};
+use crate::partial_values::release_partial;
+use crate::places::{ContentKind, EntriesKind, ItemsKind, PartialValue, Tracker};
 use fr_shape::{Items, Ledger, OutOfMemory, Value};
 use std::alloc::Global;
 
@@ -221,25 +221,29 @@ fn value_of_begun(
 
 /// The value of a place that is whole, or begun with each child there. Without memory the place is
 /// handed back.
-fn value_or_back(alloc: Global, piece: Piece, ledger: &mut Ledger) -> Result<Value, Piece>
-    requires there { IsSome (value_of (body_of piece)) }
-    requires room { Room (body_occurs (body_of piece)) ledger.old }
-    ensures value { IfOk result (λ v. value_of (body_of piece) ≡ Some (view v)) }
-    ensures memory { takes_memory (body_of piece) ≡ false → IsOk result }
-    ensures conserved { IfOk result (λ v. Conserved (body_occurs (body_of piece)) ledger.old
+fn value_or_back(
+    alloc: Global,
+    partial: PartialValue,
+    ledger: &mut Ledger,
+) -> Result<Value, PartialValue>
+    requires there { IsSome (value_of (body_of partial)) }
+    requires room { Room (body_occurs (body_of partial)) ledger.old }
+    ensures value { IfOk result (λ v. value_of (body_of partial) ≡ Some (view v)) }
+    ensures memory { takes_memory (body_of partial) ≡ false → IsOk result }
+    ensures conserved { IfOk result (λ v. Conserved (body_occurs (body_of partial)) ledger.old
         (occurs (view v)) ledger.new) }
-    ensures handed_back { IfErr result (λ back. body_of back ≡ body_of piece) }
+    ensures handed_back { IfErr result (λ back. body_of back ≡ body_of partial) }
     ensures ledger_kept { OnErr result (ledger.new ≡ ledger.old) }
 {
-    match piece {
-        Piece::Whole(value) => Ok(value),
-        Piece::Begun(mut tracker, children) => {
+    match partial {
+        PartialValue::Whole(value) => Ok(value),
+        PartialValue::Begun(mut tracker, children) => {
             match value_of_begun(alloc, &mut tracker, children, ledger) {
                 Ok(value) => Ok(value),
-                Err(back) => Err(Piece::Begun(tracker, back)),
+                Err(back) => Err(PartialValue::Begun(tracker, back)),
             }
         }
-        Piece::Entered => unreachable!(),
+        PartialValue::Entered => unreachable!(),
     }
 }
 
@@ -247,25 +251,25 @@ fn value_or_back(alloc: Global, piece: Piece, ledger: &mut Ledger) -> Result<Val
 /// making it, what was put at the place is released. Most places are whole, so that way is short.
 pub(crate) fn value_of(
     alloc: Global,
-    piece: Piece,
+    partial: PartialValue,
     ledger: &mut Ledger,
 ) -> Result<Value, OutOfMemory>
-    requires there { IsSome (value_of (body_of piece)) }
-    requires room { Room (body_occurs (body_of piece)) ledger.old }
-    ensures value { IfOk result (λ v. value_of (body_of piece) ≡ Some (view v)) }
-    ensures memory { takes_memory (body_of piece) ≡ false → IsOk result }
-    ensures conserved { IfOk result (λ v. Conserved (body_occurs (body_of piece)) ledger.old
+    requires there { IsSome (value_of (body_of partial)) }
+    requires room { Room (body_occurs (body_of partial)) ledger.old }
+    ensures value { IfOk result (λ v. value_of (body_of partial) ≡ Some (view v)) }
+    ensures memory { takes_memory (body_of partial) ≡ false → IsOk result }
+    ensures conserved { IfOk result (λ v. Conserved (body_occurs (body_of partial)) ledger.old
         (occurs (view v)) ledger.new) }
     ensures released { OnErr result
-        (RoseBy (body_occurs (body_of piece)) ledger.old ledger.new) }
+        (RoseBy (body_occurs (body_of partial)) ledger.old ledger.new) }
 {
-    if let Piece::Whole(value) = piece {
+    if let PartialValue::Whole(value) = partial {
         return Ok(value);
     }
-    match value_or_back(alloc, piece, ledger) {
+    match value_or_back(alloc, partial, ledger) {
         Ok(value) => Ok(value),
         Err(back) => {
-            release_piece(back, ledger);
+            release_partial(back, ledger);
             Err(OutOfMemory)
         }
     }
@@ -275,30 +279,30 @@ pub(crate) fn value_of(
 /// it was where there is no memory for making it.
 pub(crate) fn make_whole(
     alloc: Global,
-    piece: &mut Piece,
+    partial: &mut PartialValue,
     ledger: &mut Ledger,
 ) -> Result<(), OutOfMemory>
-    requires there { IsSome (value_of (body_of piece.old)) }
-    requires room { Room (body_occurs (body_of piece.old)) ledger.old }
-    ensures whole { OnOk result ((v : Val) → value_of (body_of piece.old) ≡ Some v
-        → body_of piece.new ≡ whole_body v) }
-    ensures memory { takes_memory (body_of piece.old) ≡ false → IsOk result }
-    ensures refused { OnErr result (body_of piece.new ≡ body_of piece.old) }
-    ensures conserved { Conserved (body_occurs (body_of piece.old)) ledger.old
-        (body_occurs (body_of piece.new)) ledger.new }
+    requires there { IsSome (value_of (body_of partial.old)) }
+    requires room { Room (body_occurs (body_of partial.old)) ledger.old }
+    ensures whole { OnOk result ((v : Val) → value_of (body_of partial.old) ≡ Some v
+        → body_of partial.new ≡ whole_body v) }
+    ensures memory { takes_memory (body_of partial.old) ≡ false → IsOk result }
+    ensures refused { OnErr result (body_of partial.new ≡ body_of partial.old) }
+    ensures conserved { Conserved (body_occurs (body_of partial.old)) ledger.old
+        (body_occurs (body_of partial.new)) ledger.new }
     ensures ledger_kept { OnErr result (ledger.new ≡ ledger.old) }
 {
-    if let Piece::Whole(_) = piece {
+    if let PartialValue::Whole(_) = partial {
         return Ok(());
     }
-    let before = std::mem::replace(piece, Piece::Entered);
+    let before = std::mem::replace(partial, PartialValue::Entered);
     match value_or_back(alloc, before, ledger) {
         Ok(value) => {
-            *piece = Piece::Whole(value);
+            *partial = PartialValue::Whole(value);
             Ok(())
         }
         Err(back) => {
-            *piece = back;
+            *partial = back;
             Err(OutOfMemory)
         }
     }

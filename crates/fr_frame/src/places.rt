@@ -279,7 +279,7 @@ pub(crate) enum Growth {
 
 /// What was put at a place so far: nothing, all of its value, or some of its children.
 #[derive(Drop)]
-pub enum Piece {
+pub enum PartialValue {
     Entered,
     Whole(Value),
     Begun(Tracker, Children),
@@ -293,7 +293,7 @@ pub struct Place {
     pub owner: FrameOwner,
     pub stored: bool,
     pub depth: u32,
-    pub piece: Piece,
+    pub partial: PartialValue,
 }
 
 /// An item of the list in a slot that has completed: its value, and its number among the list's
@@ -308,8 +308,8 @@ pub struct Item {
 /// A slot: free, with the free one that comes after it; kept for a place that is about to come; in
 /// use; in use by a list, or a pointer to a slice, whose last children are items that lie in these
 /// slots; or with an item that has completed, which keeps its slot until its list completes, starts
-/// anew or is released. In the list's piece an item isn't there, but has its room, so that the list
-/// needs no memory to complete.
+/// anew or is released. In the list's partial value an item isn't there, but has its room, so that
+/// the list needs no memory to complete.
 #[derive(Drop)]
 pub enum Slot {
     Free(Option<SlotId>),

@@ -113,17 +113,17 @@ impl Slots {
     }
 
     /// Puts a place into a slot that is kept for it.
-    pub(crate) fn lower(&mut self, id: SlotId, place: Place)
+    pub(crate) fn occupy(&mut self, id: SlotId, place: Place)
         requires reserved { IsReserved self.old id.0 }
         ensures rest { Shows self.new (with_slot (heap_of self.old) id.0 (Some (node_of place))) }
         ensures tokens { (t : ℕ) → slots_occur self.new t
-            ≡ slots_occur self.old t + body_occurs (body_of place.piece) t }
+            ≡ slots_occur self.old t + body_occurs (body_of place.partial) t }
     {
         put(&mut self.entries, id, Slot::Used(place));
     }
 
-    /// The place in a slot that is in use, for writing. A list has its items in its piece from then
-    /// on.
+    /// The place in a slot that is in use, for writing. A list has its items in its partial value
+    /// from then on.
     pub(crate) fn place_mut(&mut self, id: SlotId) -> &mut Place
         requires { IsInUse self.old id.0 }
         ensures* writes_back { sem 𝓛 (Lends the_row place.the_row self.entry result
@@ -136,12 +136,12 @@ impl Slots {
     }
 
     /// Takes the place out of a slot, which may then serve another.
-    pub(crate) fn leave(&mut self, id: SlotId) -> Place
+    pub(crate) fn vacate(&mut self, id: SlotId) -> Place
         requires { IsInUse self.old id.0 }
         ensures place { heap_of self.old id.0 ≡ Some (node_of result) }
         ensures rest { Shows self.new (with_slot (heap_of self.old) id.0 None) }
         ensures tokens { (t : ℕ) → slots_occur self.old t
-            ≡ slots_occur self.new t + body_occurs (body_of result.piece) t }
+            ≡ slots_occur self.new t + body_occurs (body_of result.partial) t }
     {
         drain(&mut self.entries, &mut self.free, id);
         let next = self.free;

@@ -6,8 +6,8 @@ ghost use Rattle.fr_frame.specs.RawSlots.{with_stored};
 ghost use Rattle.fr_frame.specs.declared.places.SlotId.{SlotId as Number};
 
 use crate::draining::holds_item;
-use crate::pieces::{count_children, is_list, release_piece, slot_at};
-use crate::places::{Piece, Slot, SlotId};
+use crate::partial_values::{count_children, is_list, release_partial, slot_at};
+use crate::places::{PartialValue, Slot, SlotId};
 use crate::slots::Slots;
 use fr_arena::{Arena, ListRope};
 use fr_shape::Ledger;
@@ -57,24 +57,24 @@ fn mark_slot(slot: &mut Slot, stored: bool)
 fn slot_of_item(
     entries: &Arena<Slot>,
     list: SlotId,
-    piece: &Piece,
+    partial: &PartialValue,
     items: &ListRope<SlotId>,
     i: usize,
 ) -> Option<SlotId>
     ensures { option_map (λ (child : Number). child.0) result
         ≡ option_and_then slot_of_cell (cell_at
-        (body_with (items_of entries.now) list.0 items.now.items (body_of piece.now)) i) }
+        (body_with (items_of entries.now) list.0 items.now.items (body_of partial.now)) i) }
 {
-    let count = count_children(piece);
+    let count = count_children(partial);
     let before = count.saturating_sub(items.len());
     if i >= count {
         return None;
     }
-    if !is_list(piece) {
-        return slot_at(piece, i);
+    if !is_list(partial) {
+        return slot_at(partial, i);
     }
     if i < before {
-        return slot_at(piece, i);
+        return slot_at(partial, i);
     }
     let slot = *items.get(i - before);
     if holds_item(entries, slot, list, i) {
@@ -93,8 +93,8 @@ impl Slots {
             if self.place(SlotId(i)).is_none() {
                 continue;
             }
-            let place = self.leave(SlotId(i));
-            release_piece(place.piece, ledger);
+            let place = self.vacate(SlotId(i));
+            release_partial(place.partial, ledger);
         }
     }
 
@@ -107,8 +107,8 @@ impl Slots {
             return None;
         }
         match self.entries.get(id.idx()) {
-            Slot::Used(place) => slot_at(&place.piece, i),
-            Slot::List(place, items) => slot_of_item(&self.entries, id, &place.piece, items, i),
+            Slot::Used(place) => slot_at(&place.partial, i),
+            Slot::List(place, items) => slot_of_item(&self.entries, id, &place.partial, items, i),
             Slot::Free(_) | Slot::Reserved | Slot::Item(_) => None,
         }
     }

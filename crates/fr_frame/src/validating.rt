@@ -6,7 +6,7 @@ ghost use Rattle.fr_frame.specs.Common.{HasAllChildren, HasValidators, IfErr, Is
 use crate::children::Children;
 use crate::field_plans::{fields_told, has_validators};
 use crate::lacking::run_validators;
-use crate::places::Piece;
+use crate::places::PartialValue;
 use fr_plan::{FieldPlan, NodeId, TypePlanCore};
 use fr_shape::{Hooks, ReflectErrorKind, Value};
 use std::alloc::Global;
@@ -79,20 +79,20 @@ pub(crate) fn test_valid<H: Hooks>(
     plan: &TypePlanCore,
     hooks: &H,
     node: NodeId,
-    piece: &Piece,
+    partial: &PartialValue,
 ) -> Result<(), ReflectErrorKind>
     requires planned { IsPlanned plan.now node }
-    requires there { HasAllChildren (body_of piece.now) }
+    requires there { HasAllChildren (body_of partial.now) }
     ensures passing { OnOk result ((table : Table) → IsChecked table → IsPlanFor table plan.now
-        → invalid (H.means hooks.now) table (shape_of plan.now node) (body_of piece.now) ≡ None) }
+        → invalid (H.means hooks.now) table (shape_of plan.now node) (body_of partial.now) ≡ None) }
     ensures failing { IfErr result (λ kind. (table : Table) → IsChecked table
         → IsPlanFor table plan.now
         → IsCauseOf (invalid (H.means hooks.now) table (shape_of plan.now node)
-        (body_of piece.now)) kind) }
+        (body_of partial.now)) kind) }
 {
-    match piece {
-        Piece::Entered | Piece::Whole(_) => Ok(()),
-        Piece::Begun(tracker, children) => match tracker.fields() {
+    match partial {
+        PartialValue::Entered | PartialValue::Whole(_) => Ok(()),
+        PartialValue::Begun(tracker, children) => match tracker.fields() {
             Some(selected) => test_values(alloc, plan, hooks, node, selected, children),
             None => Ok(()),
         },

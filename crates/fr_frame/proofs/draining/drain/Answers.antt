@@ -1,8 +1,4 @@
-use Rattle.std.proofs.Common.{inl, refl}
 use Rattle.fr_frame.proofs.draining.drain.Goals as goal
 
 pub returns-then-has_items-clause-plain : goal.returns-then-has_items-clause-plain
 returns-then-has_items-clause-plain c used = c.drain_list.ensures.plain
-
-pub returns-else-has_items-clause-others : goal.returns-else-has_items-clause-others
-returns-else-has_items-clause-others c m ne = inl refl

@@ -1,4 +1,4 @@
-use Rattle.std.proofs.Common.{true, ◌≡◌, length-set, sym, ◌∙◌, arith}
+use Rattle.std.proofs.Common.{true, ◌≡◌, sym, ◌∙◌, arith}
 use Rattle.fr_frame.specs.Common.{Slot, is_list}
 use Rattle.fr_frame.proofs.DrainLaws.{is_drained, list_in}
 use Rattle.fr_frame.proofs.HeapLaws.{holds_inside, holds_read}
@@ -12,24 +12,12 @@ unreachable-requires c =
     let here = list_in c.get_mut.result.now list in
     c.in_default.not-List here.0 here.1 (c.replace.ensures.value ∙ here.2)
 
-pub get_mut-requires-2 : goal.get_mut-requires-2
-get_mut-requires-2 c = record {
-  inside =
-      omega (
-        arith,
-        holds_inside c.args.entries.now c.args.id.0 (λ (slot : Slot). is_list slot ≡ true) c.requires.list,
-        c.idx-2.ensures.number,
-        c.put_items_in.ensures.freed.as_many,
-        length-set c.args.entries.now c.idx.result c.replace.new.dest,
-      );
-}
-
 pub returns : goal.returns
 returns c =
     let drained = is_drained c.args.id.0 c.args.entries.now c.put_items_in.new.entries c.idx.result c.idx-2.result c.get_mut.result.now c.replace.new.dest
-    c.in-List.place c.in-List.items c.put_items_in.new.piece
+    c.in-List.place c.in-List.items c.put_items_in.new.partial
     (omega (arith, holds_inside c.args.entries.now c.args.id.0 (λ (slot : Slot). is_list slot ≡ true) c.requires.list, c.idx.ensures.number)) c.idx.ensures.number c.get_mut.ensures.value (sym c.replace.ensures.value ∙ c.in-List.is) c.replace.ensures.after
-    c.put_items_in.ensures.freed c.put_items_in.ensures.piece c.idx-2.ensures.number in record {
+    c.put_items_in.ensures.freed c.put_items_in.ensures.partial c.idx-2.ensures.number in record {
       seen = drained.seen;
       plain = drained.plain;
       others = drained.others;

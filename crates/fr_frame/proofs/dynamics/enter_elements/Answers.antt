@@ -1,6 +1,7 @@
 use Rattle.std.proofs.Common.{map, sym, ◌∙◌, arith}
 use Rattle.fr_frame.specs.Common.{into_iter_items}
-use Rattle.fr_frame.proofs.DynamicLaws.{element_cell, element_cells, entered_all, none_left}
+use Rattle.std.proofs.lemmas.List.{nil_from_length}
+use Rattle.fr_frame.proofs.DynamicLaws.{element_cell, element_cells, entered_all}
 use Rattle.fr_frame.proofs.dynamics.enter_elements.Goals as goal
 
 pub returns : goal.returns
@@ -8,5 +9,5 @@ returns c =
     let rest = into_iter_items c.loop-element.rest in
     let done = c.in_default.ensures.cases.0 in
     entered_all element_cell c.loop-element.children c.loop-element.i rest (map element_cell c.args.elements.items)
-    (none_left rest (omega (arith, c.loop-element.invariant.count))) (omega (arith, c.loop-element.invariant.number))
+    (nil_from_length rest (omega (arith, c.loop-element.invariant.count))) (omega (arith, c.loop-element.invariant.number))
     c.loop-element.invariant.entered ∙ sym (element_cells c.args.elements.items)

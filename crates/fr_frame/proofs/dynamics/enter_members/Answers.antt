@@ -1,6 +1,7 @@
 use Rattle.std.proofs.Common.{map, sym, ◌∙◌, arith}
 use Rattle.fr_frame.specs.Common.{into_iter_items}
-use Rattle.fr_frame.proofs.DynamicLaws.{member_cell, member_cells, entered_all, none_left}
+use Rattle.std.proofs.lemmas.List.{nil_from_length}
+use Rattle.fr_frame.proofs.DynamicLaws.{member_cell, member_cells, entered_all}
 use Rattle.fr_frame.proofs.dynamics.enter_members.Goals as goal
 
 pub returns : goal.returns
@@ -8,5 +9,5 @@ returns c =
     let rest = into_iter_items c.loop-member.rest in
     let done = c.in_default.ensures.cases.0 in
     entered_all member_cell c.loop-member.children c.loop-member.i rest (map member_cell c.args.members.items)
-    (none_left rest (omega (arith, c.loop-member.invariant.count))) (omega (arith, c.loop-member.invariant.number))
+    (nil_from_length rest (omega (arith, c.loop-member.invariant.count))) (omega (arith, c.loop-member.invariant.number))
     c.loop-member.invariant.entered ∙ sym (member_cells c.args.members.items)

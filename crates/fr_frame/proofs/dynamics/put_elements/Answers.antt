@@ -1,7 +1,8 @@
 use Rattle.std.proofs.Common.{◌≡◌, [], map, sym, ap, ◌∙◌, arith}
 use Rattle.fr_frame.specs.Common.{dyn_view, into_iter_items, vals_occur, vals_view}
 use Rattle.fr_shape.specs.View.{dynamics_of}
-use Rattle.fr_frame.proofs.DynamicLaws.{dynamic_of, elements_made, made_all, none_left, room_next}
+use Rattle.std.proofs.lemmas.List.{nil_from_length}
+use Rattle.fr_frame.proofs.DynamicLaws.{dynamic_of, elements_made, made_all, room_next}
 use Rattle.fr_frame.proofs.dynamics.put_elements.Goals as goal
 
 pub dynamic_in-requires : goal.dynamic_in-requires
@@ -14,6 +15,6 @@ dynamic_in-requires c = record {
 pub returns-clause-elements : goal.returns-clause-elements
 returns-clause-elements c =
     let none : map dynamic_of (into_iter_items c.loop-value.rest) ≡ [] =
-    ap (map dynamic_of) (none_left (into_iter_items c.loop-value.rest) (grind (arith, c.loop-value.invariant.count))) in
+    ap (map dynamic_of) (nil_from_length (into_iter_items c.loop-value.rest) (grind (arith, c.loop-value.invariant.count))) in
     ap dynamics_of (made_all dyn_view c.loop-value.elements.items _ (map dynamic_of c.args.values.items) none c.loop-value.invariant.made)
     ∙ sym (elements_made c.args.values.items)

@@ -1,17 +1,17 @@
 use Rattle.std.proofs.Common.{sym, ◌∙◌, ap, subst}
-use Rattle.fr_frame.specs.Common.{Body, IsClosed, Piece, as_tracker, begun_body, body_occurs, body_of, column_of, defaulted, entered_body, shape_of}
+use Rattle.fr_frame.specs.Common.{Body, IsClosed, PartialValue, as_tracker, begun_body, body_occurs, body_of, column_of, defaulted, entered_body, shape_of}
 use Rattle.fr_frame.proofs.FillLaws.{has_filled, others_stay}
 use Rattle.fr_frame.proofs.filling.fill.Goals as goal
 
-pub returns-in_ok-piece-in-Entered-clause-tokens : goal.returns-in_ok-piece-in-Entered-clause-tokens
-returns-in_ok-piece-in-Entered-clause-tokens c t =
-    ap (λ (body : Body). body_occurs body t) c.in_ok-piece-in-Entered.ensures.filled
+pub returns-in_ok-partial-in-Entered-clause-tokens : goal.returns-in_ok-partial-in-Entered-clause-tokens
+returns-in_ok-partial-in-Entered-clause-tokens c t =
+    ap (λ (body : Body). body_occurs body t) c.in_ok-partial-in-Entered.ensures.filled
     ∙ (has_filled (column_of c.args.column) c.args.table.now (shape_of c.args.plan.now c.args.node) c.requires.checked entered_body).same_tokens t
-    ∙ ap (λ (piece : Piece). body_occurs (body_of piece) t) (sym c.in-Entered.is)
+    ∙ ap (λ (partial : PartialValue). body_occurs (body_of partial) t) (sym c.in-Entered.is)
 
-pub returns-in_ok-piece-in-Entered-clause-closed : goal.returns-in_ok-piece-in-Entered-clause-closed
-returns-in_ok-piece-in-Entered-clause-closed c =
-    subst IsClosed (sym c.in_ok-piece-in-Entered.ensures.filled)
+pub returns-in_ok-partial-in-Entered-clause-closed : goal.returns-in_ok-partial-in-Entered-clause-closed
+returns-in_ok-partial-in-Entered-clause-closed c =
+    subst IsClosed (sym c.in_ok-partial-in-Entered.ensures.filled)
     ((has_filled (column_of c.args.column) c.args.table.now (shape_of c.args.plan.now c.args.node) c.requires.checked entered_body).closed tt)
 
 pub returns-in-None-clause-filled : goal.returns-in-None-clause-filled
@@ -19,5 +19,5 @@ returns-in-None-clause-filled c =
     ap (begun_body (as_tracker c.in-Begun.tracker))
     (others_stay (column_of c.args.column) c.args.table.now (shape_of c.args.plan.now c.args.node) (as_tracker c.in-Begun.tracker)
     (sym c.in-None.ensures) 0 c.in-Begun.children)
-    ∙ ap (λ (piece : Piece). defaulted (column_of c.args.column) c.args.table.now (shape_of c.args.plan.now c.args.node) (body_of piece))
+    ∙ ap (λ (partial : PartialValue). defaulted (column_of c.args.column) c.args.table.now (shape_of c.args.plan.now c.args.node) (body_of partial))
     (sym c.in-Begun.is)

@@ -17,6 +17,6 @@ returns-in-List c = record {
       (omega (arith, c.len.ensures.count, c.if-list-len.false)) c.get-2.ensures.value
       ∙ ap (λ (slot : Slot). Some slot) c.in-List.is;
   listed =
-      subst (λ rope. IsListedIn c.in-List.above.piece rope.items c.args.id.0 c.in-Child.number) c.deref.ensures
-      (c.is_item.ensures c.if-is_item.true);
+      subst (λ rope. IsListedIn c.in-List.above.partial rope.items c.args.id.0 c.in-Child.number) c.deref.ensures
+      (c.is_item.ensures.listed c.if-is_item.true);
 }

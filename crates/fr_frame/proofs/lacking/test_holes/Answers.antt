@@ -1,7 +1,7 @@
 use Rattle.std.proofs.Common.{◌≡◌, ℕ, replicate, None, Option, refl, sym, ◌∙◌, ap, subst}
 use Rattle.fr_frame.specs.Common.{IfErr, IsAnswer, IsFullAs, Meanings, OnOk, Question, ReflectErrorKind, Table, absent, as_fields, ask, ask_holes, child_count, def_of, first_asked, first_unmet, shape_of}
 use Rattle.fr_frame.proofs.AskLaws.{holes_are, holes_lack, unmet_is}
-use Rattle.fr_frame.proofs.FillLaws.{length_holes}
+use Rattle.std.proofs.lemmas.List.{length-replicate}
 use Rattle.fr_frame.proofs.lacking.test_holes.Goals as goal
 
 holes_asked : (question : Question) (means : Meanings) (table : Table) (s : ℕ)
@@ -15,7 +15,7 @@ holes_asked Question.There means table s = refl
 pub test_fields-requires-clause-full : goal.test_fields-requires-clause-full
 test_fields-requires-clause-full g c =
     subst (IsFullAs (def_of c.args.table.now (shape_of c.args.plan.now c.args.node)) (as_fields None))
-    (sym (length_holes (child_count c.args.table.now (shape_of c.args.plan.now c.args.node)))) c.requires.described
+    (sym (length-replicate (child_count c.args.table.now (shape_of c.args.plan.now c.args.node)) absent)) c.requires.described
 
 pub returns-clause-passing : goal.returns-clause-passing
 returns-clause-passing g c =

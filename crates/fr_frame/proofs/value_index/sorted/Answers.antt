@@ -22,26 +22,15 @@ loop-number-preserved c =
     ap (map keyed_of) c.in_ok-push.ensures.items ∙ map_push keyed_of c.loop-number.keyed.items _ in
     keyed_more values numbers i c.index-values-number.result (map keyed_of c.loop-number.keyed.items) (map keyed_of c.push.new.self.items) c.loop-number-test.true within c.index-values-number.is pushed c.loop-number.invariant
 
-pub returns-clause-moved : goal.returns-clause-moved
-returns-clause-moved c =
+pub returns : goal.returns
+returns c =
     let numbers = c.args.numbers.now in
     let vs = map view c.args.values.now in
     let keyed = c.loop-number.keyed.items in
-    let entries = c.sort.new.self.items in
     let same : map keyed_of keyed ≡ map (with_value vs) numbers = c.loop-number.invariant ∙ ap (map (with_value vs)) (take_all c.loop-number.number-index numbers c.loop-number-test.false) in
-    let all : c.loop-entry.run.items ≡ map (λ (e : ByContents × ℕ). e.1) entries =
+    let all : c.loop-entry.run.items ≡ map (λ (e : ByContents × ℕ). e.1) c.sort.new.self.items =
     c.loop-entry.invariant ∙ ap (map (λ (e : ByContents × ℕ). e.1)) (take_all c.loop-entry.entry-index c.as_slice-entry-items.result.now c.loop-entry-test.false ∙ c.as_slice-entry-items.ensures.value) in
     let below : (n : ℕ) → has_number numbers n ≡ true → n < length vs = λ n has. omega (arith, c.requires.below n has, length-map c.args.values.now view) in
-    subst (IsPermutation numbers) (sym all) (sorted_run vs numbers keyed entries below same c.sort.ensures.permutation c.in_ok-sort.ensures.sorted).0
-
-pub returns-clause-run : goal.returns-clause-run
-returns-clause-run c =
-    let numbers = c.args.numbers.now in
-    let vs = map view c.args.values.now in
-    let keyed = c.loop-number.keyed.items in
-    let entries = c.sort.new.self.items in
-    let same : map keyed_of keyed ≡ map (with_value vs) numbers = c.loop-number.invariant ∙ ap (map (with_value vs)) (take_all c.loop-number.number-index numbers c.loop-number-test.false) in
-    let all : c.loop-entry.run.items ≡ map (λ (e : ByContents × ℕ). e.1) entries =
-    c.loop-entry.invariant ∙ ap (map (λ (e : ByContents × ℕ). e.1)) (take_all c.loop-entry.entry-index c.as_slice-entry-items.result.now c.loop-entry-test.false ∙ c.as_slice-entry-items.ensures.value) in
-    let below : (n : ℕ) → has_number numbers n ≡ true → n < length vs = λ n has. omega (arith, c.requires.below n has, length-map c.args.values.now view) in
-    subst (IsRun vs) (sym all) (sorted_run vs numbers keyed entries below same c.sort.ensures.permutation c.in_ok-sort.ensures.sorted).1
+    let both = sorted_run vs numbers keyed c.sort.new.self.items below same c.sort.ensures.permutation
+    c.in_ok-sort.ensures.sorted in
+    record { moved = subst (IsPermutation numbers) (sym all) both.0; run = subst (IsRun vs) (sym all) both.1 }

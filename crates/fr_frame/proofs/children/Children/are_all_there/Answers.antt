@@ -6,5 +6,5 @@ use Rattle.fr_frame.proofs.children.Children.are_all_there.Goals as goal
 
 pub returns : goal.returns
 returns c =
-    all_set_is c.self.inside.given c.self.inside.values.items c.args.self.now c.all_set.result c.self.view_is
+    all_set_is c.self.inside.given _ _ c.self.view_is c.all_set.result
     (subst (λ (n : ℕ). IsTrue c.all_set.result ↔ HasAllBelow n c.self.inside.given) (omega (arith, c.len.ensures)) c.all_set.ensures.all)

@@ -1,6 +1,6 @@
 use Rattle.std.proofs.Common.{ap, sym, ◌∙◌, arith}
 use Rattle.fr_frame.specs.Common.{has_same_cell, view}
-use Rattle.fr_frame.proofs.CellLaws.{past_all}
+use Rattle.std.proofs.lemmas.List.{drop_all}
 use Rattle.fr_frame.proofs.ItemLaws.{same_here, same_later}
 use Rattle.fr_frame.proofs.children.Children.has_same.Goals as goal
 
@@ -22,4 +22,4 @@ returns-then-is_same c =
 pub returns : goal.returns
 returns c =
     sym (c.loop-i.invariant ∙ ap (has_same_cell (view c.args.value.now))
-    (past_all c.args.self.now c.loop-i.i (omega (arith, c.len-i-end.ensures.count))))
+    (drop_all c.loop-i.i c.args.self.now (omega (arith, c.len-i-end.ensures.count))))

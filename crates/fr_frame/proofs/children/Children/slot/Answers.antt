@@ -1,25 +1,20 @@
 use Rattle.std.proofs.Common.{sym, ◌∙◌, arith}
-use Rattle.std.specs.FinSet as finite
-use Rattle.fr_frame.specs.Common.{view}
-use Rattle.fr_frame.proofs.CellLaws.{same_length, has_room, cell_is, slot_here, no_slot_at}
+use Rattle.fr_frame.proofs.CellLaws.{same_length, has_room, slot_here, no_slot_at}
 use Rattle.fr_frame.proofs.children.Children.slot.Goals as goal
 
 pub get-requires : goal.get-requires
-get-requires c = record { inside = has_room c.self.inside.given c.self.inside.values.items c.args.self.now c.args.i c.self.invariant.room c.self.view_is c.requires.inside }
+get-requires c = record { inside = has_room c.self.inside.given _ _ c.self.view_is c.args.i c.self.invariant.room c.requires.inside }
 
 pub index-requires : goal.index-requires
-index-requires c = omega (arith, same_length c.self.inside.given c.self.inside.values.items c.args.self.now c.self.view_is)
+index-requires c = omega (arith, same_length c.self.inside.given _ _ c.self.view_is)
 
 pub returns-then-get : goal.returns-then-get
-returns-then-get c = record {
-  slot = sym (no_slot_at c.self.inside.given c.self.inside.values.items c.args.self.now c.args.i c.self.view_is c.requires.inside (sym c.get.ensures.member ∙ c.if-get.true));
-}
+returns-then-get c = record { slot = no_slot_at c.self.inside.given _ _ c.self.view_is c.args.i (sym c.get.ensures.member ∙ c.if-get.true) }
 
 pub returns : goal.returns
 returns c = record {
   slot =
       c.slot_in.ensures
-      ∙ slot_here c.args.self.now c.args.i (finite.contains c.self.inside.given.members c.args.i) (view c.index.result.now)
-      (cell_is c.self.inside.given c.self.inside.values.items c.args.self.now c.args.i c.index.result.now c.self.view_is c.requires.inside c.index.ensures)
+      ∙ slot_here c.self.inside.given _ _ c.self.view_is c.args.i c.index.result.now c.requires.inside c.index.ensures
       (sym c.get.ensures.member ∙ c.if-get.false);
 }

@@ -14,19 +14,16 @@ returns-then-is_begun-clause-begun c =
 pub returns-clause-begun : goal.returns-clause-begun
 returns-clause-begun c =
     on_ok_weaker c.open.result
-    (shows c.args.slots.now c.args.self.0 c.place_mut-place.result.now c.place_mut-place.ensures.value c.open.new.piece
+    (shows c.args.slots.now c.args.self.0 c.place_mut-place.result.now c.place_mut-place.ensures.value c.open.new.partial
     (opened (as_tracker c.args.tracker) c.args.count)) c.open.ensures.opened
 
 pub returns-clause-refused : goal.returns-clause-refused
 returns-clause-refused c =
     IfErr-weaker c.open.result _ _
-    (λ e. shows_same c.args.slots.now c.args.self.0 c.place_mut-place.result.now c.place_mut-place.ensures.value c.open.new.piece)
+    (λ e. shows_same c.args.slots.now c.args.self.0 c.place_mut-place.result.now c.place_mut-place.ensures.value c.open.new.partial)
     c.open.ensures.refused
 
 pub returns-clause-tokens : goal.returns-clause-tokens
 returns-clause-tokens c t =
-    omega (
-      arith,
-      occur_change c.args.slots.now c.args.self.0 c.place_mut-place.result.now c.place_mut-place.ensures.value c.open.new.piece t,
-      c.open.ensures.tokens t,
-    )
+    let changed = occur_change c.args.slots.now c.args.self.0 c.place_mut-place.result.now c.place_mut-place.ensures.value c.open.new.partial t in
+    omega (arith, c.open.ensures.tokens t)

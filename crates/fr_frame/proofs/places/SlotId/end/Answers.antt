@@ -1,32 +1,10 @@
-use Rattle.std.proofs.Common.{◌≡◌, ◌+◌, Some, ap, set, subst, arith}
-use Rattle.fr_frame.specs.Common.{Body, FrameOwner, IsSetBody, Node, Room, Slot, absent, body_occurs, body_of, cell_at, heap_of, node_in, node_of, occurs, option_and_then, slots_occur, view, with_ended}
+use Rattle.std.proofs.Common.{◌+◌, set, subst, arith}
+use Rattle.fr_frame.specs.Common.{Body, FrameOwner, Node, Room, Slot, body_occurs, body_of, heap_of, occurs, slots_occur, view, with_ended}
 use Rattle.fr_frame.specs.Heap.{ends}
 use Rattle.fr_frame.specs.declared.places.Taker.{Taker}
-use Rattle.fr_frame.proofs.HandLaws.{ends_unlinked, held_there, in_use, moved_conserved, passed, set_still, so_of}
-use Rattle.fr_frame.proofs.PlaceLaws.{occur_change, repieced, shows}
+use Rattle.fr_frame.proofs.HandLaws.{ends_unlinked, moved_conserved, passed, so_of}
+use Rattle.fr_frame.proofs.PlaceLaws.{occur_change, with_partial, shows}
 use Rattle.fr_frame.proofs.places.SlotId.end.Goals as goal
-
-pub place_mut-place-requires : goal.place_mut-place-requires
-place_mut-place-requires c =
-    in_use c.take_whole-i.new.slots c.take_whole-i.result.0.0
-    (λ (at : Node). cell_at at.body c.take_whole-i.result.1 ≡ Some absent)
-    (held_there c.take_whole-i.new.slots c.take_whole-i.result.0 c.take_whole-i.result.1 absent
-    c.take_whole-i.ensures.taken.absent_now)
-
-pub end_child-requires-clause-absent : goal.end_child-requires-clause-absent
-end_child-requires-clause-absent c =
-    so_of (heap_of c.take_whole-i.new.slots c.take_whole-i.result.0.0) (node_of c.place_mut-place.result.now)
-    (λ (at : Node). cell_at at.body c.take_whole-i.result.1 ≡ Some absent)
-    (ap (option_and_then node_in) c.place_mut-place.ensures.value)
-    (held_there c.take_whole-i.new.slots c.take_whole-i.result.0 c.take_whole-i.result.1 absent
-    c.take_whole-i.ensures.taken.absent_now)
-
-pub end_child-requires-clause-set : goal.end_child-requires-clause-set
-end_child-requires-clause-set c =
-    so_of (heap_of c.take_whole-i.new.slots c.take_whole-i.result.0.0) (node_of c.place_mut-place.result.now)
-    (λ (at : Node). IsSetBody at.body) (ap (option_and_then node_in) c.place_mut-place.ensures.value)
-    (set_still c.args.slots.now c.take_whole-i.new.slots c.args.self.0 c.take_whole-i.result.0 c.take_whole-i.result.1
-    (view c.take_whole-i.result.2) c.take_whole-i.ensures.taken c.requires.owned)
 
 pub end_child-requires-clause-room : goal.end_child-requires-clause-room
 end_child-requires-clause-room c =
@@ -39,22 +17,22 @@ returns-clause-ended c =
     passed c.args.slots.now c.take_whole-i.new.slots c.args.self.0
     (FrameOwner.Child c.take_whole-i.result.0 c.take_whole-i.result.1) (view c.take_whole-i.result.2)
     c.take_whole-i.ensures.taken Taker.Set (set c.take_whole-i.new.slots c.take_whole-i.result.0.0
-    (Slot.Used (repieced c.place_mut-place.result.now c.end_child.new.piece))) ends
+    (Slot.Used (with_partial c.place_mut-place.result.now c.end_child.new.partial))) ends
     (ends_unlinked (heap_of c.args.slots.now) c.args.self.0 c.take_whole-i.result.0 c.take_whole-i.result.1
     (view c.take_whole-i.result.2))
     (shows c.take_whole-i.new.slots c.take_whole-i.result.0.0 c.place_mut-place.result.now c.place_mut-place.ensures.value
-    c.end_child.new.piece (with_ended c.take_whole-i.result.1 (view c.take_whole-i.result.2)) c.end_child.ensures.ended)
+    c.end_child.new.partial (with_ended c.take_whole-i.result.1 (view c.take_whole-i.result.2)) c.end_child.ensures.ended)
 
 pub returns-clause-conserved : goal.returns-clause-conserved
 returns-clause-conserved c =
-    moved_conserved (λ t. body_occurs (body_of c.place_mut-place.result.now.piece) t + occurs (view c.take_whole-i.result.2) t)
-    (body_occurs (body_of c.end_child.new.piece)) (slots_occur c.args.slots.now)
+    moved_conserved (λ t. body_occurs (body_of c.place_mut-place.result.now.partial) t + occurs (view c.take_whole-i.result.2) t)
+    (body_occurs (body_of c.end_child.new.partial)) (slots_occur c.args.slots.now)
     (slots_occur (set c.take_whole-i.new.slots c.take_whole-i.result.0.0
-    (Slot.Used (repieced c.place_mut-place.result.now c.end_child.new.piece)))) c.args.ledger.now c.end_child.new.ledger
+    (Slot.Used (with_partial c.place_mut-place.result.now c.end_child.new.partial)))) c.args.ledger.now c.end_child.new.ledger
     c.end_child.ensures.conserved (λ t.
     omega (
       arith,
       c.take_whole-i.ensures.tokens t,
       occur_change c.take_whole-i.new.slots c.take_whole-i.result.0.0 c.place_mut-place.result.now
-          c.place_mut-place.ensures.value c.end_child.new.piece t,
+          c.place_mut-place.ensures.value c.end_child.new.partial t,
     ))

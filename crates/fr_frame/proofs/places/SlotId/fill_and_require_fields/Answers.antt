@@ -18,5 +18,5 @@ returns-clause-tracker g c =
 pub returns-clause-why : goal.returns-clause-why
 returns-clause-why g c =
     IfErr-weaker c.fill_by.result _ _
-    (unfilled_so (g.H.Hooks.means c.args.hooks.now) c.args.table.now c.args.plan.now c.args.slots.now c.args.self.0 c.requires.place
-    c.requires.checked) c.fill_by.ensures.why
+    (unfilled_so (g.H.Hooks.means c.args.hooks.now) c.args.table.now c.args.plan.now
+    c.requires.checked c.args.slots.now c.args.self.0 c.requires.place) c.fill_by.ensures.why

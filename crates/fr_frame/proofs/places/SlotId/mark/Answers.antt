@@ -1,13 +1,11 @@
-use Rattle.std.proofs.Common.{ℕ, ◌<◌, length, sym, subst}
+use Rattle.std.proofs.Common.{arith}
 use Rattle.fr_frame.proofs.RawLaws.{mark_shows, mark_tokens, slot_used, used_inside}
 use Rattle.fr_frame.proofs.places.SlotId.mark.Goals as goal
 
 pub get_mut-requires : goal.get_mut-requires
-get_mut-requires c = record {
-  inside =
-      subst (λ (at : ℕ). at < length c.slots.inside.entries) (sym c.idx.ensures.number)
-      (used_inside c.slots.inside.entries c.args.slots.now c.args.self.0 c.slots.view_is c.requires.in_use);
-}
+get_mut-requires c =
+    let inside = used_inside c.slots.inside.entries c.args.slots.now c.args.self.0 c.slots.view_is c.requires.in_use in
+    record { inside = omega (arith, c.idx.ensures.number) }
 
 pub mark_slot-requires : goal.mark_slot-requires
 mark_slot-requires c =

@@ -1,4 +1,4 @@
-use Rattle.std.proofs.Common.{◌≡◌, ℕ, ◌<◌, length, slice_get, Some, ap, sym, subst, ◌∙◌, arith}
+use Rattle.std.proofs.Common.{◌≡◌, slice_get, Some, ap, sym, ◌∙◌, arith}
 use Rattle.fr_frame.specs.Common.{as_tracker, reformed}
 use Rattle.fr_frame.specs.RawSlots.{stays_list}
 use Rattle.fr_frame.proofs.HeapLaws.{read}
@@ -7,18 +7,14 @@ use Rattle.fr_frame.proofs.RawLaws.{reform_same, reform_shows, used_inside}
 use Rattle.fr_frame.proofs.places.SlotId.reform.Goals as goal
 
 pub get-requires : goal.get-requires
-get-requires c = record {
-  inside =
-      subst (λ (at : ℕ). at < length c.slots.inside.entries) (sym c.idx.ensures.number)
-      (used_inside c.slots.inside.entries c.args.slots.now c.args.self.0 c.slots.view_is c.requires.in_use);
-}
+get-requires c =
+    let inside = used_inside c.slots.inside.entries c.args.slots.now c.args.self.0 c.slots.view_is c.requires.in_use in
+    record { inside = omega (arith, c.idx.ensures.number) }
 
 pub get_mut-requires : goal.get_mut-requires
-get_mut-requires c = record {
-  inside =
-      subst (λ (at : ℕ). at < length c.slots.inside.entries) (sym c.idx-then-stays_list.ensures.number)
-      (used_inside c.slots.inside.entries c.args.slots.now c.args.self.0 c.slots.view_is c.requires.in_use);
-}
+get_mut-requires c =
+    let inside = used_inside c.slots.inside.entries c.args.slots.now c.args.self.0 c.slots.view_is c.requires.in_use in
+    record { inside = omega (arith, c.idx-then-stays_list.ensures.number) }
 
 pub reform_list-requires : goal.reform_list-requires
 reform_list-requires c =
@@ -45,13 +41,10 @@ returns-then-stays_list-clause-tokens c =
 
 pub returns-clause-reformed : goal.returns-clause-reformed
 returns-clause-reformed c =
-    shows c.args.slots.now c.args.self.0 c.place_mut-place.result.now c.place_mut-place.ensures.value c.reform.new.piece
-    (reformed (as_tracker c.args.tracker)) c.reform.ensures.piece
+    shows c.args.slots.now c.args.self.0 c.place_mut-place.result.now c.place_mut-place.ensures.value c.reform.new.partial
+    (reformed (as_tracker c.args.tracker)) c.reform.ensures.partial
 
 pub returns-clause-tokens : goal.returns-clause-tokens
 returns-clause-tokens c t =
-    omega (
-      arith,
-      occur_change c.args.slots.now c.args.self.0 c.place_mut-place.result.now c.place_mut-place.ensures.value c.reform.new.piece t,
-      c.reform.ensures.tokens t,
-    )
+    let changed = occur_change c.args.slots.now c.args.self.0 c.place_mut-place.result.now c.place_mut-place.ensures.value c.reform.new.partial t in
+    omega (arith, c.reform.ensures.tokens t)

@@ -6,15 +6,15 @@ use Rattle.fr_frame.proofs.places.SlotId.require_full_initialization.Goals as go
 
 pub returns-clause-full : goal.returns-clause-full
 returns-clause-full g c =
-    on_ok_weaker c.test_piece.result
+    on_ok_weaker c.test_partial.result
     (of_place c.args.slots.now c.args.self.0 c.place_mut-place.result.now c.place_mut-place.ensures.value
-    (λ (at : Node). left_out (shape_of c.args.plan.now at.node) at.body ≡ None)) c.test_piece.ensures.passing
+    (λ (at : Node). left_out (shape_of c.args.plan.now at.node) at.body ≡ None)) c.test_partial.ensures.passing
 
 pub returns-clause-why : goal.returns-clause-why
 returns-clause-why g c =
-    IfErr-weaker c.test_piece.result _ _ (λ kind.
+    IfErr-weaker c.test_partial.result _ _ (λ kind.
     of_place c.args.slots.now c.args.self.0 c.place_mut-place.result.now c.place_mut-place.ensures.value
-    (λ (at : Node). left_out (shape_of c.args.plan.now at.node) at.body ≡ Some kind)) c.test_piece.ensures.failing
+    (λ (at : Node). left_out (shape_of c.args.plan.now at.node) at.body ≡ Some kind)) c.test_partial.ensures.failing
 
 pub returns-clause-unchanged : goal.returns-clause-unchanged
 returns-clause-unchanged g c =

@@ -1,50 +1,48 @@
-use Rattle.std.proofs.Common.{◌≡◌, Option, Some, None, IsSomeAnd, sym, ◌∙◌, subst}
+use Rattle.std.proofs.Common.{◌≡◌, None, sym, ◌∙◌}
 use Rattle.std.proofs.lemmas.Result.{on_ok_weaker, IfErr-weaker}
 use Rattle.fr_frame.specs.Common.{HasAllChildren, IsCauseOf, IsChecked, IsPlanFor, IsPlanned, MayComplete, Node, Table, heap_of, invalid, node_of, of_outline, same_body, shape_of}
 use Rattle.fr_frame.specs.OutlineLaws.{found_same, same_list}
 use Rattle.fr_frame.proofs.HandLaws.{so_of}
+use Rattle.fr_frame.proofs.PlaceLaws.{of_node}
 use Rattle.fr_frame.proofs.StayLaws.{list_valid}
 use Rattle.fr_frame.proofs.places.SlotId.run_validators.Goals as goal
 
 pub returns-then-is_list-clause-passing : goal.returns-then-is_list-clause-passing
 returns-then-is_list-clause-passing g c =
-    of_outline (node_of c.in-Some.place.now) (heap_of c.args.slots.now c.args.self.0)
+    let means = g.H.Hooks.means c.args.hooks.now in
+    let place = node_of c.in-Some.place.now in
+    of_outline place (heap_of c.args.slots.now c.args.self.0)
     (λ (at : Node). (table : Table) → IsChecked table → IsPlanFor table c.args.plan.now → MayComplete table c.args.plan.now at
-    → invalid (g.H.Hooks.means c.args.hooks.now) table (shape_of c.args.plan.now at.node) at.body ≡ None) c.in-Some.ensures.place
-    (λ at there same table checked planned may.
-    list_valid (g.H.Hooks.means c.args.hooks.now) table (shape_of c.args.plan.now at.node) at.body
-    (sym (same_list _ at.body (same_body (node_of c.in-Some.place.now) at same)) ∙ sym c.is_list.ensures ∙ c.if-is_list.true))
+    → invalid means table (shape_of c.args.plan.now at.node) at.body ≡ None) c.in-Some.ensures.place
+    (λ at there same table checked planned may. list_valid means table (shape_of c.args.plan.now at.node) at.body
+    (sym (same_list _ at.body (same_body place at same)) ∙ sym c.is_list.ensures ∙ c.if-is_list.true))
 
 pub test_valid-requires : goal.test_valid-requires
 test_valid-requires g c =
-    let there : heap_of c.args.slots.now c.args.self.0 ≡ Some (node_of c.in-Some.place.now)
-    = found_same (node_of c.in-Some.place.now) (heap_of c.args.slots.now c.args.self.0) c.in-Some.ensures.place
-    (sym c.is_list.ensures ∙ c.if-is_list.false) in
+    let found = heap_of c.args.slots.now c.args.self.0 in
+    let place = node_of c.in-Some.place.now in
+    let there = found_same place found c.in-Some.ensures.place (sym c.is_list.ensures ∙ c.if-is_list.false) in
     record {
-      planned =
-          so_of (heap_of c.args.slots.now c.args.self.0) (node_of c.in-Some.place.now)
-          (λ (at : Node). IsPlanned c.args.plan.now at.node) there c.requires.planned;
-      there =
-          so_of (heap_of c.args.slots.now c.args.self.0) (node_of c.in-Some.place.now)
-          (λ (at : Node). HasAllChildren at.body) there c.requires.full;
+      planned = so_of found place (λ (at : Node). IsPlanned c.args.plan.now at.node) there c.requires.planned;
+      there = so_of found place (λ (at : Node). HasAllChildren at.body) there c.requires.full;
     }
 
 pub returns-clause-passing : goal.returns-clause-passing
 returns-clause-passing g c =
-    let there : heap_of c.args.slots.now c.args.self.0 ≡ Some (node_of c.in-Some.place.now)
-    = found_same (node_of c.in-Some.place.now) (heap_of c.args.slots.now c.args.self.0) c.in-Some.ensures.place
-    (sym c.is_list.ensures ∙ c.if-is_list.false) in
-    on_ok_weaker c.test_valid.result (λ passing. subst (λ (found : Option Node). IsSomeAnd found
-    (λ (at : Node). (table : Table) → IsChecked table → IsPlanFor table c.args.plan.now → MayComplete table c.args.plan.now at
-    → invalid (g.H.Hooks.means c.args.hooks.now) table (shape_of c.args.plan.now at.node) at.body ≡ None))
-    (sym there) (λ table checked planned may. passing table checked planned)) c.test_valid.ensures.passing
+    let found = heap_of c.args.slots.now c.args.self.0 in
+    let place = node_of c.in-Some.place.now in
+    let there = found_same place found c.in-Some.ensures.place (sym c.is_list.ensures ∙ c.if-is_list.false) in
+    on_ok_weaker c.test_valid.result (λ passing. of_node found place (λ (at : Node). (table : Table) → IsChecked table
+    → IsPlanFor table c.args.plan.now → MayComplete table c.args.plan.now at
+    → invalid (g.H.Hooks.means c.args.hooks.now) table (shape_of c.args.plan.now at.node) at.body ≡ None) there
+    (λ table checked planned may. passing table checked planned)) c.test_valid.ensures.passing
 
 pub returns-clause-failing : goal.returns-clause-failing
 returns-clause-failing g c =
-    let there : heap_of c.args.slots.now c.args.self.0 ≡ Some (node_of c.in-Some.place.now)
-    = found_same (node_of c.in-Some.place.now) (heap_of c.args.slots.now c.args.self.0) c.in-Some.ensures.place
-    (sym c.is_list.ensures ∙ c.if-is_list.false) in
-    IfErr-weaker c.test_valid.result _ _ (λ kind failing. subst (λ (found : Option Node). IsSomeAnd found
-    (λ (at : Node). (table : Table) → IsChecked table → IsPlanFor table c.args.plan.now → MayComplete table c.args.plan.now at
-    → IsCauseOf (invalid (g.H.Hooks.means c.args.hooks.now) table (shape_of c.args.plan.now at.node) at.body) kind))
-    (sym there) (λ table checked planned may. failing table checked planned)) c.test_valid.ensures.failing
+    let found = heap_of c.args.slots.now c.args.self.0 in
+    let place = node_of c.in-Some.place.now in
+    let there = found_same place found c.in-Some.ensures.place (sym c.is_list.ensures ∙ c.if-is_list.false) in
+    IfErr-weaker c.test_valid.result _ _ (λ kind failing. of_node found place (λ (at : Node). (table : Table) → IsChecked table
+    → IsPlanFor table c.args.plan.now → MayComplete table c.args.plan.now at
+    → IsCauseOf (invalid (g.H.Hooks.means c.args.hooks.now) table (shape_of c.args.plan.now at.node) at.body) kind) there
+    (λ table checked planned may. failing table checked planned)) c.test_valid.ensures.failing

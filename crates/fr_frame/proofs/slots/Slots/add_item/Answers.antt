@@ -1,4 +1,4 @@
-use Rattle.std.proofs.Common.{◌≡◌, ℕ, ◌<◌, true, length, sym, subst}
+use Rattle.std.proofs.Common.{◌≡◌, true, arith}
 use Rattle.fr_frame.specs.Common.{Node, is_list_body}
 use Rattle.fr_frame.proofs.AddItemLaws.{added_reserved, added_shows, added_tokens, list_in, refused_shows}
 use Rattle.fr_frame.proofs.HandLaws.{in_use}
@@ -6,12 +6,9 @@ use Rattle.fr_frame.proofs.RawLaws.{used_inside}
 use Rattle.fr_frame.proofs.slots.Slots.add_item.Goals as goal
 
 pub get_mut-requires : goal.get_mut-requires
-get_mut-requires c = record {
-  inside =
-      subst (λ (at : ℕ). at < length c.self.inside.entries) (sym c.idx.ensures.number)
-      (used_inside c.self.inside.entries c.args.self.now c.args.list.0 c.self.view_is
-      (in_use c.args.self.now c.args.list.0 (λ (at : Node). is_list_body at.body ≡ true) c.requires.list));
-}
+get_mut-requires c =
+    let inside = used_inside c.self.inside.entries c.args.self.now c.args.list.0 c.self.view_is (in_use c.args.self.now c.args.list.0 (λ (at : Node). is_list_body at.body ≡ true) c.requires.list) in
+    record { inside = omega (arith, c.idx.ensures.number) }
 
 pub add_item_in-requires : goal.add_item_in-requires
 add_item_in-requires c =

@@ -24,7 +24,7 @@ pub returns-in-List : goal.returns-in-List
 returns-in-List c = record {
   slot =
       c.slot_of_item.ensures ∙ ap (λ (rope : Rope SlotId). option_and_then slot_of_cell
-      (cell_at (body_with (items_of c.self.inside.entries) c.args.id.0 rope.items (body_of c.in-List.place.piece)) c.args.i))
+      (cell_at (body_with (items_of c.self.inside.entries) c.args.id.0 rope.items (body_of c.in-List.place.partial)) c.args.i))
       c.deref.ensures
       ∙ sym (child_of_list c.self.inside.entries c.args.self.now c.self.view_is c.args.id.0 c.idx.result c.args.i c.get.result.now
       c.idx.ensures.number (omega (arith, c.len.ensures.count, c.if-id-len.false)) c.get.ensures.value c.in-List.place

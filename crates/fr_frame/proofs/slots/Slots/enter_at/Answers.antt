@@ -17,13 +17,13 @@ returns-clause-entered c =
     ∙ ap (λ (heap : Heap). links c.args.owner c.in_ok-id.id.0 (grown_above c.args.growth c.args.owner heap)) same in
     let held : option_map view c.in-Ok.held ≡ held_value (held_by grown c.args.owner) = c.in-Ok.ensures.held
     ∙ ap (λ (heap : Heap). held_value (held_by (grown_above c.args.growth c.args.owner heap) c.args.owner)) same in
-    let body : body_of c.match-held.piece ≡ taken_over def (held_by grown c.args.owner)
+    let body : body_of c.match-held.partial ≡ taken_over def (held_by grown c.args.owner)
     = elim c.match-held.branch [
-      | in-Some-held w ↦ ap body_of w.piece-is ∙ taken_value def (held_by grown c.args.owner) (view w.in-Some-held.value)
+      | in-Some-held w ↦ ap body_of w.partial-is ∙ taken_value def (held_by grown c.args.owner) (view w.in-Some-held.value)
           (sym (ap (option_map view) w.in-Some-held.is) ∙ held)
-      | in-None w ↦ ap body_of w.piece-is
-          ∙ fresh_by c.args.table.now c.args.plan.now c.args.node w.node.result.now (body_of w.fresh-piece.result) w.node.ensures.node
-          w.fresh-piece.ensures ∙ taken_fresh def (held_by grown c.args.owner) (sym (ap (option_map view) w.in-None.is) ∙ held)
+      | in-None w ↦ ap body_of w.partial-is
+          ∙ fresh_by c.args.table.now c.args.plan.now c.args.node w.node.result.now (body_of w.fresh-partial.result) w.node.ensures.node
+          w.fresh-partial.ensures ∙ taken_fresh def (held_by grown c.args.owner) (sym (ap (option_map view) w.in-None.is) ∙ held)
     ] in
     entered_here def (heap_of c.args.self.now) (heap_of c.take_in.new.self) c.args.node c.args.owner c.args.growth c.in-Some.depth
-    (body_of c.match-held.piece) c.in_ok-id.id.0 c.lower.new.self linked c.in-Some.ensures.depth body c.lower.ensures.rest
+    (body_of c.match-held.partial) c.in_ok-id.id.0 c.occupy.new.self linked c.in-Some.ensures.depth body c.occupy.ensures.rest

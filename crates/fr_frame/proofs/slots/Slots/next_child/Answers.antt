@@ -10,7 +10,7 @@ returns-clause-number c =
     (λ number is.
     of_outline (node_of c.in-Some.above.now) (heap_of c.args.self.now c.args.parent.0) (λ (at : Node). number ≡ count_cells at.body)
     c.in-Some.ensures.place (λ at there same. is ∙ c.count_children.ensures
-    ∙ same_count (body_of c.in-Some.above.now.piece) at.body (same_body (node_of c.in-Some.above.now) at same)))
+    ∙ same_count (body_of c.in-Some.above.now.partial) at.body (same_body (node_of c.in-Some.above.now) at same)))
     c.narrow.ensures.same
 
 pub returns-clause-narrow : goal.returns-clause-narrow
@@ -22,5 +22,5 @@ returns-clause-narrow c =
       arith,
       below,
       c.count_children.ensures,
-      same_count (body_of c.in-Some.above.now.piece) at.body (same_body (node_of c.in-Some.above.now) at same),
+      same_count (body_of c.in-Some.above.now.partial) at.body (same_body (node_of c.in-Some.above.now) at same),
     ))) c.narrow.ensures.narrow

@@ -1,16 +1,13 @@
-use Rattle.std.proofs.Common.{◌≡◌, ℕ, ◌<◌, length, Some, set, slice_get, refl, sym, subst, ap, ◌∙◌}
+use Rattle.std.proofs.Common.{◌≡◌, ℕ, Some, set, slice_get, refl, ap, arith, ◌∙◌}
 use Rattle.fr_frame.specs.Common.{Place, Slot, slots_seen}
 use Rattle.fr_frame.proofs.SlotLaws.{drained_inside, drained_slot, get_seen, set_seen}
 use Rattle.fr_frame.proofs.HeapLaws.{read}
 use Rattle.fr_frame.proofs.slots.Slots.place_mut.Goals as goal
 
 pub get_mut-slot-requires : goal.get_mut-slot-requires
-get_mut-slot-requires c = record {
-  inside =
-      subst (λ (at : ℕ). at < length c.drain.new.entries) (sym c.idx.ensures.number)
-      (drained_inside c.self.inside.entries c.args.self.now c.self.view_is c.drain.new.entries c.args.id.0 c.requires
-      c.drain.ensures.plain);
-}
+get_mut-slot-requires c =
+    let inside = drained_inside c.self.inside.entries c.args.self.now c.self.view_is c.drain.new.entries c.args.id.0 c.requires c.drain.ensures.plain in
+    record { inside = omega (arith, c.idx.ensures.number) }
 
 pub place_mut-requires : goal.place_mut-requires
 place_mut-requires c =

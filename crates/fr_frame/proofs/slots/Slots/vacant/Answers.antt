@@ -1,14 +1,8 @@
-use Rattle.std.proofs.Common.{List, Option, IsSomeAnd, slice_get, refl, ap, sym, subst, ◌∙◌, arith}
+use Rattle.std.proofs.Common.{List, slice_get, refl, ap, ◌∙◌, arith}
 use Rattle.fr_frame.specs.Common.{Slot, heap_of, slots_occur, slots_seen}
-use Rattle.fr_frame.specs.RawSlots.{IsFree}
 use Rattle.fr_frame.proofs.HeapLaws.{set_gets}
 use Rattle.fr_frame.proofs.SlotLaws.{get_seen, node_seen, set_occur, set_same}
 use Rattle.fr_frame.proofs.slots.Slots.vacant.Goals as goal
-
-pub reserve-requires : goal.reserve-requires
-reserve-requires c = record {
-  free = subst (λ (found : Option Slot). IsSomeAnd found IsFree) (sym c.in-Some-after_free.ensures) tt;
-}
 
 pub returns-clause-reserved : goal.returns-clause-reserved
 returns-clause-reserved c =

@@ -3,16 +3,26 @@ use Rattle.std.proofs.lemmas.List.{length-map, take_all}
 use Rattle.fr_frame.specs.Common.{IsRun, has_number, is_held, runs_of, view}
 use Rattle.fr_frame.proofs.Indexed.{read_map, there_found, there_none, of_none, lacks_more}
 use Rattle.fr_frame.proofs.value_index.ValueIndex.find.Goals as goal
+use Rattle.fr_frame.proofs.value_index.ValueIndex.find.Goals.{After-as_slice}
 
-pub find_in-found-requires : goal.find_in-found-requires
-find_in-found-requires c =
+-- the run that is looked at is the one of this number
+this_run : (c : After-as_slice) → (c.loop-run.run-index < length (runs_of c.args.self.now))
+    × (c.as_slice.result.now ≡ get_or (runs_of c.args.self.now) c.loop-run.run-index [])
+this_run c =
     let runs = c.deref-run-items.result.now in
     let i = c.loop-run.run-index in
     let h : i < length runs = omega arith in
-    let same = ap (map (λ run. run.items)) c.deref-run-items.ensures.value in
-    let is : c.as_slice.result.now ≡ get_or (runs_of c.args.self.now) i [] =
-    c.as_slice.ensures.value ∙ read_map (λ run. run.items) runs i c.run-item.result [] h c.run-item.is ∙ ap (λ (l : List (List ℕ)). get_or l i []) same in
-    record { run = subst (IsRun (map view c.args.values.now)) (sym is) (c.requires.indexed.runs.sorted i (omega (arith, h, length-map runs (λ run. run.items), ap length same))) }
+    let same = ap (map (λ run. run.items)) c.deref-run-items.ensures.value in (
+      omega (arith, h, length-map runs (λ run. run.items), ap length same),
+      c.as_slice.ensures.value ∙ read_map (λ run. run.items) runs i c.run-item.result [] h c.run-item.is
+          ∙ ap (λ (l : List (List ℕ)). get_or l i []) same,
+    )
+
+pub find_in-found-requires : goal.find_in-found-requires
+find_in-found-requires c = record {
+  run = subst (IsRun (map view c.args.values.now)) (sym (this_run c).1)
+      (c.requires.indexed.runs.sorted c.loop-run.run-index (this_run c).0);
+}
 
 pub returns-then-is_some-clause-there : goal.returns-then-is_some-clause-there
 returns-then-is_some-clause-there c =
@@ -20,15 +30,10 @@ returns-then-is_some-clause-there c =
 
 pub loop-run-preserved : goal.loop-run-preserved
 loop-run-preserved c =
-    let runs = c.deref-run-items.result.now in
-    let i = c.loop-run.run-index in
-    let h : i < length runs = omega arith in
-    let same = ap (map (λ run. run.items)) c.deref-run-items.ensures.value in
-    let is : c.as_slice.result.now ≡ get_or (runs_of c.args.self.now) i [] =
-    c.as_slice.ensures.value ∙ read_map (λ run. run.items) runs i c.run-item.result [] h c.run-item.is ∙ ap (λ (l : List (List ℕ)). get_or l i []) same in
+    let this = this_run (goal.at.loop-run-preserved c).After-as_slice in
     let none = of_none c.find_in-found.result (sym c.is_some.ensures ∙ c.if-is_some.false) c.find_in-found.ensures.none in
-    lacks_more (runs_of c.args.self.now) i (omega (arith, h, length-map runs (λ run. run.items), ap length same)) c.loop-run.invariant
-    (λ n has. none n (ap (λ (l : List ℕ). has_number l n) is ∙ has))
+    lacks_more (runs_of c.args.self.now) c.loop-run.run-index this.0 c.loop-run.invariant
+    (λ n has. none n (ap (λ (l : List ℕ). has_number l n) this.1 ∙ has))
 
 pub returns-clause-there : goal.returns-clause-there
 returns-clause-there c =

@@ -1,5 +1,5 @@
 use Rattle.fr_frame.proofs.CellLaws.{Releasing}
-use Rattle.fr_frame.proofs.pieces.release_children.Given as goal
+use Rattle.fr_frame.proofs.partial_values.release_children.Given as goal
 
 abbrev pub invariant-loop-i : goal.invariant-loop-i
 invariant-loop-i l = Releasing l.initial.children l.children l.initial.ledger l.ledger l.i

@@ -5,21 +5,21 @@ ghost use Rattle.fr_frame.specs.Bodies.{IsObjectBody};
 
 use crate::children::Children;
 use crate::keys::Keys;
-use crate::places::{EntriesKind, Piece, Tracker};
+use crate::places::{EntriesKind, PartialValue, Tracker};
 use fr_shape::{OutOfMemory, Text};
 use std::alloc::Global;
 
 /// The number of the entry that a begun object has under a key, where it has one, and the key back.
 /// Doesn't look at each entry.
-pub(crate) fn entry_number(piece: &Piece, key: Text) -> (Option<usize>, Text)
-    requires object { IsObjectBody (body_of piece.now) }
-    requires apart { keys_apart (keys_in (body_of piece.now)) ≡ true }
-    ensures number { result.0 ≡ entry_found key (keys_in (body_of piece.now)) }
+pub(crate) fn entry_number(partial: &PartialValue, key: Text) -> (Option<usize>, Text)
+    requires object { IsObjectBody (body_of partial.now) }
+    requires apart { keys_apart (keys_in (body_of partial.now)) ≡ true }
+    ensures number { result.0 ≡ entry_found key (keys_in (body_of partial.now)) }
     ensures key { result.1 ≡ key }
 {
-    match piece {
-        Piece::Begun(Tracker::Entries(EntriesKind::Object(keys)), _) => keys.number_of(key),
-        Piece::Entered | Piece::Whole(_) | Piece::Begun(..) => unreachable!(),
+    match partial {
+        PartialValue::Begun(Tracker::Entries(EntriesKind::Object(keys)), _) => keys.number_of(key),
+        PartialValue::Entered | PartialValue::Whole(_) | PartialValue::Begun(..) => unreachable!(),
     }
 }
 
@@ -45,24 +45,31 @@ fn push_entry(
 
 /// One entry more at a begun object, behind the others, under a key that it doesn't have. The
 /// entry's value isn't there yet.
-pub(crate) fn add_entry_for(alloc: Global, piece: &mut Piece, key: Text) -> Result<(), OutOfMemory>
-    requires object { IsObjectBody (body_of piece.old) }
-    requires lacked { entry_found key (keys_in (body_of piece.old)) ≡ None }
-    ensures added { OnOk result (body_of piece.new ≡ with_entry_for key (body_of piece.old)) }
-    ensures refused { OnErr result (body_of piece.new ≡ body_of piece.old) }
+pub(crate) fn add_entry_for(
+    alloc: Global,
+    partial: &mut PartialValue,
+    key: Text,
+) -> Result<(), OutOfMemory>
+    requires object { IsObjectBody (body_of partial.old) }
+    requires lacked { entry_found key (keys_in (body_of partial.old)) ≡ None }
+    ensures added { OnOk result (body_of partial.new ≡ with_entry_for key (body_of partial.old)) }
+    ensures refused { OnErr result (body_of partial.new ≡ body_of partial.old) }
     ensures tokens { (t : ℕ) →
-        body_occurs (body_of piece.new) t ≡ body_occurs (body_of piece.old) t }
+        body_occurs (body_of partial.new) t ≡ body_occurs (body_of partial.old) t }
 {
-    match std::mem::replace(piece, Piece::Entered) {
-        Piece::Begun(tracker, mut children) => match tracker {
+    match std::mem::replace(partial, PartialValue::Entered) {
+        PartialValue::Begun(tracker, mut children) => match tracker {
             Tracker::Entries(EntriesKind::Object(mut keys)) => {
                 let added = push_entry(alloc, &mut keys, &mut children, key);
-                *piece = Piece::Begun(Tracker::Entries(EntriesKind::Object(keys)), children);
+                *partial = PartialValue::Begun(
+                    Tracker::Entries(EntriesKind::Object(keys)),
+                    children,
+                );
                 added
             }
             Tracker::Entries(EntriesKind::Map(_)) | Tracker::Items(_) => unreachable!(),
             Tracker::Fields(_) | Tracker::Elements | Tracker::Content(_) => unreachable!(),
         },
-        Piece::Entered | Piece::Whole(_) => unreachable!(),
+        PartialValue::Entered | PartialValue::Whole(_) => unreachable!(),
     }
 }

@@ -1,11 +1,8 @@
 use Rattle.std.proofs.Common.{ℕ, List, sym, subst, arith}
 use Rattle.fr_frame.specs.Common.{RoseBy, value_at, value_occurs, view}
-use Rattle.fr_frame.proofs.CellLaws.{releasing_begins, releasing_room, releasing_step, releasing_ends, rose_not, rose_by}
-use Rattle.fr_frame.proofs.pieces.release_children.Goals as goal
-use Rattle.fr_frame.proofs.pieces.release_children.Goals.{in-Some, in-None}
-
-pub loop-i-init : goal.loop-i-init
-loop-i-init c = releasing_begins c.args.children c.args.ledger.now c.requires
+use Rattle.fr_frame.proofs.CellLaws.{releasing_room, releasing_step, releasing_ends, rose_not, rose_by}
+use Rattle.fr_frame.proofs.partial_values.release_children.Goals as goal
+use Rattle.fr_frame.proofs.partial_values.release_children.Goals.{in-Some, in-None}
 
 pub release-requires : goal.release-requires
 release-requires c = record {

@@ -9,9 +9,9 @@ ghost use Rattle.fr_frame.specs.Growing.{grown, MayGrow};
 ghost use Rattle.fr_frame.specs.declared.places.SlotId.{SlotId as Number};
 
 use crate::children::Children;
-use crate::dynamic_pieces::add_entry_for;
+use crate::dynamic_values::add_entry_for;
 use crate::opening::children_of;
-use crate::places::{Growth, Piece, SlotId, Tracker};
+use crate::places::{Growth, PartialValue, SlotId, Tracker};
 use fr_shape::{Items, Ledger, OutOfMemory, ShapeId, ShapeTable, Value, release};
 use std::alloc::Global;
 
@@ -34,13 +34,13 @@ fn slot_of_child(children: &Children, i: usize) -> Option<SlotId>
 }
 
 /// The slot of child `i`, where the place has that child, and has it in a slot.
-pub(crate) fn slot_at(piece: &Piece, i: usize) -> Option<SlotId>
+pub(crate) fn slot_at(partial: &PartialValue, i: usize) -> Option<SlotId>
     ensures { option_map (λ (child : Number). child.0) result
-        ≡ option_and_then slot_of_cell (cell_at (body_of piece.now) i) }
+        ≡ option_and_then slot_of_cell (cell_at (body_of partial.now) i) }
 {
-    match piece {
-        Piece::Begun(_, children) => slot_of_child(children, i),
-        Piece::Entered | Piece::Whole(_) => None,
+    match partial {
+        PartialValue::Begun(_, children) => slot_of_child(children, i),
+        PartialValue::Entered | PartialValue::Whole(_) => None,
     }
 }
 
@@ -62,15 +62,15 @@ fn link_child(children: &mut Children, i: u32, slot: SlotId) -> Option<Value>
 
 /// Puts child `i` into a slot, where the place has it and it is in none, and hands its value out,
 /// if it was there.
-pub(crate) fn link(piece: &mut Piece, i: u32, slot: SlotId) -> Option<Value>
-    ensures piece { body_of piece.new ≡ linked slot.0 i (body_of piece.old) }
-    ensures taken { option_map view result ≡ held_value (cell_at (body_of piece.old) i) }
-    ensures tokens { (t : ℕ) → body_occurs (body_of piece.old) t
-        ≡ body_occurs (body_of piece.new) t + value_occurs (option_map view result) t }
+pub(crate) fn link(partial: &mut PartialValue, i: u32, slot: SlotId) -> Option<Value>
+    ensures partial { body_of partial.new ≡ linked slot.0 i (body_of partial.old) }
+    ensures taken { option_map view result ≡ held_value (cell_at (body_of partial.old) i) }
+    ensures tokens { (t : ℕ) → body_occurs (body_of partial.old) t
+        ≡ body_occurs (body_of partial.new) t + value_occurs (option_map view result) t }
 {
-    match piece {
-        Piece::Begun(_, children) => link_child(children, i, slot),
-        Piece::Entered | Piece::Whole(_) => None,
+    match partial {
+        PartialValue::Begun(_, children) => link_child(children, i, slot),
+        PartialValue::Entered | PartialValue::Whole(_) => None,
     }
 }
 
@@ -92,14 +92,14 @@ fn unlink_child(children: &mut Children, i: u32, slot: SlotId)
 }
 
 /// Lets child `i` not be there, where it is in this slot.
-pub(crate) fn unlink(piece: &mut Piece, i: u32, slot: SlotId)
-    ensures piece { body_of piece.new ≡ unlinked slot.0 i (body_of piece.old) }
+pub(crate) fn unlink(partial: &mut PartialValue, i: u32, slot: SlotId)
+    ensures partial { body_of partial.new ≡ unlinked slot.0 i (body_of partial.old) }
     ensures tokens { (t : ℕ) →
-        body_occurs (body_of piece.new) t ≡ body_occurs (body_of piece.old) t }
+        body_occurs (body_of partial.new) t ≡ body_occurs (body_of partial.old) t }
 {
-    match piece {
-        Piece::Begun(_, children) => unlink_child(children, i, slot),
-        Piece::Entered | Piece::Whole(_) => {}
+    match partial {
+        PartialValue::Begun(_, children) => unlink_child(children, i, slot),
+        PartialValue::Entered | PartialValue::Whole(_) => {}
     }
 }
 
@@ -117,16 +117,16 @@ fn put_at(children: &mut Children, i: u32, value: Value)
 }
 
 /// Puts child `i` there with this value, where it wasn't there.
-pub(crate) fn put_child(piece: &mut Piece, i: u32, value: Value)
-    requires { cell_at (body_of piece.old) i ≡ Some absent }
-    ensures piece { body_of piece.new
-        ≡ with_cell (body_of piece.old) i (given (view value)) }
-    ensures tokens { (t : ℕ) → body_occurs (body_of piece.new) t
-        ≡ body_occurs (body_of piece.old) t + occurs (view value) t }
+pub(crate) fn put_child(partial: &mut PartialValue, i: u32, value: Value)
+    requires { cell_at (body_of partial.old) i ≡ Some absent }
+    ensures partial { body_of partial.new
+        ≡ with_cell (body_of partial.old) i (given (view value)) }
+    ensures tokens { (t : ℕ) → body_occurs (body_of partial.new) t
+        ≡ body_occurs (body_of partial.old) t + occurs (view value) t }
 {
-    match piece {
-        Piece::Begun(_, children) => put_at(children, i, value),
-        Piece::Entered | Piece::Whole(_) => unreachable!(),
+    match partial {
+        PartialValue::Begun(_, children) => put_at(children, i, value),
+        PartialValue::Entered | PartialValue::Whole(_) => unreachable!(),
     }
 }
 
@@ -141,106 +141,110 @@ fn product_of(values: Vec<Value>) -> Value
 /// memory for them.
 pub(crate) fn open(
     alloc: Global,
-    piece: &mut Piece,
+    partial: &mut PartialValue,
     tracker: Tracker,
     count: usize,
 ) -> Result<(), OutOfMemory>
-    requires { MayOpen (as_tracker tracker) (body_of piece.old) }
-    ensures opened { OnOk result (body_of piece.new
-        ≡ opened (as_tracker tracker) count (body_of piece.old)) }
-    ensures refused { OnErr result (body_of piece.new ≡ body_of piece.old) }
+    requires { MayOpen (as_tracker tracker) (body_of partial.old) }
+    ensures opened { OnOk result (body_of partial.new
+        ≡ opened (as_tracker tracker) count (body_of partial.old)) }
+    ensures refused { OnErr result (body_of partial.new ≡ body_of partial.old) }
     ensures tokens { (t : ℕ) →
-        body_occurs (body_of piece.new) t ≡ body_occurs (body_of piece.old) t }
+        body_occurs (body_of partial.new) t ≡ body_occurs (body_of partial.old) t }
 {
-    match piece {
-        Piece::Entered => {
+    match partial {
+        PartialValue::Entered => {
             let children = Children::none_yet(alloc, count)?;
-            *piece = Piece::Begun(tracker, children);
+            *partial = PartialValue::Begun(tracker, children);
             Ok(())
         }
-        Piece::Whole(value) => {
+        PartialValue::Whole(value) => {
             let (over, children) = children_of(alloc, tracker, value)?;
-            *piece = Piece::Begun(over, children);
+            *partial = PartialValue::Begun(over, children);
             Ok(())
         }
-        Piece::Begun(..) => Ok(()),
+        PartialValue::Begun(..) => Ok(()),
     }
 }
 
 /// Whether a place is begun as a list or as a pointer to a slice.
-pub(crate) fn is_list(piece: &Piece) -> bool
-    ensures { result ≡ is_list_body (body_of piece.now) }
+pub(crate) fn is_list(partial: &PartialValue) -> bool
+    ensures { result ≡ is_list_body (body_of partial.now) }
 {
-    match piece {
-        Piece::Begun(tracker, _) => tracker.keeps_items(),
-        Piece::Entered | Piece::Whole(_) => false,
+    match partial {
+        PartialValue::Begun(tracker, _) => tracker.keeps_items(),
+        PartialValue::Entered | PartialValue::Whole(_) => false,
     }
 }
 
 /// Whether a place is begun.
-pub(crate) fn is_begun(piece: &Piece) -> bool
-    ensures { result ≡ is_begun_body (body_of piece.now) }
+pub(crate) fn is_begun(partial: &PartialValue) -> bool
+    ensures { result ≡ is_begun_body (body_of partial.now) }
 {
-    match piece {
-        Piece::Begun(..) => true,
-        Piece::Entered | Piece::Whole(_) => false,
+    match partial {
+        PartialValue::Begun(..) => true,
+        PartialValue::Entered | PartialValue::Whole(_) => false,
     }
 }
 
 /// One child more at a begun place, behind the others, which isn't there yet.
-fn add_child(alloc: Global, piece: &mut Piece) -> Result<(), OutOfMemory>
-    requires { IsGrowing (body_of piece.old) }
-    ensures added { OnOk result (body_of piece.new ≡ added (body_of piece.old)) }
-    ensures refused { OnErr result (body_of piece.new ≡ body_of piece.old) }
+fn add_child(alloc: Global, partial: &mut PartialValue) -> Result<(), OutOfMemory>
+    requires { IsGrowing (body_of partial.old) }
+    ensures added { OnOk result (body_of partial.new ≡ added (body_of partial.old)) }
+    ensures refused { OnErr result (body_of partial.new ≡ body_of partial.old) }
     ensures tokens { (t : ℕ) →
-        body_occurs (body_of piece.new) t ≡ body_occurs (body_of piece.old) t }
+        body_occurs (body_of partial.new) t ≡ body_occurs (body_of partial.old) t }
 {
-    match piece {
-        Piece::Begun(_, children) => children.push(alloc),
-        Piece::Entered | Piece::Whole(_) => unreachable!(),
+    match partial {
+        PartialValue::Begun(_, children) => children.push(alloc),
+        PartialValue::Entered | PartialValue::Whole(_) => unreachable!(),
     }
 }
 
 /// Two children more at a begun map, behind the others: a key and a value that aren't there yet.
-fn add_entry(alloc: Global, piece: &mut Piece) -> Result<(), OutOfMemory>
-    requires { IsMapBody (body_of piece.old) }
-    ensures added { OnOk result (body_of piece.new ≡ added_entry (body_of piece.old)) }
-    ensures refused { OnErr result (body_of piece.new ≡ body_of piece.old) }
+fn add_entry(alloc: Global, partial: &mut PartialValue) -> Result<(), OutOfMemory>
+    requires { IsMapBody (body_of partial.old) }
+    ensures added { OnOk result (body_of partial.new ≡ added_entry (body_of partial.old)) }
+    ensures refused { OnErr result (body_of partial.new ≡ body_of partial.old) }
     ensures tokens { (t : ℕ) →
-        body_occurs (body_of piece.new) t ≡ body_occurs (body_of piece.old) t }
+        body_occurs (body_of partial.new) t ≡ body_occurs (body_of partial.old) t }
 {
-    match piece {
-        Piece::Begun(_, children) => children.push_two(alloc),
-        Piece::Entered | Piece::Whole(_) => unreachable!(),
+    match partial {
+        PartialValue::Begun(_, children) => children.push_two(alloc),
+        PartialValue::Entered | PartialValue::Whole(_) => unreachable!(),
     }
 }
 
 /// More at a begun place, behind the children that it has, and nothing there yet.
-pub(crate) fn grow(alloc: Global, piece: &mut Piece, growth: Growth) -> Result<(), OutOfMemory>
-    requires { MayGrow growth (body_of piece.old) }
-    ensures grown { OnOk result (body_of piece.new ≡ grown growth (body_of piece.old)) }
-    ensures refused { OnErr result (body_of piece.new ≡ body_of piece.old) }
+pub(crate) fn grow(
+    alloc: Global,
+    partial: &mut PartialValue,
+    growth: Growth,
+) -> Result<(), OutOfMemory>
+    requires { MayGrow growth (body_of partial.old) }
+    ensures grown { OnOk result (body_of partial.new ≡ grown growth (body_of partial.old)) }
+    ensures refused { OnErr result (body_of partial.new ≡ body_of partial.old) }
     ensures tokens { (t : ℕ) →
-        body_occurs (body_of piece.new) t ≡ body_occurs (body_of piece.old) t }
+        body_occurs (body_of partial.new) t ≡ body_occurs (body_of partial.old) t }
 {
     match growth {
-        Growth::Item => add_child(alloc, piece),
-        Growth::Entry => add_entry(alloc, piece),
-        Growth::EntryFor(key) => add_entry_for(alloc, piece, key),
+        Growth::Item => add_child(alloc, partial),
+        Growth::Entry => add_entry(alloc, partial),
+        Growth::EntryFor(key) => add_entry_for(alloc, partial, key),
     }
 }
 
 /// Lets child `i` of a begun set, which isn't there, go, and puts a value behind the others, unless
 /// one of them is `same`: then it is released. Takes no memory.
-pub(crate) fn end_child(piece: &mut Piece, i: u32, value: Value, ledger: &mut Ledger)
-    requires set { IsSetBody (body_of piece.old) }
-    requires absent { cell_at (body_of piece.old) i ≡ Some absent }
+pub(crate) fn end_child(partial: &mut PartialValue, i: u32, value: Value, ledger: &mut Ledger)
+    requires set { IsSetBody (body_of partial.old) }
+    requires absent { cell_at (body_of partial.old) i ≡ Some absent }
     requires room { Room (occurs (view value)) ledger.old }
-    ensures ended { body_of piece.new ≡ with_ended i (view value) (body_of piece.old) }
-    ensures conserved { Conserved (λ t. body_occurs (body_of piece.old) t + occurs (view value) t)
-        ledger.old (body_occurs (body_of piece.new)) ledger.new }
+    ensures ended { body_of partial.new ≡ with_ended i (view value) (body_of partial.old) }
+    ensures conserved { Conserved (λ t. body_occurs (body_of partial.old) t + occurs (view value) t)
+        ledger.old (body_occurs (body_of partial.new)) ledger.new }
 {
-    let Piece::Begun(_, children) = piece else {
+    let PartialValue::Begun(_, children) = partial else {
         unreachable!()
     };
     match child_at(children, i as usize) {
@@ -250,25 +254,25 @@ pub(crate) fn end_child(piece: &mut Piece, i: u32, value: Value, ledger: &mut Le
 }
 
 /// How many children a place has, as far as it is begun.
-pub(crate) fn count_children(piece: &Piece) -> usize
-    ensures { result ≡ count_cells (body_of piece.now) }
+pub(crate) fn count_children(partial: &PartialValue) -> usize
+    ensures { result ≡ count_cells (body_of partial.now) }
 {
-    match piece {
-        Piece::Begun(_, children) => children.len(),
-        Piece::Entered | Piece::Whole(_) => 0,
+    match partial {
+        PartialValue::Begun(_, children) => children.len(),
+        PartialValue::Entered | PartialValue::Whole(_) => 0,
     }
 }
 
 /// Lets a begun place be begun so instead, with the children that it has.
-pub(crate) fn reform(piece: &mut Piece, tracker: Tracker)
-    ensures piece { body_of piece.new ≡ reformed (as_tracker tracker) (body_of piece.old) }
+pub(crate) fn reform(partial: &mut PartialValue, tracker: Tracker)
+    ensures partial { body_of partial.new ≡ reformed (as_tracker tracker) (body_of partial.old) }
     ensures tokens { (t : ℕ) →
-        body_occurs (body_of piece.new) t ≡ body_occurs (body_of piece.old) t }
+        body_occurs (body_of partial.new) t ≡ body_occurs (body_of partial.old) t }
 {
-    match std::mem::replace(piece, Piece::Entered) {
-        Piece::Begun(_, children) => *piece = Piece::Begun(tracker, children),
-        Piece::Whole(value) => *piece = Piece::Whole(value),
-        Piece::Entered => {}
+    match std::mem::replace(partial, PartialValue::Entered) {
+        PartialValue::Begun(_, children) => *partial = PartialValue::Begun(tracker, children),
+        PartialValue::Whole(value) => *partial = PartialValue::Whole(value),
+        PartialValue::Entered => {}
     }
 }
 
@@ -283,13 +287,13 @@ fn is_empty_struct(table: &ShapeTable, shape: ShapeId) -> bool
 }
 
 /// A place that is just entered.
-pub(crate) fn fresh(alloc: Global, table: &ShapeTable, shape: ShapeId) -> Piece
+pub(crate) fn fresh(alloc: Global, table: &ShapeTable, shape: ShapeId) -> PartialValue
     ensures { body_of result ≡ fresh_body (def_of table.now shape.0) }
 {
     if is_empty_struct(table, shape) {
-        Piece::Whole(product_of(Vec::new(alloc)))
+        PartialValue::Whole(product_of(Vec::new(alloc)))
     } else {
-        Piece::Entered
+        PartialValue::Entered
     }
 }
 
@@ -307,13 +311,13 @@ fn release_children(mut children: Children, ledger: &mut Ledger)
 }
 
 /// Records the tokens of what was put at a place as released.
-pub(crate) fn release_piece(piece: Piece, ledger: &mut Ledger)
-    requires { Room (body_occurs (body_of piece)) ledger.old }
-    ensures { RoseBy (body_occurs (body_of piece)) ledger.old ledger.new }
+pub(crate) fn release_partial(partial: PartialValue, ledger: &mut Ledger)
+    requires { Room (body_occurs (body_of partial)) ledger.old }
+    ensures { RoseBy (body_occurs (body_of partial)) ledger.old ledger.new }
 {
-    match piece {
-        Piece::Entered => {}
-        Piece::Whole(value) => release(value, ledger),
-        Piece::Begun(_, children) => release_children(children, ledger),
+    match partial {
+        PartialValue::Entered => {}
+        PartialValue::Whole(value) => release(value, ledger),
+        PartialValue::Begun(_, children) => release_children(children, ledger),
     }
 }

@@ -1,4 +1,4 @@
-use Rattle.fr_frame.proofs.pieces.release_piece.Goals as goal
+use Rattle.fr_frame.proofs.partial_values.release_partial.Goals as goal
 
 pub release-requires : goal.release-requires
 release-requires c = record { room = rw c.in-Whole.is at c.requires }

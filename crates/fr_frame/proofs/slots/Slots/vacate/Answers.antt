@@ -1,16 +1,13 @@
-use Rattle.std.proofs.Common.{◌≡◌, ℕ, ◌<◌, List, length, Some, set, slice_get, refl, sym, subst, ap, ap₂, ◌∙◌, arith}
+use Rattle.std.proofs.Common.{◌≡◌, ℕ, List, Some, set, slice_get, refl, sym, ap, ap₂, ◌∙◌, arith}
 use Rattle.fr_frame.specs.Common.{IsPlain, Slot, heap_of, slots_occur, slots_seen}
 use Rattle.fr_frame.proofs.SlotLaws.{drained_inside, drained_slot, node_seen, plain_used, set_occur, set_shows}
 use Rattle.fr_frame.proofs.HeapLaws.{read}
-use Rattle.fr_frame.proofs.slots.Slots.leave.Goals as goal
+use Rattle.fr_frame.proofs.slots.Slots.vacate.Goals as goal
 
 pub get_mut-requires : goal.get_mut-requires
-get_mut-requires c = record {
-  inside =
-      subst (λ (at : ℕ). at < length c.drain.new.entries) (sym c.idx.ensures.number)
-      (drained_inside c.self.inside.entries c.args.self.now c.self.view_is c.drain.new.entries c.args.id.0 c.requires
-      c.drain.ensures.plain);
-}
+get_mut-requires c =
+    let inside = drained_inside c.self.inside.entries c.args.self.now c.self.view_is c.drain.new.entries c.args.id.0 c.requires c.drain.ensures.plain in
+    record { inside = omega (arith, c.idx.ensures.number) }
 
 pub unreachable-requires : goal.unreachable-requires
 unreachable-requires c =
