@@ -1,9 +1,8 @@
 -- Laws of entering again, for proofs: a child of the top that was stored is on top then, as it is.
 use Rattle.std.proofs.Common.{◌≡◌, ℕ, true, false, List, [], ◌∷◌, ◌++◌, append-nil, append_assoc, refl, sym, ◌∙◌, ap, subst}
-use Rattle.fr_store.specs.Common.{AllMarked, AllMarkedAmong, AllStayPut, AreLeftRightly, Def, HasChild, IsLast, IsOpen, IsOpenAt, IsStoredChild, Kid, Leads, Place, Plan, Plot, Reaches, SameTokens, Shows, Slot, Tracker, Tree, Trees, at, at_for_at, begun, begun_plot, change_at, change_child, cursor_in, enter, entered_plot, heap_of, kid_at, kid_at_append, kid_here, left_at, marked_nth, nth_put, open_reach, open_top, put_append, put_at, put_nth, slots_above, slots_along, top_slot, tree_change_at, tree_here, tree_in, tree_in_slots, tree_of, tree_of_at, tree_of_nth, tree_put_nth, with_mark}
-use Rattle.fr_store.specs.LeftLaws.{left_put_at}
-use Rattle.fr_store.specs.WayLaws.{along_put_at, leads_put_at, stored_but}
+use Rattle.fr_store.specs.Common.{AllMarked, AllMarkedAmong, AllStayPut, AreLeftRightly, Def, HasChild, IsLast, IsOpen, IsOpenAt, IsStoredChild, Kid, Leads, Place, Plan, Plot, Reaches, Shows, Slot, Tracker, Tree, Trees, along_put_at, at, at_for_at, begun, begun_plot, change_at, change_child, cursor_in, enter, entered_plot, heap_of, kid_at, kid_at_append, kid_here, leads_put_at, left_at, left_put_at, marked_nth, nth_put, open_reach, open_top, put_append, put_at, put_nth, slots_above, slots_along, stored_but, top_slot, tree_change_at, tree_here, tree_in, tree_of, tree_of_at, tree_of_nth, tree_put_nth, with_mark}
 use Rattle.fr_store.proofs.ChildLaws.{kids_stored, placed_child, plot_has}
+use Rattle.fr_store.proofs.EnteringLaws.{GoesTo}
 use Rattle.fr_store.proofs.HeadLaws.{reaches_child}
 use Rattle.fr_store.proofs.MarkLaws.{open_marked, tree_kept}
 
@@ -13,31 +12,27 @@ entered_as_is def entered_plot = refl
 entered_as_is def _ = refl
 
 -- A child of an open builder's top that is stored is entered again.
-pub open_again : (plan : Plan) (before after : List Slot) (stack next : List ℕ) → IsOpen plan before stack → (p : ℕ)
-    → IsLast stack p → (tracker : Tracker) (i : ℕ) (def : Def) (child : ℕ) → HasChild tracker i (tree_here before stack)
-    → IsStoredChild (heap_of before) p i child → Shows after (with_mark (heap_of before) child false)
-    → SameTokens before after → next ≡ stack ++ child ∷ [] → IsOpenAt plan after next (cursor_in before stack ++ i ∷ [])
-    (change_at (cursor_in before stack) (change_child i (enter def)) (tree_in_slots before stack))
-    × AllStayPut (kid_here before stack) (kid_here after next)
-open_again plan before after stack next open_now p last tracker i def child has stored shows tokens along =
+pub open_again : {plan : Plan} {before : List Slot} (after : List Slot) {stack next : List ℕ} → IsOpen plan before stack
+    → {p : ℕ} → IsLast stack p → (tracker : Tracker) {i : ℕ} (def : Def) {child : ℕ} → HasChild tracker i (tree_here before stack)
+    → IsStoredChild (heap_of before) p i child → Shows after (with_mark (heap_of before) child false) → next ≡ stack ++ child ∷ []
+    → GoesTo plan before after stack next i (change_child i (enter def))
+open_again {plan} {before} after {stack} {next} open_now {p} last tracker {i} def {child} has stored shows along =
     let place : Place = cursor_in before stack in
     let k : Kid = kid_here before stack in
-    let top = open_top plan before stack open_now in
+    let top = open_top open_now in
     let here : HasChild tracker i (tree_in top.plot)
     = subst (λ (t : Tree). HasChild tracker i t) (sym (tree_of_at place k) ∙ ap tree_of top.is) has in
     let found = plot_has tracker i top.plot here in
-    let at_top : IsStoredChild (heap_of before) top.slot i child
-    = subst (λ (x : ℕ). IsStoredChild (heap_of before) x i child) (sym (top_slot plan before stack open_now p last)) stored in
-    let placed = placed_child plan (heap_of before) stack place k open_now.stands top tracker found.0 found.1 i found.2 child
-    at_top.slot in
+    let at_top : IsStoredChild (heap_of before) top.slot i child = subst (λ (x : ℕ). IsStoredChild (heap_of before) x i child)
+    (sym (top_slot open_now last)) stored in
+    let placed = placed_child open_now.stands top found.1 i found.2 at_top.slot in
     let plot : Plot = placed.0 in
-    let stored_kids : AllMarkedAmong true found.0
-    = kids_stored plan (heap_of before) stack place k open_now.stands top tracker found.0 found.1 i found.2 in
+    let stored_kids : AllMarkedAmong true found.0 = kids_stored open_now.stands top found.1 i found.2 in
     let begun_now : kid_at place k ≡ at top.slot false (begun_plot tracker found.0)
     = top.is ∙ ap (λ (p : Plot). at top.slot false p) found.1 in
     let is : kid_at (place ++ i ∷ []) k ≡ at child true plot
     = kid_at_append place (i ∷ []) k ∙ ap (kid_at (i ∷ [])) begun_now ∙ placed.1 in
-    let reach : Reaches place k = open_reach plan before stack open_now in
+    let reach : Reaches place k = open_reach open_now in
     -- the top with the child unmarked
     let new : Kid = at top.slot false (begun_plot tracker (put_nth i (at child false plot) found.0)) in
     let above : put_at (place ++ i ∷ []) (at child false plot) k ≡ put_at place new k
@@ -58,10 +53,8 @@ open_again plan before after stack next open_now p last tracker i def child has 
     (tree_put_nth i (at child false plot) (enter def) found.0
     (entered_as_is def plot ∙ ap (enter def) (sym (ap tree_of placed.1) ∙ tree_of_nth i found.0)))
     ∙ ap (change_child i (enter def)) (sym (sym (tree_of_at place k) ∙ ap tree_of begun_now))) in
-    subst (λ (t : Tree). IsOpenAt plan after next (place ++ i ∷ []) t × AllStayPut k (kid_here after next)) tree
-    (open_marked open_now after (place ++ i ∷ []) child true false plot
-    (reaches_child place k top.slot false tracker found.0 i reach begun_now found.2) is shows tokens next (place ++ i ∷ [])
-    (subst (λ (x : Kid). Leads (place ++ i ∷ []) x) (sym above) leads)
-    (along ∙ longer ∙ ap (slots_along (place ++ i ∷ [])) (sym above))
-    (left_put_at (place ++ i ∷ []) (at child false plot) k (at_for_at (kid_at (place ++ i ∷ []) k) child child true plot plot is)
+    subst (λ (t : Tree). IsOpenAt plan after next (place ++ i ∷ []) t × AllStayPut k (kid_here after next))
+    tree (open_marked open_now after (place ++ i ∷ []) false (reaches_child place k top.slot false tracker found.0
+    i reach begun_now found.2) is shows (place ++ i ∷ []) (subst (λ (x : Kid). Leads (place ++ i ∷ []) x) (sym above) leads)
+    (along ∙ longer ∙ ap (slots_along (place ++ i ∷ [])) (sym above)) (left_put_at (place ++ i ∷ []) k (at_for_at child plot is)
     (subst (λ (x : Kid). AreLeftRightly x) is (left_at (place ++ i ∷ []) k open_now.stands.left)) open_now.stands.left))

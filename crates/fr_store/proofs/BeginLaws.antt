@@ -1,16 +1,6 @@
 -- Laws of beginning the top, for proofs.
 use Rattle.std.proofs.Common.{◌≡◌, ℕ, zero, suc, ◌+◌, ◌≤◌, List, [], ◌∷◌, length, replicate, false, Option, Some, None, refl, sym, ◌∙◌, ap, subst, arith}
-use Rattle.fr_shape.specs.Fits.{count_vals}
-use Rattle.fr_store.specs.Common.{AllStayPut, AreLeftAll, AreLeftIn, AreUnplaced, Cell, ContentKind, EntriesKind, IsClosed, IsLast, IsOpen, IsOpenAt, KeepsChildren, Kid, Kids, LosesNone, MayHave, MayHaveIts, Place, Plan, Plot, SameTokens, Shows, Slot, Tracker, Tree, Trees, Val, absent, as_content, as_entries, at, base_of_tracker, begun, begun_body, begun_plot, body_in, branch, cells_in, change_at, cursor_in, entered_plot, entry_of, given, gone, heap_of, hole, holes, keeps_closed, keeps_same, kid, kid_here, kid_shown, kids_occur, no_kids, occurs, open_reach, open_top, opened_as, plot_occurs, put_at, there, top_changed, top_stands, tree_change_at, tree_in, tree_in_slots, tree_of, tree_of_at, tree_put_at, trees_in, whole, whole_plot, with_body}
-use Rattle.std.specs.Prelude.{IfSome}
-use Rattle.fr_shape.specs.Tokens.{vals_occur}
-use Rattle.fr_shape.specs.Val.{Vals, no_vals, first, Entries, no_entries, entry, map_of, some}
-use Rattle.fr_model.specs.Places.{entries_of, in_turn, base_in, count_entries}
-use Rattle.fr_model.specs.PartLaws.{parts_hold}
-use Rattle.fr_model.specs.Step.{opened_value, parts_as}
-use Rattle.fr_model.specs.Tree.{over_base, wholes}
-use Rattle.fr_frame.specs.Bodies.{opened, opened_by, cells_of_vals}
-use Rattle.fr_store.specs.LeftLaws.{left_past, left_value, no_base}
+use Rattle.fr_store.specs.Common.{AllStayPut, AreLeftAll, AreLeftIn, AreUnplaced, Cell, ContentKind, Entries, EntriesKind, IsClosed, IsLast, IsOpen, IsOpenAt, KeepsChildren, Kid, Kids, LosesNone, MayHave, MayHaveIts, Place, Plan, Plot, Shows, Slot, Tracker, Tree, Trees, Val, Vals, absent, as_content, as_entries, at, base_in, base_of_tracker, begun, begun_body, begun_plot, body_in, branch, cells_in, cells_of_vals, change_at, count_entries, count_vals, cursor_in, entered_plot, entries_of, entry, entry_of, first, given, gone, heap_of, hole, holes, in_turn, keeps_closed, keeps_same, kid, kid_here, kid_shown, left_past, left_value, map_of, no_base, no_entries, no_kids, no_vals, open_reach, open_top, opened, opened_as, opened_by, opened_value, over_base, parts_as, some, there, top_changed, top_stands, tree_change_at, tree_in, tree_in_slots, tree_of, tree_of_at, tree_put_at, trees_in, whole, whole_plot, wholes, with_body}
 use Rattle.fr_store.proofs.StayLaws.{stay_all, stay_shown}
 
 abbrev pub gones : ℕ → Kids
@@ -73,15 +63,16 @@ theres_unplaced no_vals = tt
 theres_unplaced (first v vs) = (tt, theres_unplaced vs)
 
 -- a place may have as many children as the value has that it holds, and as are asked for where it holds none
-parts_may : (tracker : Tracker) (v : Val) (vs : Vals) → parts_as tracker v ≡ Some vs → MayHave (over_base tracker v) (length (cells_in (theres vs)))
-parts_may (as_content ContentKind.Some) (some held) vs e =
+parts_may : (tracker : Tracker) (v : Val) {vs : Vals} → parts_as tracker v ≡ Some vs
+    → MayHave (over_base tracker v) (length (cells_in (theres vs)))
+parts_may (as_content ContentKind.Some) (some held) {vs} e =
     let one : first held no_vals ≡ vs = cc in
     subst (λ (ws : Vals). length (cells_in (theres ws)) ≤ 1) one (omega arith)
-parts_may (as_content ContentKind.Some) _ vs e = absurd (cc)
-parts_may (as_content _) v vs e = absurd (cc)
-parts_may (as_entries (EntriesKind.Map base)) v vs e = tt
-parts_may (as_entries (EntriesKind.Object keys)) v vs e = tt
-parts_may _ v vs e = tt
+parts_may (as_content ContentKind.Some) _ e = absurd (cc)
+parts_may (as_content _) v e = absurd (cc)
+parts_may (as_entries (EntriesKind.Map base)) v e = tt
+parts_may (as_entries (EntriesKind.Object keys)) v e = tt
+parts_may _ v e = tt
 
 pub gones_count : (count : ℕ) → length (cells_in (gones count)) ≡ count
 gones_count zero = refl
@@ -95,30 +86,31 @@ gones_left tracker i zero none = no_base tracker i none
 gones_left tracker i (suc count) none =
     (left_past tracker i gone (no_base tracker i none) refl, tt, gones_left tracker (suc i) count none)
 
-pub theres_left : (tracker : Tracker) (i : ℕ) (vs : Vals) (m : ℕ) → m ≡ i + count_vals vs → base_of_tracker tracker ≤ entry_of m
+pub theres_left : (tracker : Tracker) (i : ℕ) (vs : Vals) {m : ℕ} → m ≡ i + count_vals vs → base_of_tracker tracker ≤ entry_of m
     → AreLeftAll tracker i (theres vs)
-theres_left tracker i no_vals m e past =
+theres_left tracker i no_vals {m} e past =
     let same : m ≡ i = omega arith in
     subst (λ (n : ℕ). base_of_tracker tracker ≤ entry_of n) same past
-theres_left tracker i (first v vs) m e past = (left_value tracker i v, tt, theres_left tracker (suc i) vs m (omega arith) past)
+theres_left tracker i (first v vs) {m} e past
+    = (left_value tracker i v, tt, theres_left tracker (suc i) vs {m = m} (omega arith) past)
 
 -- a map that holds a value is begun over its entries
 turn_count : (es : Entries) → entry_of (count_vals (in_turn es)) ≡ count_entries es
 turn_count no_entries = refl
 turn_count (entry key held es) = ap suc (turn_count es)
 
-entries_base : (v : Val) (vs : Vals) → entries_of v ≡ Some vs → base_in v ≤ entry_of (count_vals vs)
-entries_base (map_of es) vs e =
+entries_base : (v : Val) {vs : Vals} → entries_of v ≡ Some vs → base_in v ≤ entry_of (count_vals vs)
+entries_base (map_of es) {vs} e =
     let same : in_turn es ≡ vs = cc in
     let counted : entry_of (count_vals (in_turn es)) ≡ entry_of (count_vals vs)
     = ap (λ (ws : Vals). entry_of (count_vals ws)) same in
     omega (arith, turn_count es, counted)
-entries_base _ vs e = absurd (cc)
+entries_base _ e = absurd (cc)
 
-over_base_past : (tracker : Tracker) (v : Val) (vs : Vals) → parts_as tracker v ≡ Some vs
+over_base_past : (tracker : Tracker) (v : Val) {vs : Vals} → parts_as tracker v ≡ Some vs
     → base_of_tracker (over_base tracker v) ≤ entry_of (count_vals vs)
-over_base_past (as_entries (EntriesKind.Map base)) v vs e = entries_base v vs e
-over_base_past _ v vs e = omega arith
+over_base_past (as_entries (EntriesKind.Map base)) v {vs} e = entries_base v e
+over_base_past _ v e = omega arith
 
 opened_keeps : (tracker : Tracker) (count : ℕ) (plot : Plot) → MayHave tracker count → base_of_tracker tracker ≡ 0
     → KeepsChildren plot (opened_plot tracker count plot)
@@ -130,11 +122,11 @@ opened_keeps tracker count (whole_plot v) may none =
     (λ h. left (parts_as tracker v) refl)
   where
     so : (parts : Option Vals) → parts_as tracker v ≡ parts → MayHaveIts (body_in (opened_whole tracker v parts))
-    so (Some vs) e = parts_may tracker v vs e
+    so (Some vs) e = parts_may tracker v e
     so None e = tt
 
     left : (parts : Option Vals) → parts_as tracker v ≡ parts → AreLeftIn (opened_whole tracker v parts)
-    left (Some vs) e = theres_left (over_base tracker v) 0 vs (count_vals vs) (omega arith) (over_base_past tracker v vs e)
+    left (Some vs) e = theres_left (over_base tracker v) 0 vs {m = count_vals vs} (omega arith) (over_base_past tracker v e)
     left None e = tt
 
     go : (parts : Option Vals) → IsClosed (body_in (opened_whole tracker v parts))
@@ -146,26 +138,6 @@ opened_loses : (tracker : Tracker) (count : ℕ) (plot : Plot) → LosesNone plo
 opened_loses tracker count entered_plot n = omega arith
 opened_loses tracker count _ n = omega arith
 
-pub gones_tokens : (count t : ℕ) → kids_occur (gones count) t ≡ 0
-gones_tokens zero t = refl
-gones_tokens (suc count) t = omega (arith, gones_tokens count t)
-
-theres_tokens : (vs : Vals) (t : ℕ) → kids_occur (theres vs) t ≡ vals_occur vs t
-theres_tokens no_vals t = refl
-theres_tokens (first v vs) t = ap (λ (n : ℕ). occurs v t + n) (theres_tokens vs t)
-
-whole_tokens : (tracker : Tracker) (v : Val) (t : ℕ) → plot_occurs (opened_whole tracker v (parts_as tracker v)) t ≡ occurs v t
-whole_tokens tracker v t = go (parts_as tracker v) (parts_hold tracker v t)
-  where
-    go : (parts : Option Vals) → IfSome parts (λ vs. vals_occur vs t ≡ occurs v t) → plot_occurs (opened_whole tracker v parts) t ≡ occurs v t
-    go (Some vs) same = theres_tokens vs t ∙ same
-    go None same = refl
-
-opened_tokens : (tracker : Tracker) (count : ℕ) (plot : Plot) (t : ℕ) → plot_occurs (opened_plot tracker count plot) t ≡ plot_occurs plot t
-opened_tokens tracker count entered_plot t = gones_tokens count t
-opened_tokens tracker count (whole_plot v) t = whole_tokens tracker v t
-opened_tokens tracker count (begun_plot made kids) t = refl
-
 -- its children stay in their slots
 opened_stay : (slot : ℕ) (tracker : Tracker) (count : ℕ) (plot : Plot)
     → AllStayPut (at slot false plot) (at slot false (opened_plot tracker count plot))
@@ -174,36 +146,31 @@ opened_stay slot tracker count (begun_plot made kids) (i ∷ place) placed = (pl
 opened_stay slot tracker count _ (i ∷ place) placed = absurd placed.reaches
 
 -- the top is begun
-pub open_begun : (plan : Plan) (before after : List Slot) (stack : List ℕ) (open_now : IsOpen plan before stack) (n : ℕ)
-    → IsLast stack n → (tracker : Tracker) (count : ℕ) → MayHave tracker count → base_of_tracker tracker ≡ 0
-    → Shows after (with_body (heap_of before) n (opened tracker count)) → SameTokens before after
-    → IsOpenAt plan after stack (cursor_in before stack)
+pub open_begun : {plan : Plan} {before : List Slot} (after : List Slot) {stack : List ℕ} (open_now : IsOpen plan before stack)
+    {n : ℕ} → IsLast stack n → (tracker : Tracker) (count : ℕ) → MayHave tracker count → base_of_tracker tracker ≡ 0
+    → Shows after (with_body (heap_of before) n (opened tracker count)) → IsOpenAt plan after stack (cursor_in before stack)
     (change_at (cursor_in before stack) (opened_as tracker count) (tree_in_slots before stack))
-open_begun plan before after stack open_now n last tracker count may none shows tokens =
+open_begun {plan} {before} after {stack} open_now {n} last tracker count may none shows =
     let place : Place = cursor_in before stack in
     let k : Kid = kid_shown (heap_of before) stack in
-    let top = open_top plan before stack open_now in
+    let top = open_top open_now in
     let new : Plot = opened_plot tracker count top.plot in
     let same : change_at place (λ old. tree_in new) (tree_of k) ≡ change_at place (opened_as tracker count) (tree_of k)
     = sym (tree_put_at place (at top.slot false new) k) ∙ tree_change_at place (opened_as tracker count) (at top.slot false new) k
     (opened_tree tracker count top.plot ∙ ap (opened_as tracker count) (ap tree_of (sym top.is) ∙ tree_of_at place k)) in
-    subst (λ (t : Tree). IsOpenAt plan after stack place t) same
-    (top_changed plan before after stack open_now n last (opened tracker count) new (opened_body tracker count top.plot)
-    (opened_keeps tracker count top.plot may none) (opened_loses tracker count top.plot) shows
-    (λ t. omega (arith, tokens t, opened_tokens tracker count top.plot t)))
+    subst (λ (t : Tree). IsOpenAt plan after stack place t)
+    same (top_changed after open_now last (opened tracker count) (opened_body tracker count top.plot)
+    (opened_keeps tracker count top.plot may none) (opened_loses tracker count top.plot) shows)
 
 -- no place leaves its slot
-pub stay_begun : (plan : Plan) (before after : List Slot) (stack : List ℕ) (open_now : IsOpen plan before stack) (n : ℕ)
-    → IsLast stack n → (tracker : Tracker) (count : ℕ) → MayHave tracker count → base_of_tracker tracker ≡ 0
-    → Shows after (with_body (heap_of before) n (opened tracker count))
-    → AllStayPut (kid_here before stack) (kid_here after stack)
-stay_begun plan before after stack open_now n last tracker count may none shows =
+pub stay_begun : {plan : Plan} {before : List Slot} (after : List Slot) {stack : List ℕ} (open_now : IsOpen plan before stack)
+    {n : ℕ} → IsLast stack n → (tracker : Tracker) (count : ℕ) → MayHave tracker count → base_of_tracker tracker ≡ 0 → Shows
+    after (with_body (heap_of before) n (opened tracker count)) → AllStayPut (kid_here before stack) (kid_here after stack)
+stay_begun {plan} {before} after {stack} open_now {n} last tracker count may none shows =
     let place : Place = cursor_in before stack in
     let k : Kid = kid_here before stack in
-    let top = open_top plan before stack open_now in
+    let top = open_top open_now in
     let new : Plot = opened_plot tracker count top.plot in
-    stay_shown plan after stack place (put_at place (at top.slot false new) k) k
-    (top_stands plan before after stack open_now n last (opened tracker count) new (opened_body tracker count top.plot)
-    (opened_keeps tracker count top.plot may none) shows)
-    (stay_all place (at top.slot false new) k (open_reach plan before stack open_now)
+    stay_shown after k (top_stands after open_now last (opened tracker count) (opened_body tracker count top.plot)
+    (opened_keeps tracker count top.plot may none) shows) (stay_all place (at top.slot false new) k (open_reach open_now)
     (subst (λ (x : Kid). AllStayPut x (at top.slot false new)) (sym top.is) (opened_stay top.slot tracker count top.plot)))

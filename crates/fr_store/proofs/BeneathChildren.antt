@@ -157,7 +157,7 @@ module _ (plan : Plan) (heap : Heap) (node : NodeId) (owner : FrameOwner) (depth
   so_all : (So : Place → Type 0) → ((c : ℕ) → IsPlaced k (below c) → So (below c)) → All So (map below nums)
   so_all So so =
       All-map So below nums (All-weaker (IsAmong (kid_at p k) (length (cells_in (kids_below (kid_at p k))))) (λ c. So (below c))
-      (λ c is. so c (placed_below p (c ∷ []) k placed is.placed)) nums among)
+      (λ c is. so c (placed_below placed is.placed)) nums among)
 
   slots_here : (cs : List ℕ) → map (λ number. slot_if (slot_at (cells_in (kids_below (kid_at p k))) number)) cs
       ≡ map (slot_of_place k) (map below cs)
@@ -179,7 +179,7 @@ module _ (plan : Plan) (heap : Heap) (node : NodeId) (owner : FrameOwner) (depth
           pairs_map (IsAfterBelow (kid_at p k)) (ComesEarlier k) below
           (IsAmong (kid_at p k) (length (cells_in (kids_below (kid_at p k))))) (λ c d one two after. siblings k p c d after)
           nums among (in_order (kid_at p k) (length (cells_in (kids_below (kid_at p k)))) (omega arith));
-      all = λ i child. in_map below nums i (listed_all (kid_at p k) i (placed_child p i k child));
+      all = λ i child. in_map below nums i (listed_all (kid_at p k) i (placed_child p i child));
     };
     stored = so_all (IsStoredHere k) stored;
     slots_are =

@@ -1,6 +1,7 @@
 -- The steps of the loop that lists all places in slots beneath the one on top of the stack.
 use Rattle.std.proofs.Common.{◌≡◌, ℕ, ◌+◌, ◌<◌, ◌≤◌, List, [], ◌∷◌, ◌++◌, length, length-append, get_or, reverse, inl, inr, refl, sym, ◌∙◌, ap, subst, arith}
-use Rattle.fr_store.specs.Common.{FrameOwner, Heap, Holds, IsHere, IsLast, IsOpen, IsPlaced, IsSome, IsStoredHere, IsWalk, Kid, Leads, NodeId, Place, Plan, Slot, at, cells_found, cursor_in, heap_of, holds_at, is_map_found, is_some, kid_at, kid_here, kid_on_top, left_at, node_along, open_reach, open_top, owner_along, slot_at, slot_here, slotted, top_slot}
+use Rattle.fr_store.specs.Common.{FrameOwner, Heap, Holds, IsLast, IsOpen, IsPlaced, IsSome, IsStoredHere, IsWalk, Kid, Leads, NodeId, Place, Plan, Slot, cells_found, cursor_in, heap_of, holds_at, is_map_found, is_some, kid_at, kid_here, kid_on_top, left_at, node_along, open_reach, open_top, owner_along, slot_at, slot_here, slotted, top_slot}
+use Rattle.std.proofs.lemmas.List.{nil_from_length}
 use Rattle.fr_store.specs.TokenLaws.{used_within}
 use Rattle.fr_store.proofs.BeneathChildren.{children_here}
 use Rattle.fr_store.proofs.BeneathTurns.{leads_on_top, once_on_top}
@@ -9,16 +10,8 @@ use Rattle.fr_store.proofs.PlaceLaws.{leads_here}
 use Rattle.fr_store.proofs.QueueLaws.{IsQueue, ahead_now, all_written, first_placed, first_read, first_stored, last_next, queue_starts, stored_next, written_of, written_once}
 use Rattle.fr_store.proofs.SiblingLaws.{none_of_last, none_of_stored}
 use Rattle.fr_store.proofs.SpreadLaws.{AreClosed}
+use Rattle.fr_store.proofs.StoredLaws.{found_in}
 use Rattle.fr_store.proofs.WalkLaws.{walk_of}
-
-used_slot : (plan : Plan) (heap : Heap) (node : NodeId) (owner : FrameOwner) (depth : ℕ) (x : Kid)
-    → Holds plan heap node owner depth x → IsHere x → IsSome (heap (slot_here x))
-used_slot plan heap node owner depth (at slot stored plot) holds here = ap is_some holds.0
-used_slot plan heap node owner depth _ holds here = absurd here
-
-none_long : (p : Place) → length p ≡ 0 → p ≡ []
-none_long [] e = refl
-none_long (i ∷ p) e = absurd (omega arith)
 
 -- what is written down as the children of the place in this slot
 abbrev pub slots_below : Heap → ℕ → List ℕ
@@ -28,7 +21,7 @@ slots_below heap n = slotted (is_map_found (heap n)) (cells_found (heap n)) (len
 abbrev pub IsQueueBeneath : List Slot → (stack : List ℕ) → (queue : List ℕ) → (head : ℕ) → Type 0
 IsQueueBeneath slots stack queue head = IsQueue (kid_on_top slots stack) [] queue head 1 0
 
-module _ (plan : Plan) (slots : List Slot) (stack : List ℕ) (open_now : IsOpen plan slots stack) where
+module _ {plan : Plan} {slots : List Slot} {stack : List ℕ} (open_now : IsOpen plan slots stack) where
   abbrev k : Kid
   k = kid_on_top slots stack
 
@@ -39,12 +32,12 @@ module _ (plan : Plan) (slots : List Slot) (stack : List ℕ) (open_now : IsOpen
   owner = owner_along FrameOwner.Root (cursor_in slots stack) (kid_here slots stack)
 
   leads : Leads [] (kid_on_top slots stack)
-  leads = leads_on_top plan slots stack open_now
+  leads = leads_on_top open_now
 
   holds : Holds plan (heap_of slots) node owner (0 + length (cursor_in slots stack)) (kid_on_top slots stack)
   holds =
       holds_at plan (heap_of slots) plan.root FrameOwner.Root 0 (cursor_in slots stack) (kid_here slots stack)
-      open_now.stands.holds (open_reach plan slots stack open_now)
+      open_now.stands.holds (open_reach open_now)
 
   holds_place : (p : Place) → IsPlaced k p → Holds plan (heap_of slots) (node_along plan node p k) (owner_along owner p k)
       (0 + length (cursor_in slots stack) + length p) (kid_at p k)
@@ -62,21 +55,21 @@ module _ (plan : Plan) (slots : List Slot) (stack : List ℕ) (open_now : IsOpen
       let start = queue_starts k [] leads in
       let o = ahead_now start (omega arith) in
       let parts = ap (λ (l : Place). length l) o.on_way in
-      let here : [] ≡ o.above = sym (none_long o.above (sym o.number)) in
-      last_next start leads o refl (none_long o.below (omega (arith, length-append o.above o.below)))
+      let here : [] ≡ o.above = sym (nil_from_length o.above (sym o.number)) in
+      last_next start leads o refl (nil_from_length o.below (omega (arith, length-append o.above o.below)))
       (slots_below (heap_of slots) n) (subst (λ (p : Place). AreClosed k p (slots_below (heap_of slots) n)) here (closed_at []
       (record { reaches = tt; here = leads_here [] k leads }) (none_of_last k [] leads [] refl) n
-      (ap slot_here (open_top plan slots stack open_now).is ∙ top_slot plan slots stack open_now n last))) 0
+      (ap slot_here (open_top open_now).is ∙ top_slot open_now last))) 0
 
-  module _ (queue : List ℕ) (head : ℕ) (q : IsQueueBeneath slots stack queue head) where
+  module _ {queue : List ℕ} {head : ℕ} (q : IsQueueBeneath slots stack queue head) where
     -- there are no more of them than slots
     pub steps_few : length queue ≤ length slots
     steps_few =
-        room_below queue (length slots) (written_once q (once_on_top plan slots stack open_now)) (λ n found.
+        room_below queue (length slots) (written_once q (once_on_top open_now)) (λ n found.
         let lies = written_of q n found in
-        used_within slots n (subst (λ (m : ℕ). IsSome (heap_of slots m)) lies.3 (used_slot plan (heap_of slots)
+        used_within slots n (subst (λ (m : ℕ). IsSome (heap_of slots m)) lies.3 (ap is_some (found_in plan (heap_of slots)
         (node_along plan node lies.0 k) (owner_along owner lies.0 k) (0 + length (cursor_in slots stack) + length lies.0)
-        (kid_at lies.0 k) (holds_place lies.0 lies.1) lies.1.here)))
+        (kid_at lies.0 k) (holds_place lies.0 lies.1) lies.1.here).1)))
 
     -- the children of the next one come behind the others
     pub steps_on : head < length queue → (n : ℕ) → n ≡ get_or queue head n → (next : List ℕ)
@@ -90,6 +83,5 @@ module _ (plan : Plan) (slots : List Slot) (stack : List ℕ) (open_now : IsOpen
     -- all are listed
     pub steps_end : length queue ≤ head → IsWalk (kid_on_top slots stack) (reverse queue)
     steps_end over =
-        walk_of plan (heap_of slots) node owner (0 + length (cursor_in slots stack)) k holds
-        (left_at (cursor_in slots stack) (kid_here slots stack) open_now.stands.left) (inl ([], leads)) queue
-        (all_written q (omega arith) over)
+        walk_of plan (heap_of slots) node owner (0 + length (cursor_in slots stack)) holds (left_at (cursor_in slots stack)
+        (kid_here slots stack) open_now.stands.left) (inl ([], leads)) (all_written q (omega arith) over)

@@ -1,6 +1,7 @@
 -- The turns of the places that lie beneath the one at which a builder works, one after another.
-use Rattle.std.proofs.Common.{◌≡◌, ◌≢◌, ◌↔◌, ℕ, zero, suc, ◌≤◌, true, false, List, [], ◌∷◌, ◌++◌, append-nil, Some, refl, sym, ◌∙◌, ap, ap₂, subst, arith}
-use Rattle.fr_store.specs.Common.{AllMarked, AreStoredAt, AtCursor, Contains, EachFailureHasItsPlace, Failure, FirstByWalkIs, FrameOwner, HasTurned, IsChecked, IsClosed, IsHeldUpHere, IsKept, IsLackingAt, IsLast, IsOpen, IsPlaced, IsStoredAt, IsWalk, KeepsTheRest, Kid, Kids, LackingFails, Leads, MayTurn, Meanings, Node, NoneStored, PathStep, Place, Plan, Reaches, ReflectErrorKind, Slot, StayPutButBeneath, Suits, Table, Top, Tree, at, begun_plot, body_in, closed_at, cursor_in, first_by_walk, heap_of, kid, kid_at, kid_here, kid_nth, kid_on_top, leads_at, marked, no_kids, off_stored, open_reach, open_top, own_lack, put_at, put_nth, reach_place, root_shape, shape_in, slot_at, slot_here, so_top, steps_in, stored_here, stored_in, strict, there, tree_at, tree_here, tree_in_slots, tree_of, tree_of_at, tree_put_at, uses, uses_at}
+use Rattle.std.proofs.Common.{◌≡◌, ◌≢◌, ◌↔◌, ℕ, zero, suc, ◌+◌, ◌<◌, ◌≤◌, drop, get_or, length, true, false, List, [], ◌∷◌, ◌++◌, append-nil, Some, refl, sym, ◌∙◌, ap, ap₂, subst, arith}
+use Rattle.fr_store.specs.Common.{AllMarked, AtCursor, Contains, EachFailureHasItsPlace, Failure, FirstByWalkIs, FrameOwner, HasTurned, IsChecked, IsClosed, IsHeldUpHere, IsKept, IsLackingAt, IsLast, IsOpen, IsPlaced, IsStoredAt, IsWalk, KeepsTheRest, Kid, Kids, LackingFails, Leads, MayTurn, Meanings, Node, PathStep, Place, Plan, Reaches, ReflectErrorKind, Slot, StayPutButBeneath, Suits, Table, Top, Tree, at, begun_plot, body_in, closed_at, cursor_in, first_by_walk, heap_of, kid, kid_at, kid_here, kid_nth, kid_on_top, leads_at, marked, no_kids, off_stored, open_reach, open_top, own_lack, put_at, put_nth, reach_place, root_shape, shape_in, slot_at, slot_here, so_top, steps_in, stored_here, stored_in, strict, there, tree_at, tree_here, tree_in_slots, tree_of, tree_of_at, tree_put_at, uses, uses_at}
+use Rattle.std.proofs.lemmas.List.{drop_more}
 use Rattle.fr_store.specs.MoveLaws.{top_node}
 use Rattle.fr_model.specs.Failing.{failures}
 use Rattle.fr_model.specs.FinishLaws.{Closes, ClosingKeepsFinish}
@@ -14,11 +15,13 @@ use Rattle.fr_store.proofs.BeneathMeant.{nothing_left, same_within}
 use Rattle.fr_store.proofs.FailLaws.{cause_is, fails_beneath, none_made}
 use Rattle.fr_store.proofs.DueLaws.{due, head as due_head, kid_next, left_next, only_here, part_next, same as due_same, stored as due_stored, suits_next}
 use Rattle.fr_store.proofs.HeadLaws.{Head}
-use Rattle.fr_store.proofs.HeldLaws.{closed_cursor, first_fails, no_marks}
+use Rattle.fr_store.proofs.HeldLaws.{closed_cursor, first_fails, walk_over}
+use Rattle.fr_store.proofs.KeptLaws.{kept_but}
 use Rattle.fr_store.proofs.OpenLaws.{open_stay}
 use Rattle.fr_store.proofs.PlaceLaws.{leads_here, mark_at}
 use Rattle.fr_store.proofs.WalkLaws.{placed_stored}
 use Rattle.fr_store.proofs.StayLaws.{stay_but_beneath}
+use Rattle.fr_store.proofs.WalkedLaws.{as_before_again}
 
 -- What lies at a place, put there, changes nothing.
 
@@ -35,7 +38,7 @@ put_same (i ∷ place) (at slot stored (begun_plot tracker kids)) reach =
 put_same (i ∷ place) _ reach = absurd reach
 
 -- The place on top of an open builder, and what lies beneath it.
-module _ (plan : Plan) (slots : List Slot) (stack : List ℕ) (open_now : IsOpen plan slots stack) where
+module _ {plan : Plan} {slots : List Slot} {stack : List ℕ} (open_now : IsOpen plan slots stack) where
   pub leads_on_top : Leads [] (kid_on_top slots stack)
   leads_on_top =
       leads_at (cursor_in slots stack) [] (kid_here slots stack)
@@ -46,7 +49,7 @@ module _ (plan : Plan) (slots : List Slot) (stack : List ℕ) (open_now : IsOpen
 
   pub placed_on_top : IsPlaced (kid_here slots stack) (cursor_in slots stack)
   placed_on_top = record {
-    reaches = open_reach plan slots stack open_now;
+    reaches = open_reach open_now;
     here = leads_here [] (kid_on_top slots stack) leads_on_top;
   }
 
@@ -64,20 +67,28 @@ pub record WalkedBeneath (means : Meanings) (table : Table) (plan : Plan) (befor
       completed_beneath means table (shape_here table plan now stack) (tree_here now stack)
       ≡ completed_beneath means table (shape_here table plan before stack) (tree_here before stack)
 
-module _ (means : Meanings) (table : Table) (plan : Plan) (before : List Slot) (stack : List ℕ) (open_first : IsOpen plan before stack) where
-  pub beneath_begins : (walk : List ℕ) → Suits table (root_shape plan) (tree_in_slots before stack)
-      → IsWalk (kid_on_top before stack) walk → WalkedBeneath means table plan before stack before walk
-  beneath_begins walk suits left = record {
-    still = open_first;
-    cursor = refl;
-    suits = suits;
-    left = left;
-    beside = sym (put_same (cursor_in before stack) (kid_here before stack) (open_reach plan before stack open_first));
-    here = record { value = refl; failing = λ path. refl };
-    meant = refl;
-  }
+pub beneath_begins : {means : Meanings} {table : Table} {plan : Plan} {before : List Slot} {stack walk : List ℕ}
+    → IsOpen plan before stack → Suits table (root_shape plan) (tree_in_slots before stack) → IsWalk (kid_on_top before stack) walk
+    → WalkedBeneath means table plan before stack before walk
+beneath_begins {plan} {before} {stack} open_first suits left = record {
+  still = open_first;
+  cursor = refl;
+  suits = suits;
+  left = left;
+  beside = sym (put_same (cursor_in before stack) (kid_here before stack) (open_reach open_first));
+  here = record { value = refl; failing = λ path. refl };
+  meant = refl;
+}
 
-  module _ (now : List Slot) (rest : List ℕ) (n : ℕ) (walked : WalkedBeneath means table plan before stack now (n ∷ rest)) where
+-- the next place of the walk
+pub beneath_next : {means : Meanings} {table : Table} {plan : Plan} {before now : List Slot} {stack : List ℕ} (walk : List ℕ) (i : ℕ)
+    → i < length walk → WalkedBeneath means table plan before stack now (drop i walk)
+    → WalkedBeneath means table plan before stack now (get_or walk i 0 ∷ drop (i + 1) walk)
+beneath_next {means} {table} {plan} {before} {now} {stack} walk i h walked =
+    subst (WalkedBeneath means table plan before stack now) (drop_more walk i 0 h) walked
+
+module _ {means : Meanings} {table : Table} {plan : Plan} {before : List Slot} {stack : List ℕ} (open_first : IsOpen plan before stack) where
+  module _ {now : List Slot} {rest : List ℕ} {n : ℕ} (walked : WalkedBeneath means table plan before stack now (n ∷ rest)) where
     abbrev k : Kid
     k = kid_here now stack
 
@@ -88,56 +99,53 @@ module _ (means : Meanings) (table : Table) (plan : Plan) (before : List Slot) (
     on = sym (append-nil (cursor_in now stack))
 
     abbrev head : Head (kid_on_top now stack) n rest walked.left.places
-    head = due_head now stack walked.still (cursor_in now stack) [] on n rest walked.left
+    head = due_head walked.still (cursor_in now stack) [] on walked.left
 
     -- where it lies
     abbrev here : Place
     here = cursor_in now stack ++ head.place
 
     leads : Leads [] (kid_on_top now stack)
-    leads = leads_on_top plan now stack walked.still
+    leads = leads_on_top walked.still
 
     stored : IsStoredAt (kid_here now stack) n here
-    stored = due_stored now stack walked.still (cursor_in now stack) [] on n rest walked.left
+    stored = due_stored walked.still (cursor_in now stack) [] on walked.left
 
     -- it may have its turn
     pub beneath_due : MayTurn now stack n
-    beneath_due = due now stack walked.still (cursor_in now stack) [] on n rest walked.left
+    beneath_due = due walked.still (cursor_in now stack) [] on walked.left
 
     -- it is stored
     pub beneath_marked : marked (heap_of now) n ≡ true
     beneath_marked =
-        ap (marked (heap_of now)) (sym (ap slot_here stored.is))
-        ∙ mark_at plan (heap_of now) plan.root FrameOwner.Root 0 here (kid_here now stack) walked.still.stands.holds
-        (placed_stored (kid_here now stack) n here stored) ∙ ap stored_here stored.is
+        ap (marked (heap_of now)) (sym (ap slot_here stored.is)) ∙ mark_at plan (heap_of now) plan.root FrameOwner.Root
+        0 walked.still.stands.holds (placed_stored stored) ∙ ap stored_here stored.is
 
     -- it had its turn
-    module _ (next : List Slot) (turned : HasTurned means table plan now stack next n) where
+    module _ {next : List Slot} (turned : HasTurned means table plan now stack next n) where
       same : turned.place ≡ here
-      same = due_same now stack walked.still (cursor_in now stack) [] on n rest walked.left means table next turned
+      same = due_same walked.still (cursor_in now stack) [] on walked.left turned
 
-      new : Kid
+      abbrev new : Kid
       new = put_at head.place (there turned.value) (kid_on_top now stack)
 
       top_next : kid_on_top next stack ≡ new
-      unfolding new
       top_next =
           ap (λ (p : Place). kid_at p (kid_here next stack)) turned.stands.cursor
-          ∙ part_next now stack walked.still (cursor_in now stack) [] on n rest walked.left means table next turned
+          ∙ part_next walked.still (cursor_in now stack) [] on walked.left turned
 
       left_top : IsWalk (kid_on_top next stack) rest
       left_top =
           subst (λ (p : Place). IsWalk (kid_at p (kid_here next stack)) rest) (sym turned.stands.cursor)
-          (left_next now stack walked.still (cursor_in now stack) [] on n rest walked.left means table next turned).0
+          (left_next walked.still (cursor_in now stack) [] on walked.left turned).0
 
       beside_next : kid_here next stack ≡ put_at (cursor_in before stack) (kid_on_top next stack) (kid_here before stack)
-      unfolding new
       beside_next =
-          kid_next now stack walked.still (cursor_in now stack) [] on n rest walked.left means table next turned
+          kid_next walked.still (cursor_in now stack) [] on walked.left turned
           ∙ ap (λ (p : Place). put_at p new (kid_here now stack)) walked.cursor
           ∙ ap (put_at (cursor_in before stack) new) walked.beside
           ∙ put_at_twice (cursor_in before stack) (kid_on_top now stack) new (kid_here before stack)
-          (open_reach plan before stack open_first)
+          (open_reach open_first)
           ∙ ap (λ (y : Kid). put_at (cursor_in before stack) y (kid_here before stack)) (sym top_next)
 
       -- the same is to come of what lies at the top
@@ -146,10 +154,10 @@ module _ (means : Meanings) (table : Table) (plan : Plan) (before : List Slot) (
       meant_next closing =
           ap₂ (λ (p : Place) (t : Tree). completed_beneath means table (shape_in table (root_shape plan) p t) (tree_at p t))
           turned.stands.cursor (turned.stands.built ∙ ap (λ (p : Place). closed_at p turned.value (tree_in_slots now stack)) same)
-          ∙ same_within means table closing (root_shape plan) (cursor_in now stack) head.place turned.value
-          (tree_in_slots now stack) (λ e. off_stored [] head.place x n head.stored.plot leads head.stored.is [] (sym e ∙ sym (append-nil head.place)))
+          ∙ same_within means table closing (root_shape plan) (cursor_in now stack) head.place turned.value (tree_in_slots
+          now stack) (λ e. off_stored [] head.place x leads head.stored.is [] (sym e ∙ sym (append-nil head.place)))
           (subst (λ (p : Place). Closes means table (root_shape plan) p turned.value (tree_in_slots now stack)) same
-          (closes_with means table (root_shape plan) turned.place turned.value (tree_in_slots now stack)
+          (closes_with means table (root_shape plan) turned.place (tree_in_slots now stack)
           (reach_place turned.place (kid_here now stack) turned.stored.reaches) turned.meant))
 
       pub beneath_goes_on : CompletingFits → IsChecked table → ClosingKeepsFinish → KeepsTheRest means table plan now stack next
@@ -158,129 +166,97 @@ module _ (means : Meanings) (table : Table) (plan : Plan) (before : List Slot) (
         still = turned.stands.open_still;
         cursor = turned.stands.cursor ∙ walked.cursor;
         suits =
-            suits_next now stack walked.still (cursor_in now stack) [] on n rest walked.left means table next turned fitting checked
-            walked.suits;
+            suits_next walked.still (cursor_in now stack) [] on walked.left turned fitting checked walked.suits;
         left = left_top;
         beside = beside_next;
-        here =
-            let one : CompletesAsBefore means table (root_shape plan) (tree_in_slots now stack) (tree_in_slots next stack)
-            (cursor_in before stack)
-            = subst
+        here = as_before_again walked.here (subst
             (λ (p : Place). CompletesAsBefore means table (root_shape plan) (tree_in_slots now stack) (tree_in_slots next stack) p)
-            walked.cursor keeps.cursor in
-            record { value = one.value ∙ walked.here.value; failing = λ path. one.failing path ∙ walked.here.failing path };
+            walked.cursor keeps.cursor);
         meant = meant_next closing ∙ walked.meant;
       }
 
       -- it is taken out of the store, and all others that are stored are in it
       pub beneath_kept : (store store_next : List ℕ) → IsKept store now
           → ((m : ℕ) → Contains store_next m ↔ (Contains store m × (m ≢ n))) → IsKept store_next next
-      beneath_kept store store_next kept less m = (
-        λ is. let ne : m ≢ n = λ e. freed (subst (λ (y : ℕ). marked (heap_of next) y ≡ true) e is) in
-            (less m).1 ((kept m).0 (sym (turned.marks m ne) ∙ is), ne),
-        λ found. let both = (less m).0 found in turned.marks m both.1 ∙ (kept m).1 both.0,
-      )
-        where
-          freed : marked (heap_of next) n ≡ true → ⊥
-          freed is = let no : false ≡ true = sym (ap stored_in turned.free) ∙ is in cc
+      beneath_kept store store_next kept less =
+          kept_but store store_next now next n kept (ap stored_in turned.free) turned.marks less
+
+    abbrev tree : Tree
+    tree = tree_in_slots now stack
+
+    abbrev shape : ℕ
+    shape = shape_here table plan now stack
 
     -- it makes no value: it is the first place that fails
-    pub beneath_held_up : EachFailureHasItsPlace → LackingFails → FirstByWalkIs → CompletesOrFails → (kind : ReflectErrorKind)
+    pub beneath_held_up : EachFailureHasItsPlace → LackingFails → FirstByWalkIs → CompletesOrFails → {kind : ReflectErrorKind}
         → IsLackingAt means table plan now stack n kind → IsHeldUpHere means table plan before stack kind
-    beneath_held_up each lacking first fails kind lacks = record {
+    beneath_held_up each lacking first fails {kind} lacks = record {
       incomplete =
-          none_made fails means table (shape_here table plan before stack) []
-          (tree_at (cursor_in before stack) (tree_in_slots before stack)) (failure_of []) (first_before []);
-      cause = λ path. cause_is means table (shape_here table plan before stack) path
-          (tree_at (cursor_in before stack) (tree_in_slots before stack)) (failure_of path) (first_before path);
+          none_made fails means table (shape_here table plan before stack) [] (tree_here before stack) (first_before []);
+      cause = λ path. cause_is means table (shape_here table plan before stack) path (tree_here before stack) (first_before path);
     }
       where
         failure_of : List PathStep → Failure
-        failure_of path = record { path = path ++ steps_in head.place (tree_of (kid_on_top now stack)); kind = kind }
+        failure_of path = record { path = path ++ steps_in head.place (tree_of x); kind = kind }
 
-        tree_on_top : tree_of (kid_on_top now stack) ≡ tree_at (cursor_in now stack) (tree_in_slots now stack)
+        tree_on_top : tree_of x ≡ tree_at (cursor_in now stack) tree
         tree_on_top = tree_of_at (cursor_in now stack) (kid_here now stack)
 
-        lacks_here : own_lack means table (shape_in table (root_shape plan) here (tree_in_slots now stack))
-            (tree_at here (tree_in_slots now stack)) ≡ Some kind
-        lacks_here =
-            subst (λ (p : Place). own_lack means table (shape_in table (root_shape plan) p (tree_in_slots now stack))
-            (tree_at p (tree_in_slots now stack)) ≡ Some kind) (only_here now stack walked.still (cursor_in now stack) [] on n rest walked.left lacks.place lacks.stored)
-            lacks.lacks
-
-        lacks_beneath : own_lack means table
-            (shape_in table (shape_here table plan now stack) head.place (tree_of (kid_on_top now stack)))
-            (tree_at head.place (tree_of (kid_on_top now stack))) ≡ Some kind
+        lacks_beneath : own_lack means table (shape_in table shape head.place (tree_of x)) (tree_at head.place (tree_of x)) ≡ Some kind
         lacks_beneath =
-            ap (λ (t : Tree). own_lack means table (shape_in table (shape_here table plan now stack) head.place t)
-            (tree_at head.place t)) tree_on_top ∙ ap
-            (λ (s : ℕ). own_lack means table s (tree_at head.place (tree_at (cursor_in now stack) (tree_in_slots now stack))))
-            (sym (shape_append table (root_shape plan) (cursor_in now stack) head.place (tree_in_slots now stack)))
-            ∙ ap (own_lack means table (shape_in table (root_shape plan) here (tree_in_slots now stack)))
-            (sym (tree_append (cursor_in now stack) head.place (tree_in_slots now stack))) ∙ lacks_here
+            ap (λ (t : Tree). own_lack means table (shape_in table shape head.place t) (tree_at head.place t)) tree_on_top
+            ∙ sym (ap₂ (own_lack means table) (shape_append table (root_shape plan) (cursor_in now stack) head.place tree)
+            (tree_append (cursor_in now stack) head.place tree)) ∙ subst
+            (λ (p : Place). own_lack means table (shape_in table (root_shape plan) p tree) (tree_at p tree) ≡ Some kind)
+            (only_here walked.still (cursor_in now stack) [] on walked.left lacks.place lacks.stored) lacks.lacks
 
-        first_now : (path : List PathStep) → first_by_walk
-            (failures means table (shape_here table plan now stack) path (tree_at (cursor_in now stack) (tree_in_slots now stack)))
-            ≡ Some (failure_of path)
+        first_now : (path : List PathStep)
+            → first_by_walk (failures means table shape path (tree_at (cursor_in now stack) tree)) ≡ Some (failure_of path)
         first_now path =
-            let off = first_fails means table (shape_here table plan now stack) path (kid_on_top now stack) [] leads n rest
-            walked.left head kind lacks_beneath each lacking first in
-            ap (λ (t : Tree). first_by_walk (failures means table (shape_here table plan now stack) path t)) (sym tree_on_top)
-            ∙ ap first_by_walk
-            (fails_beneath means table (shape_here table plan now stack) path (tree_of (kid_on_top now stack)) (failure_of path) off)
-            ∙ off
+            let off = first_fails means table shape path x [] leads n rest walked.left head kind lacks_beneath each lacking first in
+            ap (λ (t : Tree). first_by_walk (failures means table shape path t)) (sym tree_on_top)
+            ∙ ap first_by_walk (fails_beneath means table shape path (tree_of x) off) ∙ off
 
-        first_before : (path : List PathStep) → first_by_walk (failures means table (shape_here table plan before stack) path
-            (tree_at (cursor_in before stack) (tree_in_slots before stack))) ≡ Some (failure_of path)
+        first_before : (path : List PathStep)
+            → first_by_walk (failures means table (shape_here table plan before stack) path (tree_here before stack))
+            ≡ Some (failure_of path)
         first_before path =
             ap first_by_walk (sym (walked.here.failing path)) ∙ ap (λ (p : Place). first_by_walk
-            (failures means table (shape_in table (root_shape plan) p (tree_in_slots now stack)) path
-            (tree_at p (tree_in_slots now stack)))) (sym walked.cursor) ∙ first_now path
+            (failures means table (shape_in table (root_shape plan) p tree) path (tree_at p tree))) (sym walked.cursor) ∙ first_now path
 
   -- What isn't beneath stays in its slot.
-  pub beneath_stays : (now : List Slot) (rest : List ℕ) → WalkedBeneath means table plan before stack now rest
+  pub beneath_stays : {now : List Slot} {rest : List ℕ} → WalkedBeneath means table plan before stack now rest
       → StayPutButBeneath (cursor_in before stack) (kid_here before stack) (kid_here now stack)
-  beneath_stays now rest walked =
+  beneath_stays {now} walked =
       subst (λ (y : Kid). StayPutButBeneath (cursor_in before stack) (kid_here before stack) y) (sym walked.beside)
-      (stay_but_beneath (cursor_in before stack) (kid_on_top now stack) (kid_here before stack) old.slot false false old.plot
-      top.plot (open_reach plan before stack open_first) old.is (top.is ∙ ap (λ (s : ℕ). at s false top.plot) same_slot))
+      (stay_but_beneath (cursor_in before stack) (kid_here before stack) (open_reach open_first) old.is
+      (top.is ∙ ap (λ (s : ℕ). at s false top.plot) same_slot))
     where
       old : Top plan (heap_of before) stack (cursor_in before stack) (kid_here before stack)
-      old = open_top plan before stack open_first
+      old = open_top open_first
 
       top : Top plan (heap_of now) stack (cursor_in now stack) (kid_here now stack)
-      top = open_top plan now stack walked.still
+      top = open_top walked.still
 
       same_slot : top.slot ≡ old.slot
       same_slot =
-          let stays = open_stay plan before stack open_first now (cursor_in before stack) refl walked.still walked.cursor
-          (cursor_in before stack) [] (sym (append-nil (cursor_in before stack))) (placed_on_top plan before stack open_first) in
+          let stays = open_stay open_first refl walked.still walked.cursor (cursor_in before stack) [] (sym (append-nil (cursor_in before stack))) (placed_on_top open_first) in
           sym (ap slot_here top.is)
           ∙ ap (λ (p : Place). slot_at (kid_here now stack) p) walked.cursor ∙ stays.1 ∙ ap slot_here old.is
 
   -- Nothing is left.
-  module _ (now : List Slot) (walked : WalkedBeneath means table plan before stack now []) where
-    none_there : (slot : ℕ) (place : Place) → IsStoredAt (kid_on_top now stack) slot place → ⊥
-    none_there slot place stored = go walked.left.places walked.left.stored (walked.left.all slot place stored)
-      where
-        go : (places : List Place) → AreStoredAt (kid_on_top now stack) [] places → Contains places place → ⊥
-        go [] are found = omega (arith, found.1)
-        go (p ∷ places) are found = are
-
-    nothing_stored : NoneStored (kid_on_top now stack)
-    nothing_stored = no_marks (kid_on_top now stack) none_there
-
-    closed_now : IsClosed (body_in (open_top plan now stack walked.still).plot)
+  module _ {now : List Slot} (walked : WalkedBeneath means table plan before stack now []) where
+    closed_now : IsClosed (body_in (open_top walked.still).plot)
     closed_now =
-        let top = open_top plan now stack walked.still in
-        closed_by_marks top.plot top.stored (subst (AllMarked false) top.is nothing_stored).1
+        let top = open_top walked.still in
+        closed_by_marks top.plot top.stored (subst (AllMarked false) top.is (walk_over walked.left).1).1
 
     top_is : tree_of (kid_on_top now stack) ≡ tree_here now stack
     top_is = tree_of_at (cursor_in now stack) (kid_here now stack)
 
     done_now : AtCursor strict (tree_here now stack)
     done_now =
-        let top = open_top plan now stack walked.still in
+        let top = open_top walked.still in
         subst (AtCursor strict) (ap tree_of (sym top.is) ∙ top_is) (closed_cursor top.plot closed_now)
 
     pub beneath_complete : IsCompleteBeneath means table plan before stack now
@@ -297,9 +273,9 @@ module _ (means : Meanings) (table : Table) (plan : Plan) (before : List Slot) (
             ap tree_of walked.beside ∙ tree_put_at (cursor_in before stack) (kid_on_top now stack) (kid_here before stack);
       };
       as_before = walked.here;
-      closed = λ m last. so_top plan now stack walked.still m last (λ (it : Node). IsClosed it.body) (closed_top_node m last);
+      closed = λ m last. so_top walked.still last (λ (it : Node). IsClosed it.body) (closed_top_node m last);
       suits = walked.suits;
     }
       where
-        closed_top_node : (m : ℕ) (last : IsLast stack m) → IsClosed (top_node plan now stack walked.still m last).body
+        closed_top_node : (m : ℕ) (last : IsLast stack m) → IsClosed (top_node walked.still last).body
         closed_top_node m last = closed_now

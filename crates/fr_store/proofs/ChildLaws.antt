@@ -1,10 +1,6 @@
 -- Laws of the children of the top, for proofs.
 use Rattle.std.proofs.Common.{◌≡◌, ℕ, suc, ◌+◌, ◌<◌, Bool, true, false, List, length, nat_eq, Some, refl, sym, ◌∙◌, ap, subst, arith}
-use Rattle.fr_store.specs.Common.{AllMarked, AllMarkedAmong, AllMarkedIn, FrameOwner, HasChild, HasTracker, Heap, Holds, HoldsAll, HoldsIn, IsStoredChild, IsUnplaced, Kid, Kids, MayHave, Node, Place, Plan, Plot, Stands, Top, Tracker, at, begun_body, begun_plot, body_in, cell_at, cell_of, cells_in, child_node, child_owner, count_in, count_kids, counts_if, gone, kid_at, kid_nth, marked_nth, may_have_all, node_along, option_and_then, owner_along, slot_of_cell, stored_in, there, top_uses, tree_in, uses, uses_among, uses_in}
-use Rattle.fr_store.specs.HoldLaws.{holds_nth}
-use Rattle.fr_store.specs.LeaveLaws.{cell_of_child}
-use Rattle.fr_store.specs.Stored.{child_slot}
-use Rattle.fr_store.specs.TopLaws.{not_beneath}
+use Rattle.fr_store.specs.Common.{AllMarked, AllMarkedAmong, AllMarkedIn, FrameOwner, HasChild, HasTracker, Heap, Holds, HoldsAll, HoldsIn, IsStoredChild, IsUnplaced, Kid, Kids, MayHave, Node, Place, Plan, Plot, Stands, Top, Tracker, at, begun_body, begun_plot, body_in, cell_at, cell_of, cell_of_child, cells_in, child_node, child_owner, child_slot, count_in, count_kids, counts_if, gone, holds_nth, kid_at, kid_nth, marked_nth, may_have_all, node_along, not_beneath, option_and_then, owner_along, slot_of_cell, stored_in, there, top_uses, tree_in, uses, uses_among, uses_in}
 
 -- a place that has the child is begun
 pub plot_has : (tracker : Tracker) (i : ℕ) (plot : Plot) → HasChild tracker i (tree_in plot)
@@ -19,8 +15,8 @@ plot_formed tracker (begun_plot made kids) has = (kids, ap (λ (f : Tracker). be
 plot_formed tracker _ has = absurd has
 
 -- The top is begun, and has a child of this number.
-module _ (plan : Plan) (heap : Heap) (stack : List ℕ) (place : Place) (k : Kid) (stands : Stands plan heap stack place k)
-    (top : Top plan heap stack place k) (tracker : Tracker) (kids : Kids) (begun_now : top.plot ≡ begun_plot tracker kids) (i : ℕ)
+module _ {plan : Plan} {heap : Heap} {stack : List ℕ} {place : Place} {k : Kid} (stands : Stands plan heap stack place k)
+    (top : Top plan heap stack place k) {tracker : Tracker} {kids : Kids} (begun_now : top.plot ≡ begun_plot tracker kids) (i : ℕ)
     (within : i < count_kids kids) where
   pub parent_is : heap top.slot ≡ Some (record {
     node = node_along plan plan.root place k;
@@ -50,13 +46,12 @@ module _ (plan : Plan) (heap : Heap) (stack : List ℕ) (place : Place) (k : Kid
   kids_stored = subst (λ (p : Plot). AllMarkedIn true p) begun_now top.stored
 
   pub part_uses : (n : ℕ) → uses (kid_at place k) n ≡ counts_if (nat_eq top.slot n) + uses_among kids n
-  part_uses n =
-      top_uses plan heap stack place k stands top n ∙ ap (λ (p : Plot). counts_if (nat_eq top.slot n) + uses_in p n) begun_now
+  part_uses n = top_uses stands top n ∙ ap (λ (p : Plot). counts_if (nat_eq top.slot n) + uses_in p n) begun_now
 
   pub not_parent : (n : ℕ) → 0 < uses_among kids n → (n ≡ top.slot → ⊥)
   not_parent n h =
       let same : uses_in top.plot n ≡ uses_among kids n = ap (λ (p : Plot). uses_in p n) begun_now in
-      not_beneath plan heap stack place k stands top n (omega arith)
+      not_beneath stands top n (omega arith)
 
   pub child_held : Holds plan heap (child_node plan (node_along plan plan.root place k) tracker i) (child_owner top.slot i)
       (suc (length place)) (kid_nth i kids)
@@ -83,8 +78,8 @@ module _ (plan : Plan) (heap : Heap) (stack : List ℕ) (place : Place) (k : Kid
           })
 
   -- one that is in a slot is stored
-  pub placed_child : (child : ℕ) → child_slot heap top.slot i ≡ Some child → (plot : Plot) × (kid_nth i kids ≡ at child true plot)
-  placed_child child is =
+  pub placed_child : {child : ℕ} → child_slot heap top.slot i ≡ Some child → (plot : Plot) × (kid_nth i kids ≡ at child true plot)
+  placed_child {child} is =
       go (kid_nth i kids) refl (sym (ap (option_and_then slot_of_cell) child_cell) ∙ is) (marked_nth true i kids kids_stored)
     where
       go : (x : Kid) → kid_nth i kids ≡ x → slot_of_cell (cell_of x) ≡ Some child → AllMarked true x

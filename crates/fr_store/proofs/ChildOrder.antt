@@ -8,15 +8,13 @@ use Rattle.fr_store.specs.Places.{IsAfter, IsLater}
 
 pub key_at : (m j : ℕ) → m ≡ 2 * j → (is_key m ≡ true) × (entry_of m ≡ j)
 key_at zero j e = (refl, omega arith)
-key_at (suc zero) j e = absurd (omega arith)
-key_at (suc (suc m)) zero e = absurd (omega arith)
 key_at (suc (suc m)) (suc j) e = let rest = key_at m j (omega arith) in (rest.0, ap suc rest.1)
+key_at _ _ e = absurd (omega arith)
 
 pub value_at : (m j : ℕ) → m ≡ suc (2 * j) → (is_key m ≡ false) × (entry_of m ≡ j)
-value_at zero j e = absurd (omega arith)
 value_at (suc zero) j e = (refl, omega arith)
-value_at (suc (suc m)) zero e = absurd (omega arith)
 value_at (suc (suc m)) (suc j) e = let rest = value_at m j (omega arith) in (rest.0, ap suc rest.1)
+value_at _ _ e = absurd (omega arith)
 
 -- an entry has two
 pub halves : (n : ℕ) → (2 * entry_of n ≤ n) × (n ≤ suc (2 * entry_of n))

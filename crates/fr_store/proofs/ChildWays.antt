@@ -1,17 +1,11 @@
 -- An open builder goes on to a child, by each of the ways to one: what is asked of the place on top, and what comes of it.
 use Rattle.std.proofs.Common.{◌≡◌, ℕ, ◌<◌, false, List, [], ◌∷◌, ◌++◌, Option, Some, None, IsSomeAnd, sym, ◌∙◌, ap, refl}
-use Rattle.fr_store.specs.Common.{AllStayPut, Def, EntriesKind, HasTracker, IfInUse, IsKept, IsLast, IsOpen, IsOpenAt, Node, NodeId, Plan, SameMarks, SameTokens, Shows, Slot, Tracker, Tree, as_entries, begun, changed_here, child_node, child_owner, cursor_in, depth_below, depth_limit, heap_of, kid_here, node_here, so_top, stored_in, tree_here, with_entered, Body, gone}
-use Rattle.fr_frame.specs.declared.places.ChildWay.{ChildWay}
+use Rattle.fr_store.specs.Common.{Body, ChildWay, Def, EntriesKind, HasTracker, IfInUse, IsGrowing, IsKept, IsLast, IsMapBody, IsOpen, IsStoredBy, MayEnter, Node, NodeId, Plan, SameMarks, Shows, Slot, Tracker, Tree, as_entries, begun, child_node, child_number, child_owner, depth_below, depth_limit, entered_by, heap_of, marked_entered, node_by, node_here, so_top, stored_in, tracker_in, tree_here, with_entered, with_mark}
 use Rattle.fr_frame.specs.Growing.{MayEnter as MayBeEntered, number_by, widened}
-use Rattle.fr_frame.specs.Bodies.{added, added_entry, IsGrowing, IsMapBody}
-use Rattle.fr_frame.specs.Heap.{with_mark}
-use Rattle.fr_store.specs.Moves.{MayEnter, child_number, entered_by, node_by, tracker_in, with_item_of, with_key_of}
-use Rattle.fr_store.specs.Stored.{IsStoredBy}
-use Rattle.fr_store.specs.TopLaws.{marked_entered}
 use Rattle.fr_store.proofs.AgainLaws.{open_again}
-use Rattle.fr_store.proofs.EnteringLaws.{open_entered}
-use Rattle.fr_store.proofs.EntryLaws.{entry_entered, entry_marks, entry_stay, object_here, object_tracker}
-use Rattle.fr_store.proofs.ItemLaws.{child_enters, entries_grow, formed, formed_here, items_grow, kids_and_last, map_tracker}
+use Rattle.fr_store.proofs.EnteringLaws.{GoesTo, open_entered}
+use Rattle.fr_store.proofs.EntryLaws.{entry_enters, object_here, object_tracker}
+use Rattle.fr_store.proofs.ItemLaws.{child_enters, entries_grow, formed, formed_here, items_grow, map_tracker}
 
 -- what a begun place is begun as
 tracker_is : (tree : Tree) (tracker : Tracker) → HasTracker tracker tree → tracker_in tree ≡ tracker
@@ -23,25 +17,24 @@ whatever : {P : Type 0} (found : Option Node) → IsSomeAnd found (λ (at : Node
 whatever (Some at) so = so
 whatever None so = absurd so
 
-module _ (plan : Plan) (before : List Slot) (stack : List ℕ) (open_now : IsOpen plan before stack) (p : ℕ) (last : IsLast stack p) where
+module _ {plan : Plan} {before : List Slot} {stack : List ℕ} (open_now : IsOpen plan before stack) {p : ℕ}
+    (last : IsLast stack p) where
   pub may_be_entered : (way : ChildWay) → MayEnter way (tree_here before stack)
       → IfInUse before p (λ (found : Node). MayBeEntered way found.body)
-  may_be_entered (ChildWay.Child i) may = so_top plan before stack open_now p last (λ (found : Node). Unit {0}) tt
+  may_be_entered (ChildWay.Child i) may = so_top open_now last (λ (found : Node). Unit {0}) tt
   may_be_entered ChildWay.Item may =
-      formed_here plan before stack open_now p last (tracker_in (tree_here before stack)) may.0 (λ (body : Body). IsGrowing body) may.1
+      formed_here open_now last (tracker_in (tree_here before stack)) may.0 (λ (body : Body). IsGrowing body) may.1
   may_be_entered ChildWay.Key may =
       let made = map_tracker (tree_here before stack) may in
-      formed_here plan before stack open_now p last (as_entries (EntriesKind.Map made.0)) made.1 (λ (body : Body). IsMapBody body)
-      (made.0, refl)
-  may_be_entered (ChildWay.Entry key) may = object_here plan before stack open_now p last may.0 may.1
+      formed_here open_now last (as_entries (EntriesKind.Map made.0)) made.1 (λ (body : Body). IsMapBody body) (made.0, refl)
+  may_be_entered (ChildWay.Entry key) may = object_here open_now last may.0 may.1
 
-  module _ (after : List Slot) (next : List ℕ) (def : Def) (n : ℕ) (node : NodeId) (vacant : heap_of before n ≡ None)
-      (tokens : SameTokens before after) (along : next ≡ stack ++ n ∷ []) where
+  module _ (after : List Slot) {next : List ℕ} (def : Def) (n : ℕ) (node : NodeId) (vacant : heap_of before n ≡ None)
+      (along : next ≡ stack ++ n ∷ []) where
     -- the child is on top, no place leaves its slot, and none is stored that wasn't, nor taken out of the store
     abbrev Enters : ChildWay → Type 0
     Enters way =
-        (IsOpenAt plan after next (cursor_in before stack ++ child_number way (tree_here before stack) ∷ [])
-        (changed_here (entered_by way def) before stack) × AllStayPut (kid_here before stack) (kid_here after next))
+        GoesTo plan before after stack next (child_number way (tree_here before stack)) (entered_by way def)
         × SameMarks before after
 
     pub enters : (way : ChildWay) → MayEnter way (tree_here before stack) → node ≡ node_by plan before stack way
@@ -51,46 +44,38 @@ module _ (plan : Plan) (before : List Slot) (stack : List ℕ) (open_now : IsOpe
         → Enters way
     enters (ChildWay.Child i) may is none shows limit =
         let shown : Shows after (with_entered def (heap_of before) node (child_owner p i) n) = whatever (heap_of before p) shows in (
-          open_entered plan before stack open_now p last after next (tracker_in (tree_here before stack)) i def n node may.0 may.1 is
-              none vacant shown (whatever (heap_of before p) limit) along,
+          open_entered open_now last after (tracker_in (tree_here before stack)) i def n may.0 may.1 is none vacant
+              shown (whatever (heap_of before p) limit) along,
           λ m. ap stored_in (shown m) ∙ marked_entered def (heap_of before) node (child_owner p i) n m vacant,
         )
     enters ChildWay.Item may is none shows limit =
         let tracker = tracker_in (tree_here before stack) in
-        let its = (formed plan before stack open_now p last tracker may.0).0 in
-        child_enters plan before stack open_now p last tracker may.0 (kids_and_last its gone) added with_item_of
-        (items_grow tracker its may.1) after next def n node is vacant shows limit tokens along
+        let its = (formed open_now last tracker may.0).0 in
+        child_enters open_now last tracker may.0 (items_grow tracker its may.1) after def n is vacant shows limit along
     enters ChildWay.Key may is none shows limit =
         let made = map_tracker (tree_here before stack) may in
         let map : Tracker = as_entries (EntriesKind.Map made.0) in
-        let its = (formed plan before stack open_now p last map made.1).0 in
-        child_enters plan before stack open_now p last map made.1 (kids_and_last (kids_and_last its gone) gone) added_entry with_key_of
-        (entries_grow made.0 its) after next def n node (is ∙ ap (λ (tracker : Tracker).
+        let its = (formed open_now last map made.1).0 in
+        child_enters open_now last map made.1 (entries_grow made.0 its) after def n (is ∙ ap (λ (tracker : Tracker).
         child_node plan (node_here plan before stack) tracker (child_number ChildWay.Key (tree_here before stack)))
-        (tracker_is (tree_here before stack) map made.1)) vacant shows limit tokens along
+        (tracker_is (tree_here before stack) map made.1)) vacant shows limit along
     enters (ChildWay.Entry key) may is none shows limit =
         let made = object_tracker (tree_here before stack) may.0 in
         let its : node ≡ node_here plan before stack
         = is ∙ ap (λ (tracker : Tracker). child_node plan (node_here plan before stack) tracker (child_number (ChildWay.Entry key) (tree_here before stack)))
-        (tracker_is (tree_here before stack) (as_entries (EntriesKind.Object made.0)) made.1) in (
-          (
-            entry_entered plan before stack open_now p last may.0 may.2 key.now after next def n node its vacant shows limit tokens along,
-            entry_stay plan before stack open_now p last may.0 may.2 key.now after next def n node its vacant shows limit tokens along,
-          ),
-          entry_marks plan before stack open_now p last may.0 may.2 key.now after next def n node its vacant shows limit tokens along,
-        )
+        (tracker_is (tree_here before stack) (as_entries (EntriesKind.Object made.0)) made.1) in
+        entry_enters open_now last may.0 may.2 key.now after def n its vacant shows limit along
 
 -- what is stored is listed as before
 pub kept_marked : (store : List ℕ) (before after : List Slot) → IsKept store before → SameMarks before after → IsKept store after
 kept_marked store before after kept same m = (λ stored. (kept m).0 (sym (same m) ∙ stored), λ listed. same m ∙ (kept m).1 listed)
 
 -- a child that was stored is on top again
-module _ (plan : Plan) (before after : List Slot) (stack next : List ℕ) (open_now : IsOpen plan before stack) (p : ℕ) (last : IsLast stack p)
-    (def : Def) (child : ℕ) (shows : Shows after (with_mark (heap_of before) child false)) (tokens : SameTokens before after)
+module _ {plan : Plan} {before : List Slot} (after : List Slot) {stack next : List ℕ} (open_now : IsOpen plan before stack)
+    {p : ℕ} (last : IsLast stack p) (def : Def) (child : ℕ) (shows : Shows after (with_mark (heap_of before) child false))
     (along : next ≡ stack ++ child ∷ []) where
   pub again : (way : ChildWay) → MayEnter way (tree_here before stack) → IsStoredBy way (heap_of before) p child
-      → IsOpenAt plan after next (cursor_in before stack ++ child_number way (tree_here before stack) ∷ [])
-      (changed_here (entered_by way def) before stack) × AllStayPut (kid_here before stack) (kid_here after next)
+      → GoesTo plan before after stack next (child_number way (tree_here before stack)) (entered_by way def)
   again (ChildWay.Child i) may stored =
-      open_again plan before after stack next open_now p last (tracker_in (tree_here before stack)) i def child may.0 stored shows tokens along
+      open_again after open_now last (tracker_in (tree_here before stack)) def may.0 stored shows along
   again _ may stored = absurd stored

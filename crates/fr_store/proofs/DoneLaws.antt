@@ -6,7 +6,7 @@ use Rattle.fr_shape.specs.Checked.{IsChecked}
 use Rattle.fr_shape.specs.Hooks.{Meanings}
 use Rattle.fr_shape.specs.Look.{Table}
 use Rattle.fr_shape.specs.Fits.{count_vals}
-use Rattle.fr_shape.specs.Val.{Val, Vals, no_vals, first, product, variant, some, ok, err, list_of, ptr}
+use Rattle.fr_shape.specs.Val.{Val, Vals, no_vals, first, list_of}
 use Rattle.fr_model.specs.Complete.{complete, complete_all, failing_child, hole_takes, unless_failing, valid_child, value_as}
 use Rattle.fr_model.specs.Failing.{own_lack}
 use Rattle.fr_model.specs.Finish.{begun_with, finished_here}
@@ -18,7 +18,7 @@ use Rattle.fr_plan.specs.LookupLaws.{LookupsAgree, LookupPathsAgree}
 use Rattle.fr_plan.specs.TypePlan.{Plan}
 use Rattle.fr_frame.specs.declared.places.Slot.{Slot}
 use Rattle.fr_frame.specs.Bodies.{Body, entered_body, whole_body, begun_body, gathers, own_tree, trees_of, value_of, IsClosed}
-use Rattle.fr_frame.specs.Cells.{Cell, absent, given, placed, values_of}
+use Rattle.fr_frame.specs.Cells.{Cell, given, values_of}
 use Rattle.fr_frame.specs.Changes.{IfInUse, Shows}
 use Rattle.fr_frame.specs.Completing.{shape_of, FillsAt, IsPlanFor, MayComplete}
 use Rattle.fr_frame.specs.Defaults.{KeepGiven, KeepsTracker, WhyNotDefault}
@@ -27,7 +27,7 @@ use Rattle.fr_frame.specs.Kids.{Kid, gone, MayHave, Plot, tree_of, cells_in, bod
 use Rattle.fr_store.specs.ValueLaws.{made_of, made_value, more_is, values_count}
 use Rattle.fr_store.specs.HereLaws.{body_back, closed_plot, tree_back, value_closed}
 use Rattle.fr_store.specs.LeftLaws.{left_at, left_end, left_value}
-use Rattle.fr_store.specs.MoveLaws.{closed_open, open_reach, open_top, so_top, top_changed_held, top_found, top_node, top_so}
+use Rattle.fr_store.specs.MoveLaws.{closed_open, open_reach, open_top, so_top, top_changed, top_found, top_node, top_so}
 use Rattle.fr_store.specs.Moves.{IsOpenAt, cursor_in, tree_in_slots}
 use Rattle.fr_store.specs.Numbers.{IsLast}
 use Rattle.fr_store.specs.ShapeLaws.{Along}
@@ -44,11 +44,10 @@ use Rattle.fr_store.specs.WayLaws.{same_or_other, tree_of_at}
 
 values_whole : (cells : List Cell) (vs : Vals) → values_of cells ≡ Some vs → trees_of cells ≡ wholes vs
 values_whole [] vs e = let same : no_vals ≡ vs = cc in ap wholes same
-values_whole (absent ∷ cells) vs e = absurd (cc)
-values_whole (placed n ∷ cells) vs e = absurd (cc)
 values_whole (given v ∷ cells) vs e =
-    let rest = more_is v (values_of cells) vs e in
+    let rest = more_is v (values_of cells) e in
     ap (λ (ts : Trees). branch (whole v) ts) (values_whole cells rest.0 rest.1) ∙ ap wholes rest.2
+values_whole (_ ∷ cells) vs e = absurd (cc)
 
 -- what completes has a value for each child
 completed_count : (means : Meanings) (table : Table) (s : ℕ) (tracker : Tracker) (i : ℕ) (ts : Trees) (vs : Vals)
@@ -64,17 +63,14 @@ completed_count means table s tracker i (branch t ts) vs e =
         → count_vals vs ≡ suc (count_trees ts)
     go None e counted = absurd (cc)
     go (Some v) e counted =
-        let rest = more_is v (complete_all deferred_column means table s tracker (suc i) ts) vs e in
+        let rest = more_is v (complete_all deferred_column means table s tracker (suc i) ts) e in
         ap count_vals (sym rest.2) ∙ ap suc (counted rest.0 rest.1)
 
 same_one : (one others : Vals) → count_vals one ≡ count_vals others → count_vals one ≤ 1
     → vals_nth one 0 ≡ vals_nth others 0 → one ≡ others
 same_one no_vals no_vals count few e = refl
-same_one no_vals (first v vs) count few e = absurd (omega arith)
-same_one (first v vs) no_vals count few e = absurd (omega arith)
 same_one (first v no_vals) (first w no_vals) count few e = ap (λ (x : Val). first x no_vals) e
-same_one (first v no_vals) (first w (first x ws)) count few e = absurd (omega arith)
-same_one (first v (first x vs)) (first w ws) count few e = absurd (omega arith)
+same_one _ _ count few e = absurd (omega arith)
 
 same_list : (one others : Vals) → list_of one ≡ list_of others → one ≡ others
 same_list one others e = cc
@@ -83,29 +79,14 @@ same_list one others e = cc
 -- value is put together of that is known otherwise
 same_made : (tracker : Tracker) (one others : Vals) (v : Val) → (gathers tracker ≡ true → one ≡ others) → count_vals one ≡ count_vals others
     → MayHave tracker (count_vals one) → value_as tracker one ≡ v → value_as tracker others ≡ v → one ≡ others
-same_made (as_fields None) one others v kept count may e f = let same : product one ≡ product others = e ∙ sym f in cc
-same_made as_elements one others v kept count may e f = let same : product one ≡ product others = e ∙ sym f in cc
-same_made (as_fields (Some k)) one others v kept count may e f =
-    let same : variant k one ≡ variant k others = e ∙ sym f in cc
-same_made (as_content ContentKind.Some) one others v kept count may e f =
-    let same : some (vals_nth one 0) ≡ some (vals_nth others 0) = e ∙ sym f in
-    same_one one others count may (cc)
-same_made (as_content ContentKind.Ok) one others v kept count may e f =
-    let same : ok (vals_nth one 0) ≡ ok (vals_nth others 0) = e ∙ sym f in
-    same_one one others count may (cc)
-same_made (as_content ContentKind.Err) one others v kept count may e f =
-    let same : err (vals_nth one 0) ≡ err (vals_nth others 0) = e ∙ sym f in
-    same_one one others count may (cc)
-same_made (as_content ContentKind.Pointer) one others v kept count may e f =
-    let same : ptr (vals_nth one 0) ≡ ptr (vals_nth others 0) = e ∙ sym f in
-    same_one one others count may (cc)
-same_made (as_items ItemsKind.List) one others v kept count may e f = let same : list_of one ≡ list_of others = e ∙ sym f in cc
-same_made (as_items ItemsKind.Slice) one others v kept count may e f =
-    let same : ptr (list_of one) ≡ ptr (list_of others) = e ∙ sym f in
-    same_list one others (cc)
-same_made (as_items ItemsKind.ClosedSlice) one others v kept count may e f =
-    let same : ptr (list_of one) ≡ ptr (list_of others) = e ∙ sym f in
-    same_list one others (cc)
+same_made (as_fields None) one others v kept count may e f = cc
+same_made as_elements one others v kept count may e f = cc
+same_made (as_fields (Some k)) one others v kept count may e f = cc
+same_made (as_content ContentKind.Some) one others v kept count may e f = same_one one others count may (cc)
+same_made (as_content _) one others v kept count may e f = same_one one others count may (cc)
+same_made (as_items ItemsKind.List) one others v kept count may e f = cc
+same_made (as_items ItemsKind.Slice) one others v kept count may e f = same_list one others (cc)
+same_made (as_items ItemsKind.ClosedSlice) one others v kept count may e f = same_list one others (cc)
 same_made _ one others v kept count may e f = kept refl
 
 -- where a hole takes nothing, what completes has the value of each child that was there
@@ -120,22 +101,12 @@ kept_values : (means : Meanings) (table : Table) (s : ℕ) (tracker : Tracker)
 kept_values means table s tracker none i [] [] vs us e f long keep = cc
 kept_values means table s tracker none i [] (d ∷ ds) vs us e f long keep = absurd (omega (arith, long))
 kept_values means table s tracker none i (c ∷ cells) [] vs us e f long keep = absurd (omega (arith, long))
-kept_values means table s tracker none i (absent ∷ cells) (d ∷ ds) vs us e f long keep =
-    let lost : one_more None (complete_all deferred_column means table s tracker (suc i) (trees_of cells)) ≡ Some vs
-    = sym (ap (λ (value : Option Val). one_more value (complete_all deferred_column means table s tracker (suc i) (trees_of cells)))
-    (ap (valid_child means table s tracker i) (none i) ∙ none_valid (failing_child means table s tracker i None))) ∙ e in
-    absurd (cc)
-kept_values means table s tracker none i (placed n ∷ cells) (d ∷ ds) vs us e f long keep =
-    let lost : one_more None (complete_all deferred_column means table s tracker (suc i) (trees_of cells)) ≡ Some vs
-    = sym (ap (λ (value : Option Val). one_more value (complete_all deferred_column means table s tracker (suc i) (trees_of cells)))
-    (ap (valid_child means table s tracker i) (none i) ∙ none_valid (failing_child means table s tracker i None))) ∙ e in
-    absurd (cc)
 kept_values means table s tracker none i (given v ∷ cells) (d ∷ ds) vs us e f long keep =
     go (failing_child means table s tracker i (Some v)) e
     (λ ws is. kept_values means table s tracker none (suc i) cells ds ws rest.0 is rest.1 (omega (arith, long)) keep.1)
   where
     rest : (ws : Vals) × (values_of ds ≡ Some ws) × (first v ws ≡ us)
-    rest = more_is v (values_of ds) us (ap (λ (c : Cell). values_of (c ∷ ds)) (sym keep.0) ∙ f)
+    rest = more_is v (values_of ds) (ap (λ (c : Cell). values_of (c ∷ ds)) (sym keep.0) ∙ f)
 
     go : (failing : Option ReflectErrorKind)
         → one_more (unless_failing failing (Some v)) (complete_all deferred_column means table s tracker (suc i) (trees_of cells)) ≡ Some vs
@@ -143,8 +114,13 @@ kept_values means table s tracker none i (given v ∷ cells) (d ∷ ds) vs us e 
         → vs ≡ us
     go (Some kind) e same = absurd (cc)
     go None e same =
-        let more = more_is v (complete_all deferred_column means table s tracker (suc i) (trees_of cells)) vs e in
+        let more = more_is v (complete_all deferred_column means table s tracker (suc i) (trees_of cells)) e in
         sym more.2 ∙ ap (λ (ws : Vals). first v ws) (same more.0 more.1) ∙ rest.2
+kept_values means table s tracker none i (_ ∷ cells) (d ∷ ds) vs us e f long keep =
+    let lost : one_more None (complete_all deferred_column means table s tracker (suc i) (trees_of cells)) ≡ Some vs
+    = sym (ap (λ (value : Option Val). one_more value (complete_all deferred_column means table s tracker (suc i) (trees_of cells)))
+    (ap (valid_child means table s tracker i) (none i) ∙ none_valid (failing_child means table s tracker i None))) ∙ e in
+    absurd (cc)
 
 none_taken : (table : Table) (s : ℕ) (tracker : Tracker) → gathers tracker ≡ true → (i : ℕ) → hole_takes deferred_column table s tracker i ≡ None
 none_taken table s (as_fields selected) gather i = absurd (cc)
@@ -156,38 +132,35 @@ given_left : (tracker : Tracker) (i : ℕ) (cells : List Cell) (vs : Vals) (m : 
 given_left tracker i [] vs m long past e =
     let same : m ≡ i = omega arith in
     subst (λ (n : ℕ). base_of_tracker tracker ≤ entry_of n) same past
-given_left tracker i (absent ∷ cells) vs m long past e = absurd (cc)
-given_left tracker i (placed n ∷ cells) vs m long past e = absurd (cc)
 given_left tracker i (given v ∷ cells) vs m long past e =
-    let rest = more_is v (values_of cells) vs e in
+    let rest = more_is v (values_of cells) e in
     (left_value tracker i v, tt, given_left tracker (suc i) cells rest.0 m (omega arith) past rest.1)
+given_left tracker i (_ ∷ cells) vs m long past e = absurd (cc)
 
 -- a place has the children of its base
 abbrev HasBase : Body → Type 0
-HasBase entered_body = Unit {0}
-HasBase (whole_body v) = Unit {0}
 HasBase (begun_body tracker cells) = base_of_tracker tracker ≤ entry_of (length cells)
+HasBase _ = Unit {0}
 
 value_left : (body : Body) (v : Val) → HasBase body → value_of body ≡ Some v → AreLeftIn (closed_plot body)
-value_left entered_body v has e = tt
-value_left (whole_body w) v has e = tt
 value_left (begun_body tracker cells) v has e =
-    let values = made_of tracker (values_of cells) v (made_value tracker cells v e) in
+    let values = made_of tracker (values_of cells) (made_value tracker cells e) in
     given_left tracker 0 cells values.0 (length cells) (omega arith) has values.1
+value_left _ v has e = tt
 
 left_base : (plot : Plot) → AreLeftIn plot → HasBase (body_in plot)
-left_base entered_plot left = tt
-left_base (whole_plot v) left = tt
 left_base (begun_plot tracker kids) left = left_end tracker 0 kids (length (cells_in kids)) (omega (arith, cells_count kids)) left
+left_base _ left = tt
 
-kept_base : (was now : Body) → becomes_whole was ≡ false → HasBase was → KeepsTracker was now → HasBase now
-kept_base entered_body now e has keeps = absurd (cc)
-kept_base (whole_body v) now e has keeps = subst (λ (b : Body). HasBase b) (sym keeps) tt
-kept_base (begun_body tracker cells) entered_body e has keeps = absurd keeps
-kept_base (begun_body tracker cells) (whole_body w) e has keeps = absurd keeps
-kept_base (begun_body tracker cells) (begun_body other others) e has keeps =
-    subst (λ (n : ℕ). base_of_tracker other ≤ entry_of n) (sym keeps.1)
-    (subst (λ (f : Tracker). base_of_tracker f ≤ entry_of (length cells)) (sym keeps.0) has)
+-- what is so of a place by its tracker and the number of its children is so still
+kept_body : (So : Body → Type 0) → ((tracker : Tracker) (cells others : List Cell) → length others ≡ length cells
+    → So (begun_body tracker cells) → So (begun_body tracker others)) → (was now : Body) → becomes_whole was ≡ false
+    → KeepsTracker was now → So was → So now
+kept_body So step entered_body now e keeps so = absurd (cc)
+kept_body So step (whole_body v) now e keeps so = subst So (sym keeps) so
+kept_body So step (begun_body tracker cells) (begun_body other others) e keeps so =
+    subst (λ (f : Tracker). So (begun_body f others)) (sym keeps.0) (step tracker cells others keeps.1 so)
+kept_body So step (begun_body tracker cells) _ e keeps so = absurd keeps
 
 -- what a place that doesn't become whole becomes, by the place that it was
 finished_as : (means : Meanings) (table : Table) (s : ℕ) (was now : Body) (v : Val) → becomes_whole was ≡ false
@@ -195,32 +168,21 @@ finished_as : (means : Meanings) (table : Table) (s : ℕ) (was now : Body) (v :
     → finished_here means table s (own_tree was) ≡ Some (own_tree now)
 finished_as means table s entered_body now v e may tracker makes held = absurd (cc)
 finished_as means table s (whole_body w) now v e may tracker makes held = ap (λ (body : Body). Some (own_tree body)) (sym tracker)
-finished_as means table s (begun_body tracker cells) entered_body v e may keeps makes held = absurd keeps
-finished_as means table s (begun_body tracker cells) (whole_body w) v e may keeps makes held = absurd keeps
 finished_as means table s (begun_body tracker cells) (begun_body other others) v e may keeps makes held =
-    let was = made_of tracker (complete_all deferred_column means table s tracker 0 (trees_of cells)) v makes in
-    let now = made_of other (values_of others) v (made_value other others v held) in
+    let was = made_of tracker (complete_all deferred_column means table s tracker 0 (trees_of cells)) makes in
+    let now = made_of other (values_of others) (made_value other others held) in
     let made_count : count_vals was.0 ≡ length cells
     = completed_count means table s tracker 0 (trees_of cells) was.0 was.1 ∙ count_of cells in
-    let same : was.0 ≡ now.0 = same_made tracker was.0 now.0 v
-    (λ gather. kept_values means table s tracker (none_taken table s tracker gather) 0 cells others was.0 now.0 was.1 now.1 keeps.1 keeps.2)
-    (made_count ∙ sym keeps.1 ∙ sym (values_count others now.0 now.1))
-    (subst (λ (n : ℕ). MayHave tracker n) (sym made_count) may) was.2
-    (ap (λ (f : Tracker). value_as f now.0) (sym keeps.0) ∙ now.2) in
+    let same : was.0 ≡ now.0 = same_made tracker was.0 now.0 v (λ gather. kept_values
+    means table s tracker (none_taken table s tracker gather) 0 cells others was.0 now.0 was.1 now.1 keeps.1 keeps.2)
+    (made_count ∙ sym keeps.1 ∙ sym (values_count others now.1)) (subst (λ (n : ℕ). MayHave tracker n) (sym made_count) may)
+    was.2 (ap (λ (f : Tracker). value_as f now.0) (sym keeps.0) ∙ now.2) in
     ap (option_map (begun_with tracker)) was.1
     ∙ ap (λ (b : Bool). Some (if b then whole (value_as tracker was.0) else begun tracker (wholes was.0))) e
     ∙ ap (λ (vs : Vals). Some (begun tracker (wholes vs))) same
     ∙ ap (λ (ts : Trees). Some (begun tracker ts)) (sym (values_whole others now.0 now.1))
     ∙ ap (λ (f : Tracker). Some (begun f (trees_of others))) (sym keeps.0)
-
--- it has as many children as before
-kept_may_have : (was now : Body) → becomes_whole was ≡ false → MayHaveIts was → KeepsTracker was now → MayHaveIts now
-kept_may_have entered_body now e may keeps = absurd (cc)
-kept_may_have (whole_body v) now e may keeps = subst (λ (b : Body). MayHaveIts b) (sym keeps) tt
-kept_may_have (begun_body tracker cells) entered_body e may keeps = absurd keeps
-kept_may_have (begun_body tracker cells) (whole_body w) e may keeps = absurd keeps
-kept_may_have (begun_body tracker cells) (begun_body other others) e may keeps =
-    subst (λ (n : ℕ). MayHave other n) (sym keeps.1) (subst (λ (f : Tracker). MayHave f (length cells)) (sym keeps.0) may)
+finished_as means table s (begun_body tracker cells) _ v e may keeps makes held = absurd keeps
 
 -- what becomes whole does so with the value that it makes
 whole_as : (means : Meanings) (table : Table) (s : ℕ) (was : Body) (v : Val) → becomes_whole was ≡ true
@@ -228,13 +190,13 @@ whole_as : (means : Meanings) (table : Table) (s : ℕ) (was : Body) (v : Val) �
 whole_as means table s entered_body v e makes = ap (option_map whole) makes
 whole_as means table s (whole_body w) v e makes = absurd (cc)
 whole_as means table s (begun_body tracker cells) v e makes =
-    let was = made_of tracker (complete_all deferred_column means table s tracker 0 (trees_of cells)) v makes in
+    let was = made_of tracker (complete_all deferred_column means table s tracker 0 (trees_of cells)) makes in
     ap (option_map (begun_with tracker)) was.1
     ∙ ap (λ (b : Bool). Some (if b then whole (value_as tracker was.0) else begun tracker (wholes was.0))) e
     ∙ ap (λ (x : Val). Some (whole x)) was.2
 
 -- The top, before it is completed.
-module _ (plan : Plan) (before : List Slot) (stack : List ℕ) (open_now : IsOpen plan before stack) (n : ℕ)
+module _ {plan : Plan} {before : List Slot} {stack : List ℕ} (open_now : IsOpen plan before stack) (n : ℕ)
     (last : IsLast stack n) (strict : NothingStored before) where
   abbrev place : Place
   place = cursor_in before stack
@@ -244,21 +206,21 @@ module _ (plan : Plan) (before : List Slot) (stack : List ℕ) (open_now : IsOpe
 
   -- what is in its slot
   abbrev was : Node
-  was = top_node plan before stack open_now n last
+  was = top_node open_now last
 
-  closed : IsClosed (body_in (open_top plan before stack open_now).plot)
-  closed = closed_open plan before stack open_now strict
+  closed : IsClosed (body_in (open_top open_now).plot)
+  closed = closed_open open_now strict
 
   own : own_tree was.body ≡ tree_at place tree
   unfolding top_node
   own =
-      let top = open_top plan before stack open_now in
+      let top = open_top open_now in
       sym (closed_tree top.plot closed) ∙ ap tree_of (sym top.is) ∙ tree_of_at place (kid_here before stack)
 
   its_may_have : MayHaveIts was.body
   unfolding top_node
   its_may_have =
-      let top = open_top plan before stack open_now in
+      let top = open_top open_now in
       held_may_have plan (heap_of before) (node_along plan plan.root place (kid_here before stack)) top.slot (suc (length place))
       top.plot top.children
 
@@ -266,7 +228,7 @@ module _ (plan : Plan) (before : List Slot) (stack : List ℕ) (open_now : IsOpe
   unfolding top_node
   shut = closed
 
-  module _ (agree : LookupsAgree) (paths : LookupPathsAgree) (table : Table) (checked : IsChecked table) (by : IsPlanFor table plan)
+  module _ (agree : LookupsAgree) (paths : LookupPathsAgree) {table : Table} (checked : IsChecked table) (by : IsPlanFor table plan)
       (suits : Suits table (root_shape plan) tree) where
     -- the shape of the place
     abbrev s : ℕ
@@ -274,24 +236,20 @@ module _ (plan : Plan) (before : List Slot) (stack : List ℕ) (open_now : IsOpe
 
     here : Along table plan was.node s (tree_at place tree)
     unfolding top_node
-    here =
-        along_open agree paths table plan checked by (kid_here before stack) suits place (open_reach plan before stack open_now)
+    here = along_open agree paths checked by (kid_here before stack) suits place (open_reach open_now)
 
     pub top_may_complete : IfInUse before n (MayComplete table plan)
-    top_may_complete =
-        so_top plan before stack open_now n last (λ (x : Node). MayComplete table plan x)
-        (may_complete table plan s was (tree_at place tree) here own shut)
+    top_may_complete = so_top open_now last (λ (x : Node). MayComplete table plan x) (may_complete was here own shut)
 
     shape : shape_of plan was.node ≡ s
-    shape = shape_along table plan was.node s (tree_at place tree) here
+    shape = shape_along here
 
     -- why it is refused
     pub top_refused : (means : Meanings) (kind : ReflectErrorKind)
         → IfInUse before n (λ (x : Node). WhyNotDefault means table (shape_of plan x.node) x.body kind)
         → (kind ≡ ReflectErrorKind.OutOfMemory) ⊎ LacksHere means table plan before stack kind
     top_refused means kind why =
-        go (top_so plan before stack open_now n last
-        (λ (x : Node). WhyNotDefault means table (shape_of plan x.node) x.body kind) why)
+        go (top_so open_now last (λ (x : Node). WhyNotDefault means table (shape_of plan x.node) x.body kind) why)
       where
         go : WhyNotDefault means table (shape_of plan was.node) was.body kind
             → (kind ≡ ReflectErrorKind.OutOfMemory) ⊎ LacksHere means table plan before stack kind
@@ -304,17 +262,15 @@ module _ (plan : Plan) (before : List Slot) (stack : List ℕ) (open_now : IsOpe
     module _ (means : Meanings) (first : List Slot)
         (filled : IfInUse before n (FillsAt deferred_column means table plan before first n)) where
       fills : FillsAt deferred_column means table plan before first n was
-      fills =
-          top_so plan before stack open_now n last (λ (x : Node). FillsAt deferred_column means table plan before first n x) filled
+      fills = top_so open_now last (λ (x : Node). FillsAt deferred_column means table plan before first n x) filled
 
       first_found : heap_of first n ≡ Some (record was { body = fills.body })
       first_found = fills.becomes n ∙ slot_here (heap_of before) n (Some (record was { body = fills.body }))
 
       first_shows : Shows first (with_body (heap_of before) n (λ old. fills.body))
       first_shows m =
-          fills.becomes m
-          ∙ ap (λ (x : Option Node). with_slot (heap_of before) n (option_map (λ (y : Node). record y { body = fills.body }) x) m)
-          (sym (top_found plan before stack open_now n last))
+          fills.becomes m ∙ ap (λ (x : Option Node). with_slot (heap_of before)
+          n (option_map (λ (y : Node). record y { body = fills.body }) x) m) (sym (top_found open_now last))
 
       -- in the end it has this body, and all else is as it was
       module _ (after : List Slot) (body : Body)
@@ -322,7 +278,7 @@ module _ (plan : Plan) (before : List Slot) (stack : List ℕ) (open_now : IsOpe
           (meant : finished_here means table (shape_of plan was.node) (own_tree was.body) ≡ Some (own_tree body))
           (shows : Shows after (with_body (heap_of before) n (λ old. body))) where
         back : body_in (closed_plot body) ≡ body
-        back = body_back body (value_closed body fills.filled.value valued)
+        back = body_back body (value_closed body valued)
 
         finished_now : FinishedHere means table plan before stack after
         finished_now = record {
@@ -331,13 +287,11 @@ module _ (plan : Plan) (before : List Slot) (stack : List ℕ) (open_now : IsOpe
               ap (λ (x : ℕ). finished_here means table x (tree_at place tree)) (sym shape)
               ∙ ap (finished_here means table (shape_of plan was.node)) (sym own) ∙ meant;
           stands =
-              subst (λ (t : Tree). IsOpenAt plan after stack place (change_at place (λ old. t) tree)) (tree_back body)
-              (top_changed_held plan before after stack open_now n last (λ old. body) (closed_plot body) back
-              (keeps_closed (open_top plan before stack open_now).plot (closed_plot body)
-              (subst (λ (b : Body). MayHaveIts b) (sym back) may)
-              (subst IsClosed (sym back) (value_closed body fills.filled.value valued))
-              (λ all. value_left body fills.filled.value has_base valued))
-              (loses_none (open_top plan before stack open_now).plot (closed_plot body) closed) shows);
+              subst (λ (t : Tree). IsOpenAt plan after stack place (change_at place (λ old. t) tree))
+              (tree_back body) (top_changed after open_now last (λ old. body)
+              back (keeps_closed (open_top open_now).plot (closed_plot body) (subst (λ (b : Body). MayHaveIts b) (sym back) may)
+              (subst IsClosed (sym back) (value_closed body valued)) (λ all. value_left body fills.filled.value has_base valued))
+              (loses_none (open_top open_now).plot (closed_plot body) closed) shows);
         }
 
         nothing_now : NothingStored after
@@ -349,23 +303,26 @@ module _ (plan : Plan) (before : List Slot) (stack : List ℕ) (open_now : IsOpe
         kept_so : KeepsTracker was.body fills.body
         kept_so =
             subst (λ (o : Option Node). IsSomeAnd o (λ (y : Node). KeepsTracker was.body y.body)) first_found
-            (top_so plan before stack open_now n last
-            (λ (x : Node). IfInUse first n (λ (y : Node). KeepsTracker x.body y.body)) tracker)
+            (top_so open_now last (λ (x : Node). IfInUse first n (λ (y : Node). KeepsTracker x.body y.body)) tracker)
 
         not_whole : becomes_whole was.body ≡ false
-        not_whole = sym (top_so plan before stack open_now n last (λ (x : Node). false ≡ becomes_whole x.body) plain)
+        not_whole = sym (top_so open_now last (λ (x : Node). false ≡ becomes_whole x.body) plain)
 
         it_has_base : HasBase fills.body
         unfolding top_node
         it_has_base =
-            kept_base was.body fills.body not_whole (left_base (open_top plan before stack open_now).plot
-            (subst (λ (x : Kid). AreLeftRightly x) (open_top plan before stack open_now).is
-            (left_at place (kid_here before stack) open_now.stands.left))) kept_so
+            kept_body HasBase
+            (λ tracker cells others long has. subst (λ (n : ℕ). base_of_tracker tracker ≤ entry_of n) (sym long) has) was.body
+            fills.body not_whole kept_so (left_base (open_top open_now).plot
+            (subst (λ (x : Kid). AreLeftRightly x) (open_top open_now).is
+            (left_at place (kid_here before stack) open_now.stands.left)))
 
         -- it is finished, and nothing is stored
         pub done_begun : FinishedHere means table plan before stack first × NothingStored first
         done_begun =
-            let may : MayHaveIts fills.body = kept_may_have was.body fills.body not_whole its_may_have kept_so in
+            let may : MayHaveIts fills.body = kept_body MayHaveIts
+            (λ tracker cells others long has. subst (λ (n : ℕ). MayHave tracker n) (sym long) has) was.body fills.body not_whole
+            kept_so its_may_have in
             let meant : finished_here means table (shape_of plan was.node) (own_tree was.body) ≡ Some (own_tree fills.body)
             = finished_as means table (shape_of plan was.node) was.body fills.body fills.filled.value not_whole its_may_have kept_so
             fills.filled.meant fills.filled.held in (
@@ -389,9 +346,8 @@ module _ (plan : Plan) (before : List Slot) (stack : List ℕ) (open_now : IsOpe
           where
             go : (m ≡ n) ⊎ (m ≢ n) → with_body (heap_of first) n new m ≡ with_body (heap_of before) n new m
             go (inl e) =
-                ap (with_body (heap_of first) n new) e ∙ body_here (heap_of first) n new (record was { body = fills.body }) first_found
-                ∙ sym (body_here (heap_of before) n new was (top_found plan before stack open_now n last))
-                ∙ ap (with_body (heap_of before) n new) (sym e)
+                ap (with_body (heap_of first) n new) e ∙ body_here (heap_of first) n new first_found
+                ∙ sym (body_here (heap_of before) n new (top_found open_now last)) ∙ ap (with_body (heap_of before) n new) (sym e)
             go (inr ne) =
                 body_other (heap_of first) n new m ne ∙ first_shows m ∙ body_other (heap_of before) n (λ old. fills.body) m ne
                 ∙ sym (body_other (heap_of before) n new m ne)
@@ -400,7 +356,7 @@ module _ (plan : Plan) (before : List Slot) (stack : List ℕ) (open_now : IsOpe
         done_whole =
             let meant : finished_here means table (shape_of plan was.node) (own_tree was.body) ≡ Some (whole fills.filled.value)
             = whole_as means table (shape_of plan was.node) was.body fills.filled.value
-            (sym (top_so plan before stack open_now n last (λ (x : Node). true ≡ becomes_whole x.body) plain)) fills.filled.meant in (
+            (sym (top_so open_now last (λ (x : Node). true ≡ becomes_whole x.body) plain)) fills.filled.meant in (
               finished_now after (whole_body fills.filled.value) refl tt tt meant shows_whole,
               nothing_now after (whole_body fills.filled.value) refl tt tt meant shows_whole,
             )

@@ -10,8 +10,8 @@ use Rattle.fr_store.proofs.HeadLaws.{Head, head_closed, head_of, walk_on}
 use Rattle.fr_store.proofs.PlaceLaws.{open_placed, placed_below}
 use Rattle.fr_store.proofs.WalkLaws.{one_stored, placed_stored}
 
-module _ {plan : Plan} (now : List Slot) (stack : List ℕ) (still : IsOpen plan now stack) (c way : Place)
-    (on : cursor_in now stack ≡ c ++ way) (n : ℕ) (rest : List ℕ) (left : IsWalk (kid_at c (kid_here now stack)) (n ∷ rest)) where
+module _ {plan : Plan} {now : List Slot} {stack : List ℕ} (still : IsOpen plan now stack) (c way : Place)
+    (on : cursor_in now stack ≡ c ++ way) {n : ℕ} {rest : List ℕ} (left : IsWalk (kid_at c (kid_here now stack)) (n ∷ rest)) where
   on_way : Leads (c ++ way) (kid_here now stack)
   on_way = subst (λ (p : Place). Leads p (kid_here now stack)) on still.stands.leads
 
@@ -19,7 +19,7 @@ module _ {plan : Plan} (now : List Slot) (stack : List ℕ) (still : IsOpen plan
   leads = leads_at c way (kid_here now stack) on_way
 
   placed : IsPlaced (kid_here now stack) c
-  placed = open_placed c way (kid_here now stack) on_way
+  placed = open_placed c way on_way
 
   pub head : Head (kid_at c (kid_here now stack)) n rest left.places
   head = head_of (kid_at c (kid_here now stack)) n rest left
@@ -31,9 +31,7 @@ module _ {plan : Plan} (now : List Slot) (stack : List ℕ) (still : IsOpen plan
   pub stored : IsStoredAt (kid_here now stack) n (c ++ head.place)
   stored = record {
     plot = head.stored.plot;
-    reaches =
-        (placed_below c head.place (kid_here now stack) placed
-        (placed_stored (kid_at c (kid_here now stack)) n head.place head.stored)).reaches;
+    reaches = (placed_below placed (placed_stored head.stored)).reaches;
     is = kid_at_append c head.place (kid_here now stack) ∙ head.stored.is;
   }
 
@@ -43,10 +41,10 @@ module _ {plan : Plan} (now : List Slot) (stack : List ℕ) (still : IsOpen plan
 
   -- there is no other place in its slot
   pub only_here : (place : Place) → IsStoredAt (kid_here now stack) n place → place ≡ c ++ head.place
-  only_here place other = one_stored (kid_here now stack) still.stands.once n place (c ++ head.place) other stored
+  only_here place other = one_stored still.stands.once other stored
 
   -- It had its turn.
-  module _ (means : Meanings) (table : Table) (next : List Slot) (turned : HasTurned means table plan now stack next n) where
+  module _ {means : Meanings} {table : Table} {next : List Slot} (turned : HasTurned means table plan now stack next n) where
     pub same : turned.place ≡ c ++ head.place
     same = only_here turned.place turned.stored
 

@@ -12,10 +12,9 @@ after_below_differs (at slot stored (begun_plot tracker kids)) i j after e = aft
 after_below_differs _ i j after e = omega (arith, after, e)
 
 above_differs : (k : Kid) (p q : Place) → IsAbove k p q → p ≢ q
-above_differs k [] q above e = absurd above
-above_differs k (i ∷ p) [] above e = absurd above
 above_differs k (i ∷ p) (j ∷ q) (inl after) e = after_below_differs k i j after (cc)
 above_differs k (i ∷ p) (j ∷ q) (inr rest) e = above_differs (kid_below i k) p q rest.1 (cc)
+above_differs k _ _ above e = absurd above
 
 pub earlier_differs : (k : Kid) (p q : Place) → ComesEarlier k p q → p ≢ q
 earlier_differs k p q (inl shorter) e = let lengths : length p ≡ length q = ap (λ (l : Place). length l) e in omega arith
@@ -34,10 +33,9 @@ siblings k p i j after = inr (omega (arith, one_longer p i, one_longer p j), las
 
 -- children of two places
 children_above : (k : Kid) (p q : Place) (i j : ℕ) → IsAbove k p q → IsAbove k (p ++ i ∷ []) (q ++ j ∷ [])
-children_above k [] q i j above = absurd above
-children_above k (m ∷ p) [] i j above = absurd above
 children_above k (m ∷ p) (n ∷ q) i j (inl after) = inl after
 children_above k (m ∷ p) (n ∷ q) i j (inr rest) = inr (rest.0, children_above (kid_below m k) p q i j rest.1)
+children_above k _ _ i j above = absurd above
 
 pub children_earlier : (k : Kid) (p q : Place) (i j : ℕ) → ComesEarlier k p q → ComesEarlier k (p ++ i ∷ []) (q ++ j ∷ [])
 children_earlier k p q i j (inl shorter) = inl (omega (arith, one_longer p i, one_longer q j))
@@ -51,12 +49,12 @@ root_earlier k p i = inl (omega (arith, one_longer p i))
 
 module _ (plan : Plan) (heap : Heap) (node : NodeId) (owner : FrameOwner) (depth : ℕ) (k : Kid)
     (holds : Holds plan heap node owner depth k) (left : AreLeftRightly k) (by : IsByTheWay k) where
-  before_earlier : (p q : Place) → IsPlaced k p → IsPlaced k q → ComesEarlier k p q → ComesBefore (tree_of k) q p
-  before_earlier p q one other (inl shorter) =
+  before_earlier : {p q : Place} → IsPlaced k p → IsPlaced k q → ComesEarlier k p q → ComesBefore (tree_of k) q p
+  before_earlier {p} {q} one other (inl shorter) =
       ap (λ (o : Ordering). ordering_then o (slice_cmp step_order (steps_in q (tree_of k)) (steps_in p (tree_of k))))
       (number_less (length (steps_in p (tree_of k))) (length (steps_in q (tree_of k)))
       (omega (arith, steps_count p (tree_of k), steps_count q (tree_of k))))
-  before_earlier p q one other (inr above) =
+  before_earlier {p} {q} one other (inr above) =
       ap (λ (o : Ordering). ordering_then o (slice_cmp step_order (steps_in q (tree_of k)) (steps_in p (tree_of k))))
       (number_equal (length (steps_in p (tree_of k))) (length (steps_in q (tree_of k)))
       (omega (arith, steps_count p (tree_of k), steps_count q (tree_of k), above.0)))
@@ -66,4 +64,4 @@ module _ (plan : Plan) (heap : Heap) (node : NodeId) (owner : FrameOwner) (depth
       → AreInWalkOrder (tree_of k) places
   in_walk_order places placed order =
       pairs_weaker (λ p q. ComesEarlier k q p) (ComesBefore (tree_of k)) (IsPlaced k)
-      (λ p q one other earlier. before_earlier q p other one earlier) places placed order
+      (λ p q one other earlier. before_earlier other one earlier) places placed order

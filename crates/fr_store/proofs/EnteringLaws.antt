@@ -1,19 +1,10 @@
 -- Laws of entering, for proofs: a child of the top gets a slot, and is on top then.
 use Rattle.std.proofs.Common.{◌≡◌, ◌≢◌, ◌⊎◌, ℕ, suc, ◌+◌, ◌<◌, ◌≤◌, Bool, true, false, List, [], ◌∷◌, ◌++◌, append-nil, append_assoc, length, nat_eq, Option, Some, None, inl, inr, refl, sym, ◌∙◌, ap, subst, arith, if◌then◌else◌}
-use Rattle.fr_store.specs.Common.{AllServe, AllStayPut, AreLeftAll, AreLeftIn, AreLeftRightly, Body, Def, FrameOwner, HasChild, Heap, Holds, IsClosed, IsLast, IsOpen, IsOpenAt, IsSome, IsStoredChild, IsThere, IsUnplaced, Kid, Kids, Leads, MayHave, MayHaveIts, Node, NodeId, Place, Plan, Plot, Reaches, Replaces, Shows, Slot, Stands, Top, Tracker, Tree, Trees, at, at_for_at, begun, begun_body, begun_plot, body_here, body_in, body_other, cell_of, cells_in, change_at, change_child, child_node, child_owner, child_tree, closed_marked, closed_uses, count_kids, counts_if, counts_other, counts_same, cursor_in, depth_below, depth_limit, enter, entered_plot, fresh_plot, fresh_tree, gone, heap_of, holds_put_nth, hole, is_map, is_map_tracker, kid_at, kid_here, kid_nth, kid_shown, leads_reach, left_as, left_put_nth, node_along, node_here, nth_put, open_top, put_at, put_nth, same_or_other, slot_other, slots_above, slots_along, stands_change, there, top_held, top_slot, tree_at, tree_change_at, tree_here, tree_in, tree_in_slots, tree_of, tree_of_at, tree_of_nth, tree_put_nth, trees_in, uses, uses_among, uses_at, uses_in, uses_nth, uses_put_nth, whole_plot, with_entered}
-use Rattle.fr_shape.specs.Fills.{is_empty_struct}
-use Rattle.fr_shape.specs.Val.{product, no_vals}
-use Rattle.fr_frame.specs.Bodies.{taken_over, linked, linked_by}
-use Rattle.fr_frame.specs.Heap.{entered_node, links, held_by, depth_above}
-use Rattle.fr_store.specs.EnterLaws.{fresh_closed, fresh_same}
-use Rattle.fr_store.specs.HoldLaws.{unused}
-use Rattle.fr_store.specs.LeaveLaws.{cell_of_child, with_child}
-use Rattle.fr_store.specs.MoveLaws.{open_at_held}
-use Rattle.fr_store.specs.StandLaws.{all_changed}
+use Rattle.fr_store.specs.Common.{AllServe, AllStayPut, AreLeftAll, AreLeftIn, AreLeftRightly, Body, Def, FrameOwner, HasChild, Heap, Holds, IsClosed, IsLast, IsOpen, IsOpenAt, IsSome, IsStoredChild, IsThere, IsUnplaced, Kid, Kids, Leads, MayHave, MayHaveIts, Node, NodeId, Place, Plan, Plot, Replaces, Shows, Slot, Stands, Top, Tracker, Tree, Trees, all_changed, at, at_for_at, begun, begun_body, begun_plot, body_here, body_in, body_other, cell_of, cell_of_child, cells_in, change_at, change_child, child_node, child_owner, child_tree, closed_marked, closed_uses, count_kids, counts_if, counts_other, counts_own, cursor_in, depth_above, depth_below, depth_limit, enter, entered_node, entered_plot, fresh_closed, fresh_plot, fresh_same, fresh_tree, gone, heap_of, held_by, holds_put_nth, hole, is_empty_struct, is_map, is_map_tracker, kid_at, kid_here, kid_nth, kid_shown, left_as, left_put_nth, linked, linked_by, links, no_vals, node_along, node_here, nth_put, open_at_from, open_top, product, put_at, put_nth, same_or_other, slot_other, slots_above, slots_along, stands_change, stands_reach, stored_but, taken_over, there, top_held, top_slot, tree_at, tree_change_at, tree_here, tree_in, tree_in_slots, tree_of, tree_of_at, tree_of_nth, tree_put_nth, trees_in, uses, uses_among, uses_at, uses_in, uses_nth, uses_put_nth, whole_plot, with_child, with_entered}
 use Rattle.fr_store.specs.TopLaws.{slot_here, closed_holds, not_beside, used_entered, open_node}
-use Rattle.fr_store.specs.WayLaws.{stored_but}
 use Rattle.fr_store.proofs.ChildLaws.{child_cell, kids_held, kids_may_have, kids_stored, not_parent, parent_is, part_uses, plot_has, unplaced_child}
 use Rattle.fr_store.proofs.StayLaws.{stay_all, stay_shown, stay_unplaced}
+use Rattle.fr_store.proofs.StoredLaws.{unused}
 
 -- A child that is entered: what it held, or fresh.
 
@@ -84,10 +75,9 @@ pub record IsEntered (plan : Plan) (heap other : Heap) (stack : List ℕ) (n : �
   pub stay : AllStayPut k new
 
 -- Child i of the top, which is in no slot, is entered into slot n, which was free.
-module _ (plan : Plan) (heap other : Heap) (stack : List ℕ) (place : Place) (k : Kid)
-    (stands : Stands plan heap stack place k) (top : Top plan heap stack place k) (tracker : Tracker) (kids : Kids)
-    (begun_now : top.plot ≡ begun_plot tracker kids) (i : ℕ) (within : i < count_kids kids)
-    (unplaced : IsUnplaced (cell_of (kid_nth i kids)))
+module _ {plan : Plan} {heap : Heap} (other : Heap) {stack : List ℕ} {place : Place} {k : Kid} (stands : Stands plan
+    heap stack place k) (top : Top plan heap stack place k) {tracker : Tracker} {kids : Kids} (begun_now : top.plot ≡ begun_plot
+    tracker kids) (i : ℕ) (within : i < count_kids kids) (unplaced : IsUnplaced (cell_of (kid_nth i kids)))
     (vacant : is_map_tracker tracker ≡ true → IsThere (kid_nth i kids) → ⊥) (def : Def) (n : ℕ) (free : heap n ≡ None)
     (shows : (m : ℕ) → other m ≡ with_entered def heap (child_node plan (node_along plan plan.root place k) tracker i)
     (child_owner top.slot i) n m) (limit : depth_below heap (child_owner top.slot i) < depth_limit) where
@@ -102,13 +92,10 @@ module _ (plan : Plan) (heap other : Heap) (stack : List ℕ) (place : Place) (k
 
   parent_now : other top.slot ≡ Some (open_node plan place k (begun_body tracker (cells_in entered_kids)))
   parent_now =
-      shows top.slot ∙ slot_other (links (child_owner top.slot i) n heap) n
-      (Some (entered_node def heap (child_node plan (node_along plan plan.root place k) tracker i) (child_owner top.slot i)))
-      top.slot apart
-      ∙ body_here heap top.slot (linked n i) (open_node plan place k (begun_body tracker (cells_in kids)))
-      (parent_is plan heap stack place k stands top tracker kids begun_now i within)
-      ∙ ap (λ (b : Body). Some (open_node plan place k b)) (linked_child tracker i n kids (child_plot def (kid_nth i kids))
-      (kids_may_have plan heap stack place k stands top tracker kids begun_now i within) within unplaced)
+      shows top.slot ∙ slot_other (links (child_owner top.slot i) n heap) n (Some (entered_node def heap (child_node
+      plan (node_along plan plan.root place k) tracker i) (child_owner top.slot i))) top.slot apart ∙ body_here heap top.slot
+      (linked n i) (parent_is stands top begun_now i within) ∙ ap (λ (b : Body). Some (open_node plan place k b)) (linked_child
+      tracker i n kids (child_plot def (kid_nth i kids)) (kids_may_have stands top begun_now i within) within unplaced)
 
   depth_is : depth_below heap (child_owner top.slot i) ≡ suc (length place)
   depth_is = ap depth_above top.here
@@ -126,14 +113,14 @@ module _ (plan : Plan) (heap other : Heap) (stack : List ℕ) (place : Place) (k
   child_now : other n ≡ Some (child_found (suc (length place)) (body_in (child_plot def (kid_nth i kids))))
   child_now =
       let held : held_by heap (child_owner top.slot i) ≡ Some (cell_of (kid_nth i kids))
-      = child_cell plan heap stack place k stands top tracker kids begun_now i within in
+      = child_cell stands top begun_now i within in
       shows n ∙ slot_here (links (child_owner top.slot i) n heap) n
       (Some (entered_node def heap (child_node plan (node_along plan plan.root place k) tracker i) (child_owner top.slot i)))
       ∙ ap (λ (d : ℕ). Some (child_found d (taken_over def (held_by heap (child_owner top.slot i))))) depth_is
       ∙ ap (λ (b : Body). Some (child_found (suc (length place)) b)) (ap (taken_over def) held ∙ sym (child_body def (kid_nth i kids) unplaced))
 
   part : (m : ℕ) → uses (kid_at place k) m ≡ counts_if (nat_eq top.slot m) + uses_among kids m
-  part m = part_uses plan heap stack place k stands top tracker kids begun_now i within m
+  part m = part_uses stands top begun_now i within m
 
   unused_now : uses k n ≡ 0
   unused_now = unused plan heap plan.root FrameOwner.Root 0 k n stands.holds free
@@ -158,13 +145,12 @@ module _ (plan : Plan) (heap other : Heap) (stack : List ℕ) (place : Place) (k
       go : (n ≡ m) ⊎ (n ≢ m) → uses k m + counts_if (nat_eq n m) ≤ 1
       go (inl e) =
           let none : uses k m ≡ 0 = ap (uses k) (sym e) ∙ unused_now in
-          let one : counts_if (nat_eq n m) ≡ 1 = ap (λ (y : ℕ). counts_if (nat_eq n y)) (sym e) ∙ counts_same n in
-          omega arith
+          omega (arith, counts_own (sym e))
       go (inr ne) = let zero_here : counts_if (nat_eq n m) ≡ 0 = counts_other n m ne in omega (arith, stands.once m)
 
   replaces : Replaces plan heap other (kid_at place k) entered_kid
   replaces node owner depth holds =
-      let same = top_held plan heap stack place k stands top node owner depth holds in
+      let same = top_held stands top node owner depth holds in
       let child : Holds plan other (child_node plan (node_along plan plan.root place k) tracker i)
       (child_owner top.slot i) (suc (length place)) (at n false (child_plot def (kid_nth i kids)))
       = (
@@ -176,19 +162,15 @@ module _ (plan : Plan) (heap other : Heap) (stack : List ℕ) (place : Place) (k
       subst (λ (x : Node). Holds plan other x.node x.owner x.depth entered_kid) (sym same) (
         parent_now,
         top.limit,
-        holds_put_nth plan heap other (node_along plan plan.root place k) top.slot tracker 0 (suc (length place)) kids i i
-            (at n false (child_plot def (kid_nth i kids))) (omega arith) (λ m h. elsewhere m
-            (not_parent plan heap stack place k stands top tracker kids begun_now i within m (omega arith))
-            (omega (arith, part m, uses_at place k m)))
-            (kids_held plan heap stack place k stands top tracker kids begun_now i within) child,
+        holds_put_nth plan heap other (node_along plan plan.root place k) top.slot tracker 0 (suc (length place)) kids
+            i i (at n false (child_plot def (kid_nth i kids))) (omega arith) (λ m h. elsewhere m (not_parent stands top begun_now
+            i within m (omega arith)) (omega (arith, part m, uses_at place k m))) (kids_held stands top begun_now i within) child,
       )
 
   -- each slot in use is that of a place
   all_entered : AllServe heap k → AllServe other (put_at place entered_kid k)
   all_entered all =
-      let reach : Reaches place k
-      = leads_reach place [] k (subst (λ (p : Place). Leads p k) (sym (append-nil place)) stands.leads) in
-      all_changed heap other place entered_kid k reach all from
+      all_changed heap other place entered_kid k (stands_reach stands) all from
     where
       added : (m : ℕ) → uses_among entered_kids m + uses (kid_nth i kids) m
           ≡ uses_among kids m + (counts_if (nat_eq n m) + uses_in (child_plot def (kid_nth i kids)) m)
@@ -196,9 +178,7 @@ module _ (plan : Plan) (heap other : Heap) (stack : List ℕ) (place : Place) (k
 
       go : (m : ℕ) → (m ≡ n) ⊎ IsSome (heap m)
           → (0 < uses entered_kid m) ⊎ (IsSome (heap m) × (uses (kid_at place k) m ≤ uses entered_kid m))
-      go m (inl e) =
-          let one : counts_if (nat_eq n m) ≡ 1 = ap (λ (y : ℕ). counts_if (nat_eq n y)) e ∙ counts_same n in
-          inl (omega (arith, added m, uses_nth i kids m))
+      go m (inl e) = inl (omega (arith, counts_own e, added m, uses_nth i kids m))
       go m (inr used) = inr (used, omega (arith, added m, part m, unplaced_kid (kid_nth i kids) m unplaced))
 
       from : (m : ℕ) → IsSome (other m)
@@ -210,9 +190,7 @@ module _ (plan : Plan) (heap other : Heap) (stack : List ℕ) (place : Place) (k
   -- no place leaves its slot
   stay_entered : AllStayPut k (put_at place entered_kid k)
   stay_entered =
-      let reach : Reaches place k
-      = leads_reach place [] k (subst (λ (p : Place). Leads p k) (sym (append-nil place)) stands.leads) in
-      stay_all place entered_kid k reach (subst (λ (x : Kid). AllStayPut x entered_kid)
+      stay_all place entered_kid k (stands_reach stands) (subst (λ (x : Kid). AllStayPut x entered_kid)
       (sym (top.is ∙ ap (λ (p : Plot). at top.slot false p) begun_now))
       (stay_all (i ∷ []) (at n false (child_plot def (kid_nth i kids))) (at top.slot false (begun_plot tracker kids)) (within, tt)
       (stay_unplaced (kid_nth i kids) (at n false (child_plot def (kid_nth i kids))) unplaced)))
@@ -230,16 +208,14 @@ module _ (plan : Plan) (heap other : Heap) (stack : List ℕ) (place : Place) (k
   stands_entered =
       let longer : Stands plan heap stack (place ++ []) k
       = subst (λ (p : Place). Stands plan heap stack p k) (sym (append-nil place)) stands in
-      stands_change plan heap other stack (stack ++ n ∷ []) place [] (i ∷ []) entered_kid k longer (ap cell_of (sym top.is))
-      (λ m h. elsewhere m (not_beside plan heap stack place k stands top m h) (omega arith)) replaces once (
+      stands_change other place [] (i ∷ []) longer (ap cell_of (sym top.is))
+      (λ m h. elsewhere m (not_beside stands top m h) (omega arith)) replaces once (
         refl,
-        stored_but i (λ below. Leads [] below) (at n false (child_plot def (kid_nth i kids))) kids within
-            (kids_stored plan heap stack place k stands top tracker kids begun_now i within)
-            (refl, closed_marked true (child_plot def (kid_nth i kids)) (child_closed def (kid_nth i kids))),
-      ) (at_for_at (kid_at place k) top.slot top.slot false top.plot (begun_plot tracker entered_kids) top.is) left
-      (ap (λ (s : List ℕ). s ++ n ∷ []) top.last ∙ append_assoc (slots_above place k) (top.slot ∷ []) (n ∷ [])
-      ∙ ap (λ (x : Kid). slots_above place k ++ top.slot ∷ slots_along [] x)
-      (sym (nth_put i (at n false (child_plot def (kid_nth i kids))) kids within)))
+        stored_but i (λ below. Leads [] below) (at n false (child_plot def (kid_nth i kids))) kids within (kids_stored stands top
+            begun_now i within) (refl, closed_marked true (child_plot def (kid_nth i kids)) (child_closed def (kid_nth i kids))),
+      ) (at_for_at top.slot (begun_plot tracker entered_kids) top.is) left (ap (λ (s : List ℕ). s ++ n ∷ []) top.last
+      ∙ append_assoc (slots_above place k) (top.slot ∷ []) (n ∷ []) ∙ ap (λ (x : Kid). slots_above place
+      k ++ top.slot ∷ slots_along [] x) (sym (nth_put i (at n false (child_plot def (kid_nth i kids))) kids within)))
 
   pub tree_entered : tree_of (put_at place entered_kid k) ≡ change_at place (change_child i (enter def)) (tree_of k)
   tree_entered =
@@ -253,29 +229,32 @@ module _ (plan : Plan) (heap other : Heap) (stack : List ℕ) (place : Place) (k
   pub entered_so : IsEntered plan heap other stack n place i k (put_at place entered_kid k)
   entered_so = record { stands = stands_entered; all = all_entered; stay = stay_entered }
 
+-- An open builder's child i is on top, and no place leaves its slot.
+abbrev pub GoesTo : Plan → (before after : List Slot) → (stack next : List ℕ) → (i : ℕ) → (Tree → Tree) → Type 0
+GoesTo plan before after stack next i change =
+    IsOpenAt plan after next (cursor_in before stack ++ i ∷ []) (change_at (cursor_in before stack)
+    change (tree_in_slots before stack)) × AllStayPut (kid_here before stack) (kid_here after next)
+
 -- A child of an open builder's top that isn't stored is entered.
-module _ (plan : Plan) (before : List Slot) (stack : List ℕ) (open_now : IsOpen plan before stack) (p : ℕ)
+module _ {plan : Plan} {before : List Slot} {stack : List ℕ} (open_now : IsOpen plan before stack) {p : ℕ}
     (last : IsLast stack p) where
-  pub open_entered : (after : List Slot) (next : List ℕ) (tracker : Tracker) (i : ℕ) (def : Def) (n : ℕ) (node : NodeId)
+  pub open_entered : (after : List Slot) {next : List ℕ} (tracker : Tracker) (i : ℕ) (def : Def) (n : ℕ) {node : NodeId}
       → HasChild tracker i (tree_here before stack)
       → (is_map (tree_here before stack) ≡ true → child_tree i (tree_here before stack) ≡ hole)
       → node ≡ child_node plan (node_here plan before stack) tracker i
       → ((child : ℕ) → IsStoredChild (heap_of before) p i child → ⊥) → heap_of before n ≡ None
       → Shows after (with_entered def (heap_of before) node (child_owner p i) n)
       → depth_below (heap_of before) (child_owner p i) < depth_limit → next ≡ stack ++ n ∷ []
-      → IsOpenAt plan after next (cursor_in before stack ++ i ∷ [])
-      (change_at (cursor_in before stack) (change_child i (enter def)) (tree_in_slots before stack))
-      × AllStayPut (kid_here before stack) (kid_here after next)
-  open_entered after next tracker i def n node has map_hole is none free shows limit along =
+      → GoesTo plan before after stack next i (change_child i (enter def))
+  open_entered after tracker i def n has map_hole is none free shows limit along =
       let place : Place = cursor_in before stack in
       let k : Kid = kid_shown (heap_of before) stack in
-      let top = open_top plan before stack open_now in
-      let same : top.slot ≡ p = top_slot plan before stack open_now p last in
+      let top = open_top open_now in
+      let same : top.slot ≡ p = top_slot open_now last in
       let here : HasChild tracker i (tree_in top.plot)
       = subst (λ (t : Tree). HasChild tracker i t) (sym (tree_of_at place k) ∙ ap tree_of top.is) has in
       let found = plot_has tracker i top.plot here in
-      let unplaced : IsUnplaced (cell_of (kid_nth i found.0))
-      = unplaced_child plan (heap_of before) stack place k open_now.stands top tracker found.0 found.1 i found.2
+      let unplaced : IsUnplaced (cell_of (kid_nth i found.0)) = unplaced_child open_now.stands top found.1 i found.2
       (subst (λ (x : ℕ). (child : ℕ) → IsStoredChild (heap_of before) x i child → ⊥) (sym same) none) in
       let began : tree_here before stack ≡ begun tracker (trees_in found.0)
       = sym (tree_of_at place k) ∙ ap tree_of top.is ∙ ap tree_in found.1 in
@@ -290,17 +269,12 @@ module _ (plan : Plan) (before : List Slot) (stack : List ℕ) (open_now : IsOpe
       (child_node plan (node_along plan plan.root place k) tracker i) (child_owner x i) n m) (sym same) in
       let deep : depth_below (heap_of before) (child_owner top.slot i) < depth_limit
       = subst (λ (x : ℕ). depth_below (heap_of before) (child_owner x i) < depth_limit) (sym same) limit in
-      let now : Kid = put_at place
-      (entered_kid plan (heap_of before) (heap_of after) stack place k open_now.stands top tracker found.0 found.1 i
-      found.2 unplaced vacant def n free shown deep) k in
+      let now : Kid = put_at
+      place (entered_kid (heap_of after) open_now.stands top found.1 i found.2 unplaced vacant def n free shown deep) k in
       let so : IsEntered plan (heap_of before) (heap_of after) stack n place i k now
-      = entered_so plan (heap_of before) (heap_of after) stack place k open_now.stands top tracker found.0 found.1 i
-      found.2 unplaced vacant def n free shown deep in
-      subst (λ (s : List ℕ). IsOpenAt plan after s (place ++ i ∷ [])
-      (change_at place (change_child i (enter def)) (tree_of k)) × AllStayPut k (kid_here after s)) (sym along) (
-        open_at_held plan after (stack ++ n ∷ []) (place ++ i ∷ []) now
-            (change_at place (change_child i (enter def)) (tree_of k)) so.stands (so.all open_now.all)
-            (tree_entered plan (heap_of before) (heap_of after) stack place k open_now.stands top tracker found.0 found.1 i
-            found.2 unplaced vacant def n free shown deep),
-        stay_shown plan after (stack ++ n ∷ []) (place ++ i ∷ []) now k so.stands so.stay,
+      = entered_so (heap_of after) open_now.stands top found.1 i found.2 unplaced vacant def n free shown deep in
+      subst (λ (s : List ℕ). GoesTo plan before after stack s i (change_child i (enter def))) (sym along) (
+        open_at_from after {k = now} so.stands (so.all open_now.all)
+            (tree_entered (heap_of after) open_now.stands top found.1 i found.2 unplaced vacant def n free shown deep),
+        stay_shown after {k = now} k so.stands so.stay,
       )

@@ -1,14 +1,9 @@
 -- Laws of places that fail at the end of deferred mode, for proofs: what fails beneath a place, and what it lacks by itself.
 use Rattle.std.proofs.Common.{◌≡◌, ◌≢◌, ℕ, zero, suc, ◌+◌, ◌<◌, true, List, [], ◌∷◌, ◌++◌, append-nil, append_assoc, Option, Some, None, refl, sym, ◌∙◌, ap, arith}
-use Rattle.fr_store.specs.Common.{Failure, HasPlace, Meanings, PathStep, Place, ReflectErrorKind, Table, Tracker, Tree, Trees, Val, begun, branch, deferred_column, failures_off, first_by_walk, hole, kind_of, no_trees, option_map, own_lack, shape_in, step_as, steps_in, tree_at, tree_nth, whole}
+use Rattle.fr_store.specs.Common.{Failure, HasPlace, Meanings, PathStep, Place, ReflectErrorKind, Table, Tracker, Tree, Trees, Val, begun, branch, cause_by, child_as, closed, complete, count_trees, deferred_column, entered, failure_at, failures, failures_among, failures_but, failures_off, first_by_walk, hole, kind_of, lack_of_begun, no_trees, option_map, or_itself, or_missing, own_lack, shape_in, step_as, steps_in, tree_at, tree_nth, whole}
 use Rattle.std.specs.Prelude.{is_none, not}
 use Rattle.fr_shape.specs.Lists.{is_nil}
-use Rattle.fr_model.specs.Complete.{complete}
-use Rattle.fr_model.specs.Failing.{failure_at, failures, failures_among, lack_of_begun, or_itself}
-use Rattle.fr_model.specs.Finish.{closed, failures_but}
 use Rattle.fr_model.specs.Laws.{CompletesOrFails}
-use Rattle.fr_model.specs.Step.{cause_by, or_missing}
-use Rattle.fr_model.specs.Tree.{entered, child_as, count_trees}
 
 -- Where nothing fails beneath.
 
@@ -32,17 +27,17 @@ but_none hooks table s tracker (suc on_way) below i m path (branch t ts) e h non
     (failures_but hooks table s tracker on_way below (suc i) path ts) none).1
 
 -- nothing off the way fails, so nothing beneath the place at its end does
-pub none_here : (hooks : Meanings) (table : Table) (s : ℕ) (path to : List PathStep) (cursor : Place) (tree : Tree)
-    → HasPlace cursor tree → to ≡ path ++ steps_in cursor tree → failures_off hooks table s path cursor tree ≡ []
+pub none_here : (hooks : Meanings) (table : Table) (s : ℕ) (path : List PathStep) {to : List PathStep} (cursor : Place)
+    (tree : Tree) → HasPlace cursor tree → to ≡ path ++ steps_in cursor tree → failures_off hooks table s path cursor tree ≡ []
     → failures_off hooks table (shape_in table s cursor tree) to [] (tree_at cursor tree) ≡ []
-none_here hooks table s path to [] tree has e none =
+none_here hooks table s path [] tree has e none =
     ap (λ (p : List PathStep). failures_off hooks table s p [] tree) (e ∙ append-nil path) ∙ none
-none_here hooks table s path to (i ∷ cursor) (begun tracker ts) has e none =
-    none_here hooks table (child_as table s tracker i) (path ++ step_as tracker i ∷ []) to cursor (tree_nth i ts) has.1
-    (e ∙ sym (append_assoc path (step_as tracker i ∷ []) (steps_in cursor (tree_nth i ts)))) (but_none hooks table s tracker i
-    (λ (shape : ℕ) (way : List PathStep) (t : Tree). failures_off hooks table shape way cursor t) 0 i path ts
-    (omega arith) has.0 none)
-none_here hooks table s path to (i ∷ cursor) _ has e none = absurd has
+none_here hooks table s path {to} (i ∷ cursor) (begun tracker ts) has e none =
+    none_here hooks table (child_as table s tracker i) (path ++ step_as tracker i ∷ []) cursor (tree_nth i ts) has.1
+    (e ∙ sym (append_assoc path (step_as tracker i ∷ []) (steps_in cursor (tree_nth i ts)))) (but_none hooks table s tracker
+    i (λ (shape : ℕ) (way : List PathStep) (t : Tree). failures_off hooks table shape way cursor t) 0 i path ts (omega arith)
+    has.0 none)
+none_here hooks table s path (i ∷ cursor) _ has e none = absurd has
 
 -- then of that place fails what it lacks by itself
 pub fails_itself : (hooks : Meanings) (table : Table) (s : ℕ) (path : List PathStep) (tree : Tree) → tree ≢ hole
@@ -56,24 +51,23 @@ fails_itself hooks table s path _ there none = refl
 pub same_lack : (path : List PathStep) (first second : Option ReflectErrorKind) → failure_at path first ≡ failure_at path second
     → first ≡ second
 same_lack path None None e = refl
-same_lack path None (Some kind) e = absurd (cc)
-same_lack path (Some kind) None e = absurd (cc)
 same_lack path (Some kind) (Some other) e =
     let same : record { path = path; kind = kind } ≡ record { path = path; kind = other } = cc in
     ap (λ (f : Failure). Some f.kind) same
+same_lack path _ _ e = absurd (cc)
 
 -- where something beneath a place fails, just that fails in the whole
-pub fails_beneath : (hooks : Meanings) (table : Table) (s : ℕ) (path : List PathStep) (tree : Tree) (failure : Failure)
+pub fails_beneath : (hooks : Meanings) (table : Table) (s : ℕ) (path : List PathStep) (tree : Tree) {failure : Failure}
     → first_by_walk (failures_off hooks table s path [] tree) ≡ Some failure
     → failures hooks table s path tree ≡ failures_off hooks table s path [] tree
-fails_beneath hooks table s path (begun tracker ts) failure first = go (failures_among hooks table s tracker 0 path ts) first
+fails_beneath hooks table s path (begun tracker ts) {failure} first = go (failures_among hooks table s tracker 0 path ts) first
   where
     go : (beneath : List Failure) → first_by_walk beneath ≡ Some failure
         → or_itself beneath (failure_at path (lack_of_begun hooks table s tracker ts)) ≡ beneath
     go [] first = absurd (cc)
     go (f ∷ fs) first = refl
-fails_beneath hooks table s path entered failure first = absurd (cc)
-fails_beneath hooks table s path _ failure first = refl
+fails_beneath hooks table s path entered first = absurd (cc)
+fails_beneath hooks table s path _ first = refl
 
 -- What a place in which something fails comes to.
 
@@ -81,24 +75,22 @@ not_whole : (x : Option Val) → is_none (option_map whole x) ≡ true → x ≡
 not_whole (Some v) e = absurd (cc)
 not_whole None e = refl
 
-some_fails : (fs : List Failure) (failure : Failure) → first_by_walk fs ≡ Some failure → not (is_nil fs) ≡ true
-some_fails [] failure e = absurd (cc)
-some_fails (f ∷ fs) failure e = refl
+some_fails : (fs : List Failure) {failure : Failure} → first_by_walk fs ≡ Some failure → not (is_nil fs) ≡ true
+some_fails [] e = absurd (cc)
+some_fails (f ∷ fs) e = refl
 
 -- where something fails in it, it makes no value
-pub none_made : CompletesOrFails → (hooks : Meanings) (table : Table) (s : ℕ) (path : List PathStep) (tree : Tree) (failure : Failure)
-    → first_by_walk (failures hooks table s path tree) ≡ Some failure → complete deferred_column hooks table s tree ≡ None
-none_made fails hooks table s path tree failure first =
-    go tree (fails hooks table s path tree ∙ some_fails (failures hooks table s path tree) failure first)
+pub none_made : CompletesOrFails → (hooks : Meanings) (table : Table) (s : ℕ)
+    (path : List PathStep) (tree : Tree) {failure : Failure} → first_by_walk (failures hooks table s path tree) ≡ Some failure
+    → complete deferred_column hooks table s tree ≡ None
+none_made fails hooks table s path tree {failure} first =
+    go tree (fails hooks table s path tree ∙ some_fails (failures hooks table s path tree) first)
   where
     go : (t : Tree) → is_none (closed hooks table s t) ≡ true → complete deferred_column hooks table s t ≡ None
     go hole e = absurd (cc)
-    go entered e = not_whole (complete deferred_column hooks table s entered) e
-    go (whole v) e = not_whole (complete deferred_column hooks table s (whole v)) e
-    go (begun tracker ts) e = not_whole (complete deferred_column hooks table s (begun tracker ts)) e
+    go t e = not_whole (complete deferred_column hooks table s t) e
 
 -- and what fails first is why
-pub cause_is : (hooks : Meanings) (table : Table) (s : ℕ) (path : List PathStep) (tree : Tree) (failure : Failure)
-    → first_by_walk (failures hooks table s path tree) ≡ Some failure
-    → failure.kind ≡ cause_by deferred_column hooks table s path tree
-cause_is hooks table s path tree failure first = sym (ap (λ (found : Option Failure). or_missing s (kind_of found)) first)
+pub cause_is : (hooks : Meanings) (table : Table) (s : ℕ) (path : List PathStep) (tree : Tree) {failure : Failure} → first_by_walk
+    (failures hooks table s path tree) ≡ Some failure → failure.kind ≡ cause_by deferred_column hooks table s path tree
+cause_is hooks table s path tree first = sym (ap (λ (found : Option Failure). or_missing s (kind_of found)) first)

@@ -1,7 +1,7 @@
 -- Laws of the end of deferred mode, for proofs: all stored places had their turn, nothing is stored, and the place at which the
 -- builder works is finished.
-use Rattle.std.proofs.Common.{◌≡◌, ◌≢◌, ℕ, ◌<◌, false, List, [], ◌∷◌, ◌++◌, append-nil, option_map, Option, Some, None, refl, sym, ◌∙◌, ap, subst, arith}
-use Rattle.fr_store.specs.Common.{AreInWalkOrder, AreStoredAt, Contains, FinishesOrRefuses, FrameOwner, HasPlace, Heap, Holds, IsHeldUp, IsOpen, IsOpenAt, Kid, LacksHere, Leads, Meanings, Node, NodeId, NoneStored, NothingStored, PathStep, Place, Plan, ReflectErrorKind, Slot, StoppedByTurns, Table, Tree, Walked, at, begun_plot, change_at, cursor_in, entered_plot, failures_off, gone, heap_of, hole, is_some, kid_at, leads_at, leads_reach, marked, own_lack, reach_place, root_shape, shape_in, steps_in, stored_here, stored_in, strict, there, tree_at, tree_in_slots, tree_of, tree_of_at, uses, whole_plot}
+use Rattle.std.proofs.Common.{◌≡◌, ◌≢◌, ℕ, Bool, true, false, List, [], ◌∷◌, ◌++◌, append-nil, option_map, Some, refl, sym, ◌∙◌, ap, subst}
+use Rattle.fr_store.specs.Common.{AreInWalkOrder, Contains, FinishesOrRefuses, HasPlace, IsHeldUp, IsOpen, IsOpenAt, Kid, LacksHere, Leads, Meanings, NoneStored, NothingStored, PathStep, Place, Plan, ReflectErrorKind, Slot, StoppedByTurns, Table, Tree, Walked, at, begun_plot, change_at, cursor_in, failures_off, heap_of, hole, kid_at, leads_at, leads_reach, marked, own_lack, reach_place, root_shape, shape_in, steps_in, stored_here, strict, tree_at, tree_in_slots, tree_of, tree_of_at}
 use Rattle.fr_model.specs.FailingLaws.{FinishOfDone, NothingFailsOfDone}
 use Rattle.fr_model.specs.Finish.{finished_here}
 use Rattle.fr_model.specs.Well.{Leads as LeadsIn}
@@ -9,30 +9,10 @@ use Rattle.fr_store.specs.WayLaws.{marked_at}
 use Rattle.fr_store.specs.Turning.{CameByTurns, FinishedHere, kid_here, next_place}
 use Rattle.fr_store.specs.Turns.{IsFinished, KeepThoseLeft}
 use Rattle.fr_store.proofs.FailLaws.{fails_itself, none_here, same_lack}
-use Rattle.fr_store.proofs.HeldLaws.{held_by_last, leads_deferred, leads_strict, no_marks}
+use Rattle.fr_store.proofs.HeldLaws.{held_by_last, leads_deferred, leads_strict, walk_over}
 use Rattle.fr_store.proofs.HeadLaws.{stored_among}
 use Rattle.fr_store.proofs.WalkedLaws.{stopped_at}
-use Rattle.fr_store.proofs.PlaceLaws.{mark_at, place_of}
-
--- Walks.
-
-no_places : (k : Kid) (places : List Place) → AreStoredAt k [] places → places ≡ []
-no_places k [] stored = refl
-no_places k (place ∷ places) stored = absurd stored
-
--- Where no place is stored, no slot that serves is marked.
-
-unmarked : (plan : Plan) (heap : Heap) (node : NodeId) (owner : FrameOwner) (depth : ℕ) (k : Kid) (n : ℕ)
-    → Holds plan heap node owner depth k → NoneStored k → 0 < uses k n → marked heap n ≡ false
-unmarked plan heap node owner depth k n holds none used =
-    let lies = place_of k n used in
-    ap (marked heap) (sym lies.2) ∙ mark_at plan heap node owner depth lies.0 k holds lies.1
-    ∙ not_stored (kid_at lies.0 k) (marked_at false lies.0 k none)
-  where
-    not_stored : (x : Kid) → NoneStored x → stored_here x ≡ false
-    not_stored (at slot stored plot) all = all.0
-    not_stored gone all = refl
-    not_stored (there v) all = refl
+use Rattle.fr_store.proofs.StoredLaws.{stored_place}
 
 -- what stands at the end of the way is no hole
 leads_there : (place : Place) (k : Kid) → Leads place k → tree_at place (tree_of k) ≢ hole
@@ -41,35 +21,33 @@ leads_there place k leads e =
     (tree_of_at place k ∙ e)
   where
     go : (x : Kid) → Leads [] x → tree_of x ≡ hole → ⊥
-    go gone l is = absurd l
-    go (there v) l is = absurd l
-    go (at slot stored entered_plot) l is = cc
-    go (at slot stored (whole_plot v)) l is = cc
     go (at slot stored (begun_plot tracker kids)) l is = cc
+    go (at slot stored _) l is = cc
+    go _ l is = absurd l
 
 -- All had their turn.
-module _ (means : Meanings) (table : Table) (plan : Plan) (before : List Slot) (stack : List ℕ) (now : List Slot) (walk : List ℕ)
+module _ {means : Meanings} {table : Table} {plan : Plan} {before : List Slot} {stack : List ℕ} {now : List Slot} {walk : List ℕ}
     (walked : Walked means table plan before stack now walk []) where
   none_left : walked.left.places ≡ []
-  none_left = no_places (kid_here now stack) walked.left.places walked.left.stored
+  none_left = (walk_over walked.left).0
 
   none_stored : NoneStored (kid_here now stack)
-  none_stored =
-      no_marks (kid_here now stack) (λ slot place stored.
-      let found : Contains [] place
-      = subst (λ (ps : List Place). Contains ps place) none_left (walked.left.all slot place stored) in
-      absurd (omega (arith, found.1)))
+  none_stored = (walk_over walked.left).1
 
   -- nothing is marked any more
   pub nothing_left : NothingStored now
-  nothing_left n = go (heap_of now n) refl
+  nothing_left n = go (marked (heap_of now) n) refl
     where
-      go : (x : Option Node) → heap_of now n ≡ x → stored_in x ≡ false
-      go None e = refl
-      go (Some found) e =
-          ap stored_in (sym e)
-          ∙ unmarked plan (heap_of now) plan.root FrameOwner.Root 0 (kid_here now stack) n walked.still.stands.holds none_stored
-          (walked.still.all n (ap is_some e))
+      not_stored : (x : Kid) → NoneStored x → stored_here x ≡ true → ⊥
+      not_stored (at slot stored plot) all is = let both : false ≡ true = sym all.0 ∙ is in cc
+      not_stored _ all is = cc
+
+      go : (mark : Bool) → marked (heap_of now) n ≡ mark → marked (heap_of now) n ≡ false
+      go false e = e
+      go true e =
+          let lies = stored_place walked.still.stands walked.still.all n e in
+          absurd (not_stored (kid_at (lies.0 ++ lies.1 ∷ []) (kid_here now stack))
+          (marked_at false (lies.0 ++ lies.1 ∷ []) (kid_here now stack) none_stored) lies.3)
 
   leads_now : Leads (cursor_in before stack) (kid_here now stack)
   leads_now = subst (λ (p : Place). Leads p (kid_here now stack)) walked.cursor walked.still.stands.leads
@@ -82,7 +60,7 @@ module _ (means : Meanings) (table : Table) (plan : Plan) (before : List Slot) (
     said_now : So (cursor_in now stack) (tree_in_slots now stack) → So (cursor_in before stack) (tree_in_slots now stack)
     said_now so = subst (λ (p : Place). So p (tree_in_slots now stack)) walked.cursor so
 
-  module _ (after : List Slot) (ends : FinishedHere means table plan now stack after) where
+  module _ {after : List Slot} (ends : FinishedHere means table plan now stack after) where
     meant_now : finished_here means table (shape_in table (root_shape plan) (cursor_in before stack) (tree_in_slots now stack))
         (tree_at (cursor_in before stack) (tree_in_slots now stack)) ≡ Some ends.tree
     meant_now =
@@ -127,8 +105,8 @@ module _ (means : Meanings) (table : Table) (plan : Plan) (before : List Slot) (
 
   -- the place at which the builder works lacks something
   module _ (refuses : FinishesOrRefuses) (nothing : NothingFailsOfDone) (open_first : IsOpen plan before stack)
-      (kind : ReflectErrorKind) (lacks : LacksHere means table plan now stack kind) where
-    to : List PathStep
+      {kind : ReflectErrorKind} (lacks : LacksHere means table plan now stack kind) where
+    abbrev to : List PathStep
     to = [] ++ steps_in (cursor_in before stack) (tree_in_slots before stack)
 
     none_now : (path : List PathStep)
@@ -151,22 +129,17 @@ module _ (means : Meanings) (table : Table) (plan : Plan) (before : List Slot) (
     -- so it did at the start
     lacks_before : own_lack means table (shape_in table (root_shape plan) (cursor_in before stack) (tree_in_slots before stack))
         (tree_at (cursor_in before stack) (tree_in_slots before stack)) ≡ Some kind
-    unfolding to
     lacks_before =
-        same_lack to
-        (own_lack means table (shape_in table (root_shape plan) (cursor_in before stack) (tree_in_slots before stack))
-        (tree_at (cursor_in before stack) (tree_in_slots before stack)))
-        (own_lack means table (shape_in table (root_shape plan) (cursor_in before stack) (tree_in_slots now stack))
-        (tree_at (cursor_in before stack) (tree_in_slots now stack))) (sym (fails_itself means table
-        (shape_in table (root_shape plan) (cursor_in before stack) (tree_in_slots before stack)) to
-        (tree_at (cursor_in before stack) (tree_in_slots before stack))
-        (leads_there (cursor_in before stack) (kid_here before stack) open_first.stands.leads)
-        (none_here means table (root_shape plan) [] to (cursor_in before stack) (tree_in_slots before stack)
-        (has (kid_here before stack) open_first.stands.leads) refl (none_before []))) ∙ sym (walked.here.failing to)
+        same_lack to (own_lack means table (shape_in table (root_shape plan) (cursor_in before stack) (tree_in_slots before
+        stack)) (tree_at (cursor_in before stack) (tree_in_slots before stack))) (own_lack means table (shape_in table (root_shape
+        plan) (cursor_in before stack) (tree_in_slots now stack)) (tree_at (cursor_in before stack) (tree_in_slots now stack)))
+        (sym (fails_itself means table (shape_in table (root_shape plan) (cursor_in before stack) (tree_in_slots before stack))
+        to (tree_at (cursor_in before stack) (tree_in_slots before stack)) (leads_there (cursor_in before stack) (kid_here before
+        stack) open_first.stands.leads) (none_here means table (root_shape plan) [] (cursor_in before stack) (tree_in_slots
+        before stack) (has (kid_here before stack) open_first.stands.leads) refl (none_before []))) ∙ sym (walked.here.failing to)
         ∙ fails_itself means table (shape_in table (root_shape plan) (cursor_in before stack) (tree_in_slots now stack)) to
-        (tree_at (cursor_in before stack) (tree_in_slots now stack))
-        (leads_there (cursor_in before stack) (kid_here now stack) leads_now)
-        (none_here means table (root_shape plan) [] to (cursor_in before stack) (tree_in_slots now stack)
+        (tree_at (cursor_in before stack) (tree_in_slots now stack)) (leads_there (cursor_in before stack) (kid_here now stack)
+        leads_now) (none_here means table (root_shape plan) [] (cursor_in before stack) (tree_in_slots now stack)
         (has (kid_here now stack) leads_now) (sym walked.path) (none_now []))) ∙ lacks_now
 
     pub held_here : IsHeldUp means table plan before stack kind
@@ -179,7 +152,7 @@ module _ (means : Meanings) (table : Table) (plan : Plan) (before : List Slot) (
     -- there it stopped
     pub stopped_here : StoppedByTurns means table plan before stack kind
     stopped_here =
-        stopped_at means table plan before stack walked kind
+        stopped_at walked
         (subst (λ (p : Place). own_lack means table (shape_in table (root_shape plan) p (tree_in_slots now stack))
         (tree_at p (tree_in_slots now stack)) ≡ Some kind)
         (sym (ap (λ (l : List Place). next_place l (cursor_in before stack)) none_left)) lacks_now)

@@ -1,24 +1,11 @@
 -- Laws of handing over the value of the place on top, for proofs: it goes up to the place above or to the set above, whose other children
 -- stay as they are, or it stays where it is.
-use Rattle.std.proofs.Common.{◌≡◌, ◌≢◌, ◌⊎◌, ℕ, suc, ◌+◌, ◌<◌, ◌≤◌, true, false, List, [], ◌∷◌, ◌++◌, append-nil, length, nat_eq, option_map, Option, Some, None, Result, Ok, Err, OnOk, OnErr, inl, inr, refl, sym, ◌∙◌, ap, subst, arith}
-use Rattle.fr_store.specs.Common.{AgreeBeside, AllMarkedAmong, AllServe, AllStayPut, AreLeftAll, AreLeftRightly, AreUnplaced, AtTop, Body, Cell, FrameOwner, Heap, Holds, HoldsAll, IfInUse, IsClosed, IsLast, IsOpen, IsOpenAt, IsPlaced, IsSome, IsSomeAnd, ItemsKind, KeepsChildren, Kid, Kids, Leads, MayHave, Node, NodeId, Place, Plan, Plot, Reaches, Replaces, Room, SameMarks, Shows, Slot, Stands, StayPutBut, Top, Tracker, Tree, Trees, Val, above_append, as_items, at, at_for_at, begun, begun_body, begun_plot, below_root, body_here, body_in, body_occurs, body_other, cell_at, cell_of, cells_in, change_at, child_owner, closed_uses, count_kids, counts_if, counts_other, counts_same, cursor_in, given, gone, heap_of, holds_at, holds_put_nth, is_root, is_some, keeps_closed, kid_at, kid_here, kid_is, kid_nth, leads_reach, left_at, left_put_nth, marked, marked_body, node_along, open_reach, open_top, option_and_then, owner_along, owner_append, owner_below, put_append, put_at, put_nth, same_front, same_last, same_or_other, slot_at, slot_other, slots_above, so_top, stands_change, stored_in, there, tokens_here, top_found, top_of, top_stands, tree_at, tree_change_at, tree_in_slots, tree_of, tree_of_at, tree_put_at, unlinked, up, up_append, used_mapped, uses, uses_among, uses_at, uses_in, uses_nth, uses_put_nth, value_of, whole_body, whole_plot, with_body, with_slot, without}
-use Rattle.fr_model.specs.Collections.{and_item, is_set, number_in, with_ended_item}
-use Rattle.fr_frame.specs.Bodies.{and_item_cell, with_cell, with_ended, IsSetBody}
-use Rattle.fr_frame.specs.Cells.{placed}
-use Rattle.fr_frame.specs.Heap.{held_by, IsItemOf}
+use Rattle.std.proofs.Common.{◌≡◌, ◌≢◌, ◌⊎◌, ℕ, suc, ◌+◌, ◌<◌, ◌≤◌, true, false, List, [], ◌∷◌, ◌++◌, append-nil, length, nat_eq, option_map, Option, Some, None, Result, Ok, Err, OnOk, OnErr, inl, inr, refl, sym, ◌∙◌, ap, subst, arith, Bool, if◌then◌else◌}
+use Rattle.fr_store.specs.Common.{AgreeBeside, AllMarkedAmong, AllServe, AllStayPut, AreLeftAll, AreLeftRightly, AreUnplaced, AtTop, Body, Cell, FrameOwner, Heap, Holds, HoldsAll, IfInUse, IsClosed, IsItemOf, IsLast, IsLeftBy, IsOpen, IsOpenAt, IsPlaced, IsSetBody, IsSome, IsSomeAnd, ItemsKind, KeepsChildren, Kid, Kids, Leads, MayHandOver, MayHave, Node, NodeId, Place, Plan, Plot, Reaches, Replaces, Room, SameMarks, Shows, Slot, Stands, StayPutAs, StayPutBut, Taker, Top, Tracker, Tree, Trees, Val, above_append, all_kept_but, and_item, and_item_cell, as_items, at, at_for_at, begun, begun_body, begun_plot, below_root, body_here, body_in, body_occurs, body_other, cell_at, cell_of, cells_in, cells_nth, change_at, child_owner, closed_uses, count_kids, counts_if, counts_other, counts_own, counts_same, cursor_in, given, gone, heap_of, held_by, holds_at, holds_put_nth, is_root, is_set, is_some, keeps_closed, kid_at, kid_here, kid_is, kid_nth, leads_reach, left_at, left_put_nth, left_value, marked, marked_body, may_have_at, may_have_put, node_along, number_in, open_reach, open_top, option_and_then, owner_along, owner_append, owner_below, place_then, placed, put_append, put_at, put_below, put_nth, put_nth_twice, same_front, same_last, same_or_other, slot_at, slot_other, slots_above, so_top, stands_change, stands_reach, stored_in, there, tokens_here, top_found, top_of, top_stands, tree_at, tree_change_at, tree_in_slots, tree_of, tree_of_at, tree_put_at, tree_then, unlinked, unlinked_child, up, up_append, used_mapped, uses, uses_among, uses_at, uses_in, uses_nth, uses_put_nth, value_of, whole_body, whole_plot, with_body, with_cell, with_child, with_ended, with_ended_item, with_slot, within_put, without}
 use Rattle.fr_frame.specs.Handing.{handed, unhanded, MayTake}
-use Rattle.fr_frame.specs.declared.places.Taker.{Taker}
 use Rattle.fr_store.specs.HereLaws.{value_closed}
-use Rattle.fr_store.specs.HoldLaws.{may_have_at}
-use Rattle.fr_store.specs.LeaveLaws.{cells_nth, may_have_put, unlinked_child, with_child, within_put}
-use Rattle.fr_store.specs.LeftLaws.{left_value}
-use Rattle.fr_store.specs.MoveLaws.{open_at_held, top_changed_held, top_node, top_room, top_so}
-use Rattle.fr_store.specs.Moves.{place_then, tree_then, IsLeftBy, MayHandOver}
-use Rattle.fr_store.specs.StandLaws.{all_kept_but}
-use Rattle.fr_store.specs.Staying.{StayPutAs}
-use Rattle.fr_store.specs.TopLaws.{loses_none, slot_here, unplaced_holds, unplaced_marked, unplaced_uses}
-use Rattle.fr_store.specs.WayLaws.{put_nth_twice}
-use Rattle.fr_store.specs.Ways.{put_below}
+use Rattle.fr_store.specs.MoveLaws.{open_at_from, top_changed, top_node, top_room, top_so}
+use Rattle.fr_store.specs.TopLaws.{asked_same, loses_none, slot_here, unplaced_holds, unplaced_marked, unplaced_uses}
 use Rattle.fr_store.proofs.SetKidLaws.{cells_item, cells_without, kids_and_item, kids_without, only_placed, others_unplaced, set_tracker, set_left, trees_item, trees_without, unplaced_item, unplaced_without}
 use Rattle.fr_store.proofs.StayLaws.{closed_below, stay_all, stay_at, stay_but, stay_shown}
 use Rattle.fr_store.proofs.StoreLaws.{Parent, all_stored, parent_of}
@@ -28,33 +15,21 @@ number_append [] i = refl
 number_append (j ∷ []) i = refl
 number_append (j ∷ m ∷ above) i = number_append (m ∷ above) i
 
-is_own : (m n : ℕ) → m ≡ n → counts_if (nat_eq n m) ≡ 1
-is_own m n e = ap (λ (x : ℕ). counts_if (nat_eq n x)) e ∙ counts_same n
-
 -- what stands in one slot is changed twice
-body_twice : (heap : Heap) (n : ℕ) (first then : Body → Body) (m : ℕ)
-    → with_body (with_body heap n first) n then m ≡ with_body heap n (λ body. then (first body)) m
-body_twice heap n first then m = go (same_or_other m n)
+body_twice : (heap : Heap) (n : ℕ) (first second : Body → Body) (m : ℕ)
+    → with_body (with_body heap n first) n second m ≡ with_body heap n (λ body. second (first body)) m
+body_twice heap n first second m =
+    ap (λ (x : Option Node). with_slot (with_body heap n first) n (option_map (λ (y : Node). record y { body = second y.body }) x)
+    m) (slot_here heap n (option_map (λ (x : Node). record x { body = first x.body }) (heap n)))
+    ∙ once (nat_eq m n) (heap n) (heap m)
   where
-    both : (found : Option Node) → heap n ≡ found → with_body (with_body heap n first) n then n ≡ with_body heap n (λ body. then (first body)) n
-    both (Some found) is =
-        body_here (with_body heap n first) n then (record found { body = first found.body }) (body_here heap n first found is)
-        ∙ sym (body_here heap n (λ body. then (first body)) found is)
-    both None is =
-        slot_here (with_body heap n first) n (option_map (λ (x : Node). record x { body = then x.body }) (with_body heap n first n))
-        ∙ ap (option_map (λ (x : Node). record x { body = then x.body }))
-        (slot_here heap n (option_map (λ (x : Node). record x { body = first x.body }) (heap n))
-        ∙ ap (option_map (λ (x : Node). record x { body = first x.body })) is)
-        ∙ sym (slot_here heap n (option_map (λ (x : Node). record x { body = then (first x.body) }) (heap n))
-        ∙ ap (option_map (λ (x : Node). record x { body = then (first x.body) })) is)
-
-    go : (m ≡ n) ⊎ (m ≢ n) → with_body (with_body heap n first) n then m ≡ with_body heap n (λ body. then (first body)) m
-    go (inl e) =
-        ap (with_body (with_body heap n first) n then) e ∙ both (heap n) refl
-        ∙ ap (with_body heap n (λ body. then (first body))) (sym e)
-    go (inr ne) =
-        body_other (with_body heap n first) n then m ne ∙ body_other heap n first m ne
-        ∙ sym (body_other heap n (λ body. then (first body)) m ne)
+    once : (b : Bool) (found other : Option Node) → (if b then option_map (λ (x : Node). record x { body = second x.body })
+        (option_map (λ (x : Node). record x { body = first x.body }) found)
+        else if b then option_map (λ (x : Node). record x { body = first x.body }) found else other) ≡ (if b then option_map
+        (λ (x : Node). record x { body = second (first x.body) }) found else other)
+    once true (Some x) other = refl
+    once true None other = refl
+    once false found other = refl
 
 -- The child of this number of a place is on top, in slot n, and the stack goes on without it.
 record Ending : Type 0 where
@@ -71,7 +46,7 @@ record Ending : Type 0 where
 
 module _ (e : Ending) where
   top : Top e.plan e.heap e.stack (e.above ++ e.i ∷ []) e.kid
-  top = top_of e.plan e.heap e.stack (e.above ++ e.i ∷ []) e.kid e.stands
+  top = top_of e.stands
 
   -- the place above
   found : Parent e.above e.i e.kid
@@ -121,13 +96,9 @@ module _ (e : Ending) where
 
   -- none is stored that wasn't, nor taken out of the store
   same_marks : (change : Body → Body) (m : ℕ) → marked (heap_then change) m ≡ marked e.heap m
-  same_marks change m = marked_body (with_slot e.heap e.n None) found.slot change m ∙ go (same_or_other m e.n)
-    where
-      go : (m ≡ e.n) ⊎ (m ≢ e.n) → marked (with_slot e.heap e.n None) m ≡ marked e.heap m
-      go (inl f) =
-          ap (marked (with_slot e.heap e.n None)) f ∙ ap stored_in (slot_here e.heap e.n None ∙ sym (ap (λ (x : Option Node). None) top_is))
-          ∙ sym (ap stored_in top_is) ∙ ap (marked e.heap) (sym f)
-      go (inr ne) = ap stored_in (slot_other e.heap e.n None m ne)
+  same_marks change m =
+      marked_body (with_slot e.heap e.n None) found.slot change m
+      ∙ asked_same stored_in e.heap e.n None (sym (ap stored_in top_is)) m
 
   -- Slots, where no child of the top is in one.
   module _ (shut : IsClosed (body_in top.plot)) where
@@ -143,16 +114,14 @@ module _ (e : Ending) where
 
     -- those that serve beside the top aren't that of the place above, nor is the top's
     beside_above : (m : ℕ) → 0 < uses_among found.kids m → m ≢ found.slot
-    beside_above m h f =
-        absurd (omega (arith, part m, is_own m found.slot f, uses_at e.above e.kid m, e.stands.once m))
+    beside_above m h f = absurd (omega (arith, part m, counts_own f, uses_at e.above e.kid m, e.stands.once m))
 
     apart : e.n ≢ found.slot
     apart = beside_above e.n (omega (arith, uses_nth e.i found.kids e.n, child_uses e.n, counts_same e.n))
 
     -- and those that serve beside it in the place above aren't the top's
     beside_top : (m : ℕ) → uses (kid_nth e.i found.kids) m < uses_among found.kids m → m ≢ e.n
-    beside_top m h f =
-        absurd (omega (arith, part m, child_uses m, is_own m e.n f, uses_at e.above e.kid m, e.stands.once m))
+    beside_top m h f = absurd (omega (arith, part m, child_uses m, counts_own f, uses_at e.above e.kid m, e.stands.once m))
 
 -- What becomes of the place above: it has these children, in the slots in which they were, and the top's serves no more.
 record Outcome (e : Ending) (new : Kids) (change : Body → Body) : Type 0 where
@@ -168,7 +137,7 @@ record Outcome (e : Ending) (new : Kids) (change : Body → Body) : Type 0 where
 abbrev kid_then : Ending → Kids → Kid
 kid_then e new = put_at e.above (at (found e).slot false (begun_plot (found e).tracker new)) e.kid
 
-module _ (e : Ending) (new : Kids) (change : Body → Body) (out : Outcome e new change) (shut : IsClosed (body_in (top e).plot))
+module _ {e : Ending} {new : Kids} {change : Body → Body} (out : Outcome e new change) (shut : IsClosed (body_in (top e).plot))
     (other : Heap) (shows : (m : ℕ) → other m ≡ heap_then e change m) where
   abbrev new_kid : Kid
   new_kid = at (found e).slot false (begun_plot (found e).tracker new)
@@ -178,16 +147,14 @@ module _ (e : Ending) (new : Kids) (change : Body → Body) (out : Outcome e new
       shows m ∙ body_other (with_slot e.heap e.n None) (found e).slot change m a ∙ slot_other e.heap e.n None m b
 
   agree : AgreeBeside e.heap other e.kid (kid_at e.above e.kid)
-  agree m h =
-      elsewhere m (λ f. absurd (omega (arith, part e shut m, is_own m (found e).slot f, e.stands.once m)))
-      (λ f. absurd (omega (
-        arith,
-        part e shut m,
-        uses_nth e.i (found e).kids m,
-        child_uses e shut m,
-        is_own m e.n f,
-        e.stands.once m,
-      )))
+  agree m h = elsewhere m (λ f. absurd (omega (arith, part e shut m, counts_own f, e.stands.once m))) (λ f. absurd (omega (
+    arith,
+    part e shut m,
+    uses_nth e.i (found e).kids m,
+    child_uses e shut m,
+    counts_own f,
+    e.stands.once m,
+  )))
 
   replaces : Replaces e.plan e.heap other (kid_at e.above e.kid) new_kid
   replaces node by depth holds =
@@ -199,10 +166,8 @@ module _ (e : Ending) (new : Kids) (change : Body → Body) (out : Outcome e new
         depth = depth;
         body = begun_body (found e).tracker (cells_in (found e).kids);
       } in (
-        shows (found e).slot
-            ∙ body_here (with_slot e.heap e.n None) (found e).slot change old
-            (slot_other e.heap e.n None (found e).slot (λ f. apart e shut (sym f)) ∙ was.0)
-            ∙ ap (λ (b : Body). Some (record old { body = b })) out.cells,
+        shows (found e).slot ∙ body_here (with_slot e.heap e.n None) (found e).slot change (slot_other e.heap e.n None
+            (found e).slot (λ f. apart e shut (sym f)) ∙ was.0) ∙ ap (λ (b : Body). Some (record old { body = b })) out.cells,
         was.1,
         out.holds other elsewhere node (suc depth) was.2,
       )
@@ -212,15 +177,11 @@ module _ (e : Ending) (new : Kids) (change : Body → Body) (out : Outcome e new
 
   stands_then : Stands e.plan other e.next e.above (kid_then e new)
   stands_then =
-      subst (λ (p : Place). Stands e.plan other e.next p (kid_then e new)) (append-nil e.above)
-      (stands_change e.plan e.heap other e.stack e.next e.above (e.i ∷ []) [] new_kid e.kid e.stands
-      (ap cell_of (sym (found e).is)) agree replaces once (refl, out.marks)
-      (at_for_at (kid_at e.above e.kid) (found e).slot (found e).slot false (begun_plot (found e).tracker (found e).kids)
-      (begun_plot (found e).tracker new) (found e).is)
-      (λ all. out.left (subst (λ (x : Kid). AreLeftRightly x) (found e).is all))
+      subst (λ (p : Place). Stands e.plan other e.next p (kid_then e new)) (append-nil e.above) (stands_change other e.above
+      (e.i ∷ []) [] e.stands (ap cell_of (sym (found e).is)) agree replaces once (refl, out.marks) (at_for_at (found e).slot
+      (begun_plot (found e).tracker new) (found e).is) (λ all. out.left (subst (λ (x : Kid). AreLeftRightly x) (found e).is all))
       (sym (same_front (slots_above (e.above ++ e.i ∷ []) e.kid) e.next (top e).slot e.n (sym (top e).last ∙ e.last))
-      ∙ above_append e.above e.i e.kid e.stands.leads (found e).slot false (begun_plot (found e).tracker (found e).kids)
-      (found e).is))
+      ∙ above_append e.above e.i e.kid e.stands.leads (found e).is))
 
   -- each slot in use is that of a place
   all_then : AllServe e.heap e.kid → AllServe other (kid_then e new)
@@ -244,9 +205,9 @@ module _ (e : Ending) (new : Kids) (change : Body → Body) (out : Outcome e new
       )
 
 -- Its value goes up.
-module _ (e : Ending) (v : Val) (valued : value_of (body_in (top e).plot) ≡ Some v) where
+module _ (e : Ending) {v : Val} (valued : value_of (body_in (top e).plot) ≡ Some v) where
   shut_now : IsClosed (body_in (top e).plot)
-  shut_now = value_closed (body_in (top e).plot) v valued
+  shut_now = value_closed (body_in (top e).plot) valued
 
   may_have_now : MayHave (found e).tracker (count_kids (found e).kids)
   may_have_now =
@@ -282,9 +243,7 @@ module _ (e : Ending) (v : Val) (valued : value_of (body_in (top e).plot) ≡ So
   -- no place but the top leaves its slot
   stays_above : StayPutBut (e.above ++ e.i ∷ []) e.kid (put_at (e.above ++ e.i ∷ []) (there v) e.kid)
   stays_above =
-      stay_but (e.above ++ e.i ∷ []) (there v) e.kid (top e).slot false (top e).plot
-      (leads_reach (e.above ++ e.i ∷ []) [] e.kid
-      (subst (λ (p : Place). Leads p e.kid) (sym (append-nil (e.above ++ e.i ∷ []))) e.stands.leads)) (top e).is shut_now
+      stay_but (e.above ++ e.i ∷ []) (there v) e.kid (stands_reach e.stands) (top e).is shut_now
 
   -- to a set, behind the items that it has
   module _ (of_set : is_set (tree_at e.above (tree_of e.kid)) ≡ true) where
@@ -332,7 +291,7 @@ module _ (e : Ending) (v : Val) (valued : value_of (body_in (top e).plot) ≡ So
           );
       holds =
           λ other elsewhere node depth was. unplaced_holds e.plan other node (found e).slot (found e).tracker 0 depth items
-          (count_kids items) (omega arith) (subst (λ (f : Tracker). MayHave f (count_kids items)) (sym of_tracker) tt)
+          {count = count_kids items} (omega arith) (subst (λ (f : Tracker). MayHave f (count_kids items)) (sym of_tracker) tt)
           items_unplaced;
       left = λ all. subst (λ (f : Tracker). AreLeftAll f 0 items) (sym of_tracker) (set_left 0 items items_unplaced);
       marks = unplaced_marked true items items_unplaced;
@@ -368,7 +327,7 @@ IsHanded plan slots after stack next taker v place =
     × StayPutAs taker place (kid_here slots stack) (kid_here after next) × SameMarks slots after
 
 -- An open builder's top, that isn't the root.
-module _ (plan : Plan) (slots : List Slot) (stack : List ℕ) (open_now : IsOpen plan slots stack)
+module _ {plan : Plan} {slots : List Slot} {stack : List ℕ} (open_now : IsOpen plan slots stack)
     (below : is_root (cursor_in slots stack) ≡ false) (next : List ℕ) (n : ℕ) (last : stack ≡ next ++ n ∷ []) where
   abbrev ending : Ending
   ending = record {
@@ -392,8 +351,8 @@ module _ (plan : Plan) (slots : List Slot) (stack : List ℕ) (open_now : IsOpen
   way : cursor_in slots stack ≡ place
   way = (below_root (cursor_in slots stack) below).2
 
-  node_is : (x : Node) → heap_of slots n ≡ Some x → node_now ending ≡ x
-  node_is x is = let both : Some (node_now ending) ≡ Some x = sym (top_is ending) ∙ is in cc
+  node_is : {x : Node} → heap_of slots n ≡ Some x → node_now ending ≡ x
+  node_is {x} is = let both : Some (node_now ending) ≡ Some x = sym (top_is ending) ∙ is in cc
 
   so_now : (So : Node → Type 0) → So (node_now ending) → IfInUse slots n So
   so_now So so = subst (λ (o : Option Node). IsSomeAnd o So) (sym (top_is ending)) so
@@ -415,33 +374,27 @@ module _ (plan : Plan) (slots : List Slot) (stack : List ℕ) (open_now : IsOpen
       (set_tracker (found ending).tracker
       (ap is_set (sym (ap tree_of (found ending).is) ∙ tree_of_at ending.above (kid_here slots stack)) ∙ set_above of_set))
 
-  goes_up : (new : Kids) (change : Body → Body) → Outcome ending new change → IsClosed (body_in (top ending).plot)
-      → (after : List Slot) (tree : Tree) → Shows after (heap_then ending change) → tree_of (kid_then ending new) ≡ tree
+  goes_up : {new : Kids} {change : Body → Body} → Outcome ending new change → IsClosed (body_in (top ending).plot)
+      → (after : List Slot) {tree : Tree} → Shows after (heap_then ending change) → tree_of (kid_then ending new) ≡ tree
       → StayPutBut place (kid_here slots stack) (kid_then ending new) → IsOpenAt plan after next (up place) tree
       × StayPutBut place (kid_here slots stack) (kid_here after next) × SameMarks slots after
-  goes_up new change out shut after tree shows is stays =
-      let stands = stands_then ending new change out shut (heap_of after) shows in (
+  goes_up {new} {change} out shut after {tree} shows is stays =
+      let stands = stands_then out shut (heap_of after) shows in (
         subst (λ (p : Place). IsOpenAt plan after next p tree) (sym (up_append ending.above ending.i))
-            (open_at_held plan after next ending.above (kid_then ending new) tree stands
-            (all_then ending new change out shut (heap_of after) shows open_now.all) is),
-        subst (λ (x : Kid). StayPutBut place (kid_here slots stack) x)
-            (sym (kid_is plan (heap_of after) next ending.above (kid_then ending new) stands)) stays,
+            (open_at_from after stands (all_then out shut (heap_of after) shows open_now.all) is),
+        subst (λ (x : Kid). StayPutBut place (kid_here slots stack) x) (sym (kid_is stands)) stays,
         λ m. ap stored_in (shows m) ∙ same_marks ending change m,
       )
 
-  module _ (after : List Slot) (v : Val) (valued : value_of (node_now ending).body ≡ Some v) where
+  module _ (after : List Slot) {v : Val} (valued : value_of (node_now ending).body ≡ Some v) where
     to_above : Shows after (handed Taker.Above n (node_now ending).owner v (heap_of slots))
         → IsHanded plan slots after stack next Taker.Above v (cursor_in slots stack)
     to_above shows =
-        subst (λ (p : Place). IsHanded plan slots after stack next Taker.Above v p) (sym way)
-        (goes_up (put_nth ending.i (there v) (found ending).kids)
-        (λ old. with_cell (unlinked n ending.i old) ending.i (given v)) (goes_above ending v valued) (shut_now ending v valued) after
-        (tree_then Taker.Above place v (tree_in_slots slots stack))
-        (λ m. shows m ∙ body_twice (with_slot (heap_of slots) n None) (found ending).slot (unlinked n ending.i)
-        (λ old. with_cell old ending.i (given v)) m)
-        (ap tree_of (sym (stands_there ending v valued)) ∙ tree_put_at place (there v) (kid_here slots stack))
-        (subst (λ (x : Kid). StayPutBut place (kid_here slots stack) x) (stands_there ending v valued)
-        (stays_above ending v valued)))
+        subst (λ (p : Place). IsHanded plan slots after stack next Taker.Above v p)
+        (sym way) (goes_up (goes_above ending valued) (shut_now ending valued) after (λ m. shows m ∙ body_twice
+        (with_slot (heap_of slots) n None) (found ending).slot (unlinked n ending.i) (λ old. with_cell old ending.i (given v)) m)
+        (ap tree_of (sym (stands_there ending valued)) ∙ tree_put_at place (there v) (kid_here slots stack))
+        (subst (λ (x : Kid). StayPutBut place (kid_here slots stack) x) (stands_there ending valued) (stays_above ending valued)))
 
     to_set : is_set (tree_at (up (cursor_in slots stack)) (tree_in_slots slots stack)) ≡ true
         → Shows after (handed Taker.Set n (node_now ending).owner v (heap_of slots))
@@ -449,42 +402,38 @@ module _ (plan : Plan) (slots : List Slot) (stack : List ℕ) (open_now : IsOpen
     to_set of_set shows =
         let of : is_set (tree_at ending.above (tree_in_slots slots stack)) ≡ true = set_above of_set in
         subst (λ (p : Place). IsHanded plan slots after stack next Taker.Set v p) (sym way)
-        (goes_up (items ending v valued of) (with_ended ending.i v) (goes_to_set ending v valued of) (shut_now ending v valued) after
-        (tree_then Taker.Set place v (tree_in_slots slots stack)) shows (tree_with_item ending v valued of
+        (goes_up (goes_to_set ending valued of) (shut_now ending valued) after shows (tree_with_item ending valued of
         ∙ ap (λ (p : Place). change_at p (with_ended_item ending.i v) (tree_in_slots slots stack))
-        (sym (up_append ending.above ending.i))
-        ∙ ap (λ (m : ℕ). change_at (up place) (with_ended_item m v) (tree_in_slots slots stack))
-        (sym (number_append ending.above ending.i))) (stays_in_set ending v valued of))
+        (sym (up_append ending.above ending.i)) ∙ ap (λ (m : ℕ). change_at (up place) (with_ended_item m v)
+        (tree_in_slots slots stack)) (sym (number_append ending.above ending.i))) (stays_in_set ending valued of))
 
 -- It stays where it is, and becomes whole.
-module _ (plan : Plan) (slots : List Slot) (stack : List ℕ) (open_now : IsOpen plan slots stack) (n : ℕ) (last : IsLast stack n)
-    (after : List Slot) (v : Val) (valued : value_of (top_node plan slots stack open_now n last).body ≡ Some v)
+module _ {plan : Plan} {slots : List Slot} {stack : List ℕ} (open_now : IsOpen plan slots stack)
+    {n : ℕ} (last : IsLast stack n) (after : List Slot) {v : Val} (valued : value_of (top_node open_now last).body ≡ Some v)
     (shows : Shows after (with_body (heap_of slots) n (λ old. whole_body v))) where
-  shut_here : IsClosed (body_in (open_top plan slots stack open_now).plot)
+  shut_here : IsClosed (body_in (open_top open_now).plot)
   unfolding top_node
-  shut_here = value_closed (body_in (open_top plan slots stack open_now).plot) v valued
+  shut_here = value_closed (body_in (open_top open_now).plot) valued
 
-  keeps : KeepsChildren (open_top plan slots stack open_now).plot (whole_plot v)
-  keeps = keeps_closed (open_top plan slots stack open_now).plot (whole_plot v) tt tt (λ h. tt)
+  keeps : KeepsChildren (open_top open_now).plot (whole_plot v)
+  keeps = keeps_closed (open_top open_now).plot (whole_plot v) tt tt (λ h. tt)
 
   stays_here : AllStayPut (kid_here slots stack) (kid_here after stack)
   stays_here =
-      let top = open_top plan slots stack open_now in
+      let top = open_top open_now in
       let new : Kid = at top.slot false (whole_plot v) in
-      stay_shown plan after stack (cursor_in slots stack) (put_at (cursor_in slots stack) new (kid_here slots stack))
-      (kid_here slots stack)
-      (top_stands plan slots after stack open_now n last (λ old. whole_body v) (whole_plot v) refl keeps shows)
-      (stay_all (cursor_in slots stack) new (kid_here slots stack) (open_reach plan slots stack open_now)
+      stay_shown after (kid_here slots stack) (top_stands after open_now last (λ old. whole_body v) refl keeps shows)
+      (stay_all (cursor_in slots stack) new (kid_here slots stack) (open_reach open_now)
       (subst (λ (x : Kid). AllStayPut x new) (sym top.is) (here top.slot top.plot shut_here)))
     where
       here : (slot : ℕ) (plot : Plot) → IsClosed (body_in plot) → AllStayPut (at slot false plot) (at slot false (whole_plot v))
       here slot plot shut [] lies = (record { reaches = tt; here = tt }, refl)
-      here slot plot shut (i ∷ way) lies = absurd (closed_below (at slot false plot) slot false plot refl shut i way lies)
+      here slot plot shut (i ∷ way) lies = absurd (closed_below {slot = slot} {stored = false} {plot = plot} refl shut i way lies)
 
   to_itself : IsHanded plan slots after stack stack Taker.Itself v (cursor_in slots stack)
   to_itself = (
-    top_changed_held plan slots after stack open_now n last (λ old. whole_body v) (whole_plot v) refl keeps
-        (loses_none (open_top plan slots stack open_now).plot (whole_plot v) shut_here) shows,
+    top_changed after open_now last (λ old. whole_body v) refl keeps
+        (loses_none (open_top open_now).plot (whole_plot v) shut_here) shows,
     stays_here,
     λ m. ap stored_in (shows m) ∙ marked_body (heap_of slots) n (λ old. whole_body v) m,
   )
@@ -499,49 +448,47 @@ some_value : (value : Option Val) → IsSome value → (v : Val) × (value ≡ S
 some_value (Some v) some = (v, refl)
 some_value None some = absurd (cc)
 
-module _ (plan : Plan) (slots : List Slot) (stack : List ℕ) (open_now : IsOpen plan slots stack) where
+module _ {plan : Plan} {slots : List Slot} {stack : List ℕ} (open_now : IsOpen plan slots stack) where
   pub may_take : (taker : Taker) (next : List ℕ) (n : ℕ) → IsLeftBy taker stack n next → MayHandOver taker slots stack
       → IfInUse slots n (λ (x : Node). MayTake taker n x.owner (heap_of slots))
   may_take Taker.Above next n left may =
-      so_now plan slots stack open_now may next n left (λ (x : Node). MayTake Taker.Above n x.owner (heap_of slots))
-      (owned (ending plan slots stack open_now may next n left))
+      so_now open_now may next n left (λ (x : Node). MayTake Taker.Above n x.owner (heap_of slots))
+      (owned (ending open_now may next n left))
   may_take Taker.Set next n left may =
-      so_now plan slots stack open_now may.0 next n left (λ (x : Node). MayTake Taker.Set n x.owner (heap_of slots))
-      (owned (ending plan slots stack open_now may.0 next n left), item_of_set plan slots stack open_now may.0 next n left may.1)
-  may_take Taker.Itself next n left may = so_top plan slots stack open_now n left.0 (λ (x : Node). Unit {0}) tt
+      so_now open_now may.0 next n left (λ (x : Node). MayTake Taker.Set n x.owner (heap_of slots))
+      (owned (ending open_now may.0 next n left), item_of_set open_now may.0 next n left may.1)
+  may_take Taker.Itself next n left may = so_top open_now left.0 (λ (x : Node). Unit {0}) tt
 
   is_handed : (taker : Taker) (next : List ℕ) (n : ℕ) → IsLeftBy taker stack n next → MayHandOver taker slots stack
-      → (after : List Slot) (x : Node) → heap_of slots n ≡ Some x → (v : Val) → value_of x.body ≡ Some v
-      → Shows after (handed taker n x.owner v (heap_of slots)) → IsHanded plan slots after stack next taker v (cursor_in slots stack)
-  is_handed Taker.Above next n left may after x is v valued shows =
-      let same = sym (node_is plan slots stack open_now may next n left x is) in
-      to_above plan slots stack open_now may next n left after v (subst (λ (y : Node). value_of y.body ≡ Some v) same valued)
+      → (after : List Slot) {x : Node} → heap_of slots n ≡ Some x → {v : Val} → value_of x.body ≡ Some v → Shows after
+      (handed taker n x.owner v (heap_of slots)) → IsHanded plan slots after stack next taker v (cursor_in slots stack)
+  is_handed Taker.Above next n left may after {x} is {v} valued shows =
+      let same = sym (node_is open_now may next n left is) in
+      to_above open_now may next n left after (subst (λ (y : Node). value_of y.body ≡ Some v) same valued)
       (subst (λ (y : Node). Shows after (handed Taker.Above n y.owner v (heap_of slots))) same shows)
-  is_handed Taker.Set next n left may after x is v valued shows =
-      let same = sym (node_is plan slots stack open_now may.0 next n left x is) in
-      to_set plan slots stack open_now may.0 next n left after v (subst (λ (y : Node). value_of y.body ≡ Some v) same valued) may.1
+  is_handed Taker.Set next n left may after {x} is {v} valued shows =
+      let same = sym (node_is open_now may.0 next n left is) in
+      to_set open_now may.0 next n left after (subst (λ (y : Node). value_of y.body ≡ Some v) same valued) may.1
       (subst (λ (y : Node). Shows after (handed Taker.Set n y.owner v (heap_of slots))) same shows)
-  is_handed Taker.Itself next n left may after x is v valued shows =
-      let both : Some x ≡ Some (top_node plan slots stack open_now n left.0)
-      = sym is ∙ top_found plan slots stack open_now n left.0 in
-      let same : x ≡ top_node plan slots stack open_now n left.0 = cc in
+  is_handed Taker.Itself next n left may after {x} is {v} valued shows =
+      let both : Some x ≡ Some (top_node open_now left.0) = sym is ∙ top_found open_now left.0 in
+      let same : x ≡ top_node open_now left.0 = cc in
       subst (λ (l : List ℕ). IsHanded plan slots after stack l Taker.Itself v (cursor_in slots stack)) (sym left.1)
-      (to_itself plan slots stack open_now n left.0 after v (subst (λ (y : Node). value_of y.body ≡ Some v) same valued) shows)
+      (to_itself open_now left.0 after (subst (λ (y : Node). value_of y.body ≡ Some v) same valued) shows)
 
   same_marks_left : (next : List ℕ) (n : ℕ) → stack ≡ next ++ n ∷ [] → is_root (cursor_in slots stack) ≡ false → (after : List Slot)
       → IfInUse slots n (λ (x : Node). Shows after (without (heap_of slots) n x.owner)) → SameMarks slots after
   same_marks_left next n last below after shown m =
-      let e : Ending = ending plan slots stack open_now below next n last in
-      ap stored_in (now_so plan slots stack open_now below next n last
-      (λ (x : Node). Shows after (without (heap_of slots) n x.owner)) shown m) ∙ same_marks e (unlinked n e.i) m
+      let e : Ending = ending open_now below next n last in
+      ap stored_in (now_so open_now below next n last (λ (x : Node). Shows after (without (heap_of slots) n x.owner)) shown m)
+      ∙ same_marks e (unlinked n e.i) m
 
   -- where there was no memory for it, no mark changed, and what was to stay did
   lost : (taker : Taker) (next : List ℕ) (n : ℕ) → IsLeftBy taker stack n next → MayHandOver taker slots stack
       → (after : List Slot) → IfInUse slots n (λ (x : Node). Shows after (unhanded taker n x.owner (heap_of slots)))
       → SameMarks slots after × (taker ≡ Taker.Itself → Shows after (heap_of slots))
   lost Taker.Itself next n left may after shown =
-      let shows : Shows after (heap_of slots)
-      = top_so plan slots stack open_now n left.0 (λ (x : Node). Shows after (heap_of slots)) shown in
+      let shows : Shows after (heap_of slots) = top_so open_now left.0 (λ (x : Node). Shows after (heap_of slots)) shown in
       (λ m. ap stored_in (shows m), λ is. shows)
   lost Taker.Above next n left may after shown = (same_marks_left next n left may after shown, λ is. absurd (cc))
   lost Taker.Set next n left may after shown = (same_marks_left next n left may.0 after shown, λ is. absurd (cc))
@@ -557,10 +504,9 @@ module _ (plan : Plan) (slots : List Slot) (stack : List ℕ) (open_now : IsOpen
     unfolding top_node
     room_on_top ledger room =
         let last : IsLast stack n = last_of taker stack n next left in
-        let value = some_value (value_of (body_in (open_top plan slots stack open_now).plot))
-        (top_so plan slots stack open_now n last (λ (x : Node). IsSome (value_of x.body)) valued) in
-        top_room plan slots stack open_now n last
-        (value_closed (body_in (open_top plan slots stack open_now).plot) value.0 value.1) ledger room
+        let value = some_value (value_of (body_in (open_top open_now).plot))
+        (top_so open_now last (λ (x : Node). IsSome (value_of x.body)) valued) in
+        top_room open_now last (value_closed (body_in (open_top open_now).plot) value.1) ledger room
 
     -- what is said of the place in this slot is said of the top
     pub at_top : (So : Node → Type 0) → IfInUse slots n So → AtTop slots stack So
@@ -590,9 +536,9 @@ module _ (plan : Plan) (slots : List Slot) (stack : List ℕ) (open_now : IsOpen
           go None is shown some = absurd some
           go (Some x) is shown some =
               let value = some_value (value_of x.body) some in
-              let one = is_handed taker next n left may after x is value.0 value.1 (shown value.0 value.1) in (
+              let one = is_handed taker next n left may after is value.1 (shown value.0 value.1) in (
                 at_top Opens (subst (λ (o : Option Node). IsSomeAnd o Opens) (sym is)
-                    (λ v valued. (is_handed taker next n left may after x is v valued (shown v valued)).0)),
+                    (λ v valued. (is_handed taker next n left may after is valued (shown v valued)).0)),
                 one.1,
                 one.2,
               )

@@ -2,7 +2,7 @@
 use Rattle.std.proofs.Common.{◌≡◌, ◌≢◌, ◌⊎◌, ℕ, zero, suc, ◌+◌, ◌<◌, ◌≤◌, Bool, true, List, [], ◌∷◌, ◌++◌, length, length-append, get_or, inl, inr, refl, sym, ◌∙◌, ap, subst, arith}
 use Rattle.std.proofs.lemmas.Grind.{common_steps}
 use Rattle.std.proofs.lemmas.List.Elements.{All-contains, All-head, All-tail, Contains-get_or}
-use Rattle.fr_store.specs.Common.{All, AllMarked, AllMarkedAmong, AllMarkedIn, AreInWalkOrder, AreStoredAt, AreUnplaced, ComesBefore, Contains, HasPlace, IsClosed, IsStoredAt, IsWalk, Kid, Kids, Leads, Ordering, PathStep, Place, Plot, Reaches, Tracker, Tree, Val, at, begun_plot, body_in, cells_in, child_tree, count_kids, gone, kid, kid_at, kid_at_append, kid_nth, no_kids, off_stored, ordering_then, put_at, reach_place, steps_in, there, tree_of, tree_put_at, uses, uses_among, uses_nth, walk_order}
+use Rattle.fr_store.specs.Common.{All, AllMarked, AllMarkedAmong, AllMarkedIn, AreInWalkOrder, AreStoredAt, AreUnplaced, ComesBefore, Contains, HasPlace, IsClosed, IsStoredAt, IsWalk, Kid, Kids, Leads, Ordering, PathStep, Place, Plot, Reaches, Tracker, Tree, Val, at, begun_plot, body_in, cells_in, child_tree, count_kids, kid, kid_at, kid_at_append, kid_nth, no_kids, off_stored, ordering_then, put_at, reach_place, steps_in, there, tree_of, tree_put_at, uses, uses_among, uses_nth, walk_order}
 use Rattle.std.specs.Ordering.{nat_cmp}
 use Rattle.fr_path.specs.OrderLaws.{walk_itself}
 use Rattle.fr_store.specs.ClosingLaws.{stays}
@@ -14,12 +14,8 @@ use Rattle.fr_store.specs.OffLaws.{marked_off, stored_before, stored_beside, sto
 not_less : (first second : ℕ) (rest : Ordering) → first < second → ordering_then (nat_cmp second first) rest ≡ Ordering.Less → ⊥
 not_less first second rest h e =
     let more : nat_cmp second first ≡ Ordering.Greater = grind (arith, common_steps) in
-    go (nat_cmp second first) more e
-  where
-    go : (x : Ordering) → x ≡ Ordering.Greater → ordering_then x rest ≡ Ordering.Less → ⊥
-    go Ordering.Less is e = cc
-    go Ordering.Equal is e = cc
-    go Ordering.Greater is e = cc
+    let wrong : Ordering.Greater ≡ Ordering.Less = sym (ap (λ (x : Ordering). ordering_then x rest) more) ∙ e in
+    cc
 
 pub steps_count : (place : Place) (t : Tree) → length (steps_in place t) ≡ length place
 steps_count [] t = refl
@@ -50,8 +46,6 @@ two_nth (suc i) (suc j) (kid k ks) n ne =
 pub stored_among : (k : Kid) (slots : List ℕ) (places : List Place) (place : Place) → AreStoredAt k slots places
     → Contains places place → (slot : ℕ) × IsStoredAt k slot place
 stored_among k [] [] place stored found = absurd (omega (arith, found.1))
-stored_among k [] (first ∷ places) place stored found = absurd stored
-stored_among k (slot ∷ slots) [] place stored found = absurd stored
 stored_among k (slot ∷ slots) (first ∷ places) place stored found =
     go (in_cases first place places found) (λ later. stored_among k slots places place stored.1 later)
   where
@@ -59,6 +53,7 @@ stored_among k (slot ∷ slots) (first ∷ places) place stored found =
         → (slot : ℕ) × IsStoredAt k slot place
     go (inl e) rest = (slot, subst (IsStoredAt k slot) e stored.0)
     go (inr later) rest = rest later
+stored_among k _ _ place stored found = absurd stored
 
 -- The first place.
 
@@ -90,12 +85,10 @@ head_of k n rest walk = go walk.places refl walk.stored walk.order
 closed_children : (ks : Kids) → AllMarkedAmong true ks
     → ((j : ℕ) (m : ℕ) (plot : Plot) → j < count_kids ks → kid_nth j ks ≡ at m true plot → ⊥) → AreUnplaced (cells_in ks)
 closed_children no_kids marked none = tt
-closed_children (kid gone ks) marked none =
-    (tt, closed_children ks marked.1 (λ j m plot h e. none (suc j) m plot (omega arith) e))
-closed_children (kid (there v) ks) marked none =
-    (tt, closed_children ks marked.1 (λ j m plot h e. none (suc j) m plot (omega arith) e))
 closed_children (kid (at slot mark plot) ks) marked none =
     absurd (none 0 slot plot (omega arith) (ap (λ (b : Bool). at slot b plot) marked.0.0))
+closed_children (kid _ ks) marked none =
+    (tt, closed_children ks marked.1 (λ j m plot h e. none (suc j) m plot (omega arith) e))
 
 pub reaches_child : (place : Place) (k : Kid) (n : ℕ) (mark : Bool) (tracker : Tracker) (kids : Kids) (j : ℕ) → Reaches place k
     → kid_at place k ≡ at n mark (begun_plot tracker kids) → j < count_kids kids → Reaches (place ++ j ∷ []) k
@@ -114,8 +107,7 @@ module _ (k : Kid) (n : ℕ) (rest : List ℕ) (walk : IsWalk k (n ∷ rest)) (h
   pub head_closed : (cursor : Place) → Leads cursor k → IsClosed (body_in head.stored.plot)
   head_closed cursor leads =
       let marked : AllMarked true (at n true head.stored.plot) = subst (AllMarked true) head.stored.is
-      (marked_off cursor head.place k leads (off_stored cursor head.place k n head.stored.plot leads head.stored.is)
-      head.stored.reaches) in
+      (marked_off cursor head.place k leads (off_stored cursor head.place k leads head.stored.is) head.stored.reaches) in
       go head.stored.plot refl marked.1
     where
       below : (tracker : Tracker) (kids : Kids) → head.stored.plot ≡ begun_plot tracker kids → (j m : ℕ) (plot : Plot)
@@ -157,19 +149,17 @@ module _ (k : Kid) (n : ℕ) (rest : List ℕ) (walk : IsWalk k (n ∷ rest)) (h
       still : (m : ℕ) (place : Place) → ComesBefore (tree_of k) head.place place → IsStoredAt k m place
           → IsStoredAt (put_at head.place (there v) k) m place
       still m place before stored =
-          stored_still head.place place k v m head.stored.reaches
-          (stored_beside head.place place k n m head.stored.plot head.stored.is (head_closed cursor leads) stored
-          (not_itself place before)) stored
+          stored_still head.place v head.stored.reaches
+          (stored_beside head.place head.stored.is (head_closed cursor leads) stored (not_itself place before)) stored
 
       each : (slots : List ℕ) (places : List Place) → All (λ (other : Place). ComesBefore (tree_of k) head.place other) places
           → AreStoredAt k slots places → AreStoredAt (put_at head.place (there v) k) slots places
       each [] [] before stored = tt
-      each [] (place ∷ places) before stored = absurd stored
-      each (slot ∷ slots) [] before stored = absurd stored
       each (slot ∷ slots) (place ∷ places) before stored = (
         still slot place (All-head (λ (other : Place). ComesBefore (tree_of k) head.place other) place places before) stored.0,
         each slots places (All-tail (λ (other : Place). ComesBefore (tree_of k) head.place other) place places before) stored.1,
       )
+      each _ _ before stored = absurd stored
 
       stored_on : AreStoredAt (put_at head.place (there v) k) rest head.places
       stored_on = each rest head.places head.before head.others
@@ -192,10 +182,10 @@ module _ (k : Kid) (n : ℕ) (rest : List ℕ) (walk : IsWalk k (n ∷ rest)) (h
           ∙ ap (walk_order (steps_in p (tree_of k))) other ∙ before) head.places steps_on head.order
 
       all_on : (slot : ℕ) (place : Place) → IsStoredAt (put_at head.place (there v) k) slot place → Contains head.places place
-      all_on slot place stored = go (later slot place (stored_before head.place place k v slot head.stored.reaches stored))
+      all_on slot place stored = go (later slot place (stored_before head.place k v head.stored.reaches stored))
         where
           go : (head.place ≡ place) ⊎ Contains head.places place → Contains head.places place
           go (inl e) =
-              absurd (stored_no_more head.place k v slot head.stored.reaches
+              absurd (stored_no_more k v head.stored.reaches
               (subst (λ (p : Place). IsStoredAt (put_at head.place (there v) k) slot p) (sym e) stored))
           go (inr found) = found

@@ -1,7 +1,7 @@
 -- Laws of a walk that is refused, for proofs: the first place of it that makes no value is the first place that fails.
-use Rattle.std.proofs.Common.{◌≡◌, ◌⊎◌, ℕ, zero, suc, ◌<◌, Bool, true, false, List, [], ◌∷◌, ◌++◌, Option, Some, None, inl, inr, refl, sym, ◌∙◌, ap, subst, arith}
+use Rattle.std.proofs.Common.{◌≡◌, ◌⊎◌, ℕ, zero, suc, Bool, true, false, List, [], ◌∷◌, ◌++◌, Option, Some, None, inl, inr, refl, sym, ◌∙◌, ap, ap₂, subst, arith}
 use Rattle.std.proofs.lemmas.List.Elements.{All-contains}
-use Rattle.fr_store.specs.Common.{AllMarked, AllMarkedAmong, AllMarkedIn, AreUnplaced, AtCursor, ComesBefore, Contains, EachFailureHasItsPlace, Failure, FinishesOrRefuses, FirstByWalkIs, HasPlace, IsClosed, IsStoredAt, IsWalk, Kid, Kids, LackingFails, Leads, Meanings, NoneStored, PathStep, Place, Plot, Reaches, ReflectErrorKind, StoredBut, Table, Tree, Trees, at, begun_plot, body_in, branch, cells_in, count_in, count_kids, entered_plot, failures_off, finished, first_by_walk, gone, is_some, kid, kid_at, kid_nth, kind_of, no_kids, no_trees, off_stored, own_lack, reach_place, shape_in, steps_in, strict, there, tree_at, tree_in, tree_of, tree_of_at, tree_of_nth, trees_in, walk_order, whole_plot}
+use Rattle.fr_store.specs.Common.{AllMarked, AllMarkedAmong, AreStoredAt, AreUnplaced, AtCursor, ComesBefore, Contains, EachFailureHasItsPlace, Failure, FinishesOrRefuses, FirstByWalkIs, HasPlace, IsClosed, IsStoredAt, IsWalk, Kid, Kids, LackingFails, Leads, Meanings, NoneStored, PathStep, Place, Plot, Reaches, ReflectErrorKind, StoredBut, Table, Tree, Trees, at, begun_plot, body_in, branch, cells_in, count_in, failures_off, finished, first_by_walk, is_some, kid, kid_at, kid_nth, kind_of, no_kids, no_trees, off_stored, own_lack, reach_place, shape_in, steps_in, strict, tree_at, tree_in, tree_of, tree_of_at, tree_of_nth, trees_in, walk_order, whole_plot}
 use Rattle.std.specs.Option.{option_or}
 use Rattle.std.specs.Prelude.{is_none}
 use Rattle.fr_model.specs.Complete.{missing_value}
@@ -10,6 +10,7 @@ use Rattle.fr_model.specs.Finish.{finish_cause, refusal_or}
 use Rattle.fr_model.specs.Finishing.{IsOffTheWay}
 use Rattle.fr_model.specs.Tree.{deferred}
 use Rattle.fr_model.specs.Well.{AllOff, OffBut, Leads as LeadsIn}
+use Rattle.fr_store.specs.HoldLaws.{no_marks}
 use Rattle.fr_store.specs.OffLaws.{marked_off}
 use Rattle.fr_store.proofs.HeadLaws.{Head, later, head_closed}
 use Rattle.fr_store.proofs.PathOrder.{first_front}
@@ -34,13 +35,12 @@ half_stored cursor place k leads off has half =
   where
     go : (x : Kid) → kid_at place k ≡ x → AllMarked true (kid_at place k) → IsHalfDone (tree_of (kid_at place k))
         → (slot : ℕ) × IsStoredAt k slot place
-    go gone e marked half = absurd (subst (λ (x : Kid). IsHalfDone (tree_of x)) e half)
-    go (there v) e marked half = absurd (subst (λ (x : Kid). IsHalfDone (tree_of x)) e half)
     go (at slot mark plot) e marked half =
         let stored : AllMarked true (at slot mark plot) = subst (AllMarked true) e marked in (
           slot,
           record { plot = plot; reaches = place_reach place k has; is = e ∙ ap (λ (b : Bool). at slot b plot) stored.0 },
         )
+    go _ e marked half = absurd (subst (λ (x : Kid). IsHalfDone (tree_of x)) e half)
 
 -- a place that lacks something by itself, and is in a slot, is half done
 lacks_half : (hooks : Meanings) (table : Table) (s : ℕ) (plot : Plot) (kind : ReflectErrorKind)
@@ -52,9 +52,8 @@ lacks_half hooks table s _ kind lacks = tt
 
 unplaced_off : (ks : Kids) → AreUnplaced (cells_in ks) → AllOff strict (trees_in ks)
 unplaced_off no_kids closed = tt
-unplaced_off (kid gone ks) closed = (tt, unplaced_off ks closed.1)
-unplaced_off (kid (there v) ks) closed = (tt, unplaced_off ks closed.1)
 unplaced_off (kid (at slot stored plot) ks) closed = absurd closed.0
+unplaced_off (kid _ ks) closed = (tt, unplaced_off ks closed.1)
 
 pub closed_cursor : (plot : Plot) → IsClosed (body_in plot) → AtCursor strict (tree_in plot)
 closed_cursor (begun_plot tracker kids) closed = unplaced_off kids closed
@@ -72,72 +71,60 @@ but_off start (suc i) Below After (kid k ks) but so = (tt, but_off start i Below
 
 -- in deferred mode the way leads through the tree
 pub leads_deferred : (start : ℕ) (place : Place) (k : Kid) → Leads place k → LeadsIn (deferred start) place (tree_of k)
-leads_deferred start [] (at slot stored entered_plot) leads = tt
-leads_deferred start [] (at slot stored (whole_plot v)) leads = tt
 leads_deferred start [] (at slot stored (begun_plot tracker kids)) leads = any_off start (trees_in kids)
+leads_deferred start [] (at slot stored _) leads = tt
 leads_deferred start [] _ leads = absurd leads
-leads_deferred start (i ∷ place) (at slot stored entered_plot) leads = absurd leads.1
-leads_deferred start (i ∷ place) (at slot stored (whole_plot v)) leads = absurd leads.1
 leads_deferred start (i ∷ place) (at slot stored (begun_plot tracker kids)) leads =
     but_off start i (λ below. Leads place below) (λ child. LeadsIn (deferred start) place child) kids leads.1
     (λ child. leads_deferred start place (kid_nth i kids) child)
+leads_deferred start (i ∷ place) (at slot stored _) leads = absurd leads.1
 leads_deferred start (i ∷ place) _ leads = absurd leads
 
 -- Nothing is both stored and not stored.
 
 kids_off : (ks : Kids) → AllMarkedAmong true ks → AllMarkedAmong false ks → AllOff strict (trees_in ks)
 kids_off no_kids marked unmarked = tt
-kids_off (kid gone ks) marked unmarked = (tt, kids_off ks marked.1 unmarked.1)
-kids_off (kid (there v) ks) marked unmarked = (tt, kids_off ks marked.1 unmarked.1)
 kids_off (kid (at slot stored plot) ks) marked unmarked =
     let apart : true ≡ false = sym marked.0.0 ∙ unmarked.0.0 in
     cc
+kids_off (kid _ ks) marked unmarked = (tt, kids_off ks marked.1 unmarked.1)
 
 but_strict : (i : ℕ) (Below : Kid → Type 0) (After : Tree → Type 0) (ks : Kids) → StoredBut i Below ks → AllMarkedAmong false ks
     → (Below (kid_nth i ks) → AllMarked false (kid_nth i ks) → After (tree_of (kid_nth i ks)))
     → OffBut strict i After (trees_in ks)
 but_strict i Below After no_kids but unmarked so = absurd but
 but_strict zero Below After (kid k ks) but unmarked so = (so but.0 unmarked.0, kids_off ks but.1 unmarked.1)
-but_strict (suc i) Below After (kid gone ks) but unmarked so = (tt, but_strict i Below After ks but.1 unmarked.1 so)
-but_strict (suc i) Below After (kid (there v) ks) but unmarked so = (tt, but_strict i Below After ks but.1 unmarked.1 so)
 but_strict (suc i) Below After (kid (at slot stored plot) ks) but unmarked so =
     let apart : true ≡ false = sym but.0.0 ∙ unmarked.0.0 in
     cc
+but_strict (suc i) Below After (kid _ ks) but unmarked so = (tt, but_strict i Below After ks but.1 unmarked.1 so)
 
 -- where nothing is stored it leads as in strict mode
 pub leads_strict : (place : Place) (k : Kid) → Leads place k → NoneStored k → LeadsIn strict place (tree_of k)
-leads_strict [] (at slot stored entered_plot) leads none = tt
-leads_strict [] (at slot stored (whole_plot v)) leads none = tt
 leads_strict [] (at slot stored (begun_plot tracker kids)) leads none = kids_off kids leads.1 none.1
+leads_strict [] (at slot stored _) leads none = tt
 leads_strict [] _ leads none = absurd leads
-leads_strict (i ∷ place) (at slot stored entered_plot) leads none = absurd leads.1
-leads_strict (i ∷ place) (at slot stored (whole_plot v)) leads none = absurd leads.1
 leads_strict (i ∷ place) (at slot stored (begun_plot tracker kids)) leads none =
     but_strict i (λ below. Leads place below) (λ child. LeadsIn strict place child) kids leads.1 none.1
     (λ child unmarked. leads_strict place (kid_nth i kids) child unmarked)
+leads_strict (i ∷ place) (at slot stored _) leads none = absurd leads.1
 leads_strict (i ∷ place) _ leads none = absurd leads
 
--- where no place is stored none is marked
-mutual
-  pub no_marks : (k : Kid) → ((slot : ℕ) (place : Place) → IsStoredAt k slot place → ⊥) → NoneStored k
-  no_marks (at slot true plot) none = absurd (none slot [] (record { plot = plot; reaches = tt; is = refl }))
-  no_marks (at slot false plot) none = (refl, no_marks_in slot plot none)
-  no_marks _ none = tt
+no_places : (k : Kid) (places : List Place) → AreStoredAt k [] places → places ≡ []
+no_places k [] stored = refl
+no_places k (place ∷ places) stored = absurd stored
 
-  no_marks_in : (own : ℕ) (plot : Plot) → ((slot : ℕ) (place : Place) → IsStoredAt (at own false plot) slot place → ⊥)
-      → AllMarkedIn false plot
-  no_marks_in own (begun_plot tracker kids) none =
-      no_marks_among kids (λ i slot place h stored. none slot (i ∷ place)
-      (record { plot = stored.plot; reaches = (h, stored.reaches); is = stored.is }))
-  no_marks_in own _ none = tt
-
-  no_marks_among : (ks : Kids) → ((i slot : ℕ) (place : Place) → i < count_kids ks → IsStoredAt (kid_nth i ks) slot place → ⊥)
-      → AllMarkedAmong false ks
-  no_marks_among no_kids none = tt
-  no_marks_among (kid k ks) none = (
-    no_marks k (λ slot place stored. none 0 slot place (omega arith) stored),
-    no_marks_among ks (λ i slot place h stored. none (suc i) slot place (omega arith) stored),
-  )
+-- where a walk is over no place is left, and none is marked
+pub walk_over : {k : Kid} (left : IsWalk k []) → (left.places ≡ []) × NoneStored k
+walk_over {k} left = (
+  over,
+  no_marks k (λ slot place stored.
+      let found : Contains [] place = subst (λ (ps : List Place). Contains ps place) over (left.all slot place stored) in
+      omega (arith, found.1)),
+)
+  where
+    over : left.places ≡ []
+    over = no_places k left.places left.stored
 
 -- The first place of a walk, where it lacks something by itself.
 module _ (hooks : Meanings) (table : Table) (s : ℕ) (path : List PathStep) (k : Kid) (cursor : Place) (leads : Leads cursor k)
@@ -153,11 +140,10 @@ module _ (hooks : Meanings) (table : Table) (s : ℕ) (path : List PathStep) (k 
   fails : LackingFails → Contains (failures_off hooks table s path cursor (tree_of k)) first_failure
   fails lacking =
       lacking hooks table s path (deferred 0) cursor head.place (tree_of k) kind (leads_deferred 0 cursor k leads)
-      (reach_place head.place k head.stored.reaches) (off_stored cursor head.place k n head.stored.plot leads head.stored.is)
+      (reach_place head.place k head.stored.reaches) (off_stored cursor head.place k leads head.stored.is)
       (subst IsHalfDone (sym tree_there) (lacks_half hooks table (shape_in table s head.place (tree_of k)) head.stored.plot kind
-      (ap (own_lack hooks table (shape_in table s head.place (tree_of k))) (sym tree_there) ∙ lacks)))
-      (subst (AtCursor strict) (sym tree_there) (closed_cursor head.stored.plot (head_closed k n rest walk head cursor leads)))
-      lacks
+      (ap (own_lack hooks table (shape_in table s head.place (tree_of k))) (sym tree_there) ∙ lacks))) (subst (AtCursor strict)
+      (sym tree_there) (closed_cursor head.stored.plot (head_closed k n rest walk head cursor leads))) lacks
 
   -- every other failure comes after it
   others : EachFailureHasItsPlace → (other : Failure) → Contains (failures_off hooks table s path cursor (tree_of k)) other
@@ -172,15 +158,11 @@ module _ (hooks : Meanings) (table : Table) (s : ℕ) (path : List PathStep) (k 
 
       go : (head.place ≡ told.fails.here) ⊎ Contains head.places told.fails.here → IsOrAfter first_failure other
       go (inl e) =
-          let own : own_lack hooks table (shape_in table s head.place (tree_of k)) (tree_at head.place (tree_of k))
-          ≡ Some other.kind
-          = subst (λ (p : Place). own_lack hooks table (shape_in table s p (tree_of k)) (tree_at p (tree_of k)) ≡ Some other.kind)
-          (sym e) told.fails.lacks in
-          let both : Some other.kind ≡ Some kind = sym own ∙ lacks in
+          let both : Some other.kind ≡ Some kind = sym told.fails.lacks ∙ ap
+          (λ (p : Place). own_lack hooks table (shape_in table s p (tree_of k)) (tree_at p (tree_of k))) (sym e) ∙ lacks in
           let same : other.kind ≡ kind = cc in
-          inl (ap (λ (to : List PathStep). record { path = to; kind = other.kind })
-          (told.fails.at ∙ ap (λ (p : Place). path ++ steps_in p (tree_of k)) (sym e))
-          ∙ ap (λ (x : ReflectErrorKind). record { path = path ++ steps_in head.place (tree_of k); kind = x }) same)
+          inl (ap₂ (λ (to : List PathStep) (x : ReflectErrorKind). record { path = to; kind = x })
+          (told.fails.at ∙ ap (λ (p : Place). path ++ steps_in p (tree_of k)) (sym e)) same)
       go (inr found) =
           inr (ap (walk_order (path ++ steps_in head.place (tree_of k))) told.fails.at
           ∙ first_front path (steps_in head.place (tree_of k)) (steps_in told.fails.here (tree_of k))

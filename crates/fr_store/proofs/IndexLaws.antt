@@ -1,33 +1,56 @@
 -- Lists of numbers and, under each number, where it stands in the list.
-use Rattle.std.proofs.Common.{◌≡◌, ◌≢◌, ◌⊎◌, ◌↔◌, ℕ, zero, suc, ◌+◌, ◌<◌, ◌≤◌, List, [], ◌∷◌, ◌++◌, length, set, get_or, slice_get, Some, Contains, length-set, inl, inr, refl, sym, ◌∙◌, ap, subst, arith}
+use Rattle.std.proofs.Common.{◌≡◌, ◌≢◌, ◌⊎◌, ◌↔◌, ℕ, zero, suc, ◌+◌, ◌<◌, ◌≤◌, List, [], ◌∷◌, ◌++◌, length, set, get_or, nat_eq, slice_get, Some, Contains, length-set, inl, inr, refl, sym, ◌∙◌, ap, subst, arith}
 use Rattle.std.proofs.lemmas.List.{length-map, get_or_default, get_or_append_left, get_or_push, get_or-set_same, get_or-set_other, length_push, map_push, map-set}
-use Rattle.fr_store.specs.Common.{AreOnce, StoredPlace, same_or_other, slot_of, slots_of}
+use Rattle.std.proofs.lemmas.Option.{get_or_from_slice_get, slice_get-get_or, slice_get_within}
+use Rattle.fr_store.specs.Common.{AreOnce, StoredPlace, counts_if, counts_in, counts_other, counts_same, same_or_other, slot_of, slots_of}
 use Rattle.fr_store.specs.Numbers.{IsIndexed}
-use Rattle.fr_store.proofs.PairLaws.{room_below}
+use Rattle.fr_store.proofs.PairLaws.{in_counted, indexed_once, later_in, room_below}
 
 -- Reading.
 
-pub there : (xs : List ℕ) (n x : ℕ) → slice_get xs n ≡ Some x → n < length xs
-there [] n x e = absurd (cc)
-there (y ∷ xs) zero x e = omega arith
-there (y ∷ xs) (suc n) x e = let h : n < length xs = there xs n x e in omega arith
-
-pub read : (xs : List ℕ) (n x y : ℕ) → slice_get xs n ≡ Some x → y ≡ get_or xs n y → y ≡ x
-read [] n x y e is = absurd (cc)
-read (z ∷ xs) zero x y e is = cc
-read (z ∷ xs) (suc n) x y e is = read xs n x y e is
-
 get_set_same : (xs : List ℕ) (n x : ℕ) → n < length xs → slice_get (set xs n x) n ≡ Some x
-get_set_same [] n x h = absurd (omega arith)
-get_set_same (y ∷ xs) zero x h = refl
-get_set_same (y ∷ xs) (suc n) x h = get_set_same xs n x (omega arith)
+get_set_same xs n x h =
+    slice_get-get_or (set xs n x) n x (omega (arith, length-set xs n x)) ∙ ap (λ (y : ℕ). Some y) (get_or-set_same xs n x x h)
 
 get_set_other : (xs : List ℕ) (n x m : ℕ) → m ≢ n → slice_get (set xs n x) m ≡ slice_get xs m
-get_set_other [] n x m apart = refl
 get_set_other (y ∷ xs) zero x zero apart = absurd (apart refl)
-get_set_other (y ∷ xs) zero x (suc m) apart = refl
-get_set_other (y ∷ xs) (suc n) x zero apart = refl
 get_set_other (y ∷ xs) (suc n) x (suc m) apart = get_set_other xs n x m (λ e. apart (ap suc e))
+get_set_other _ n x m apart = refl
+
+-- How often a number stands in a list.
+
+counted_in : (n : ℕ) (xs : List ℕ) → 0 < counts_in n xs → Contains xs n
+counted_in n [] h = absurd (omega arith)
+counted_in n (x ∷ xs) h = go (same_or_other x n) (counted_in n xs)
+  where
+    go : (x ≡ n) ⊎ (x ≢ n) → (0 < counts_in n xs → Contains xs n) → Contains (x ∷ xs) n
+    go (inl e) rest = (0, omega arith, e)
+    go (inr ne) rest = later_in x n xs (rest (omega (arith, h, counts_other x n ne)))
+
+counts_put : (n : ℕ) (xs : List ℕ) (p y : ℕ) → p < length xs
+    → counts_in n (set xs p y) + counts_if (nat_eq (get_or xs p 0) n) ≡ counts_in n xs + counts_if (nat_eq y n)
+counts_put n [] p y h = absurd (omega arith)
+counts_put n (x ∷ xs) zero y h = omega arith
+counts_put n (x ∷ xs) (suc p) y h = omega (arith, counts_put n xs p y (omega arith))
+
+counts_push : (n : ℕ) (xs : List ℕ) (y : ℕ) → counts_in n (xs ++ y ∷ []) ≡ counts_in n xs + counts_if (nat_eq y n)
+counts_push n [] y = omega arith
+counts_push n (x ∷ xs) y = omega (arith, counts_push n xs y)
+
+-- where one number is taken out of different ones, the others are left
+taken : (all rest : List ℕ) (place : ℕ) → AreOnce all
+    → ((n : ℕ) → counts_in n all ≡ counts_in n rest + counts_if (nat_eq place n))
+    → (n : ℕ) → Contains rest n ↔ (Contains all n × (n ≢ place))
+taken all rest place once counts n = (
+  λ found. (
+    counted_in n all (omega (arith, counts n, in_counted n rest found)),
+    λ e.
+        let one : counts_if (nat_eq place n) ≡ 1 = ap (λ (m : ℕ). counts_if (nat_eq place m)) e ∙ counts_same place in
+        omega (arith, counts n, once n, in_counted n rest found),
+  ),
+  λ both.
+      counted_in n rest (omega (arith, counts n, in_counted n all both.0, counts_other place n (λ e. both.1 (sym e)))),
+)
 
 -- Where a number stands.
 
@@ -40,6 +63,10 @@ stands_at all positions n indexed found =
 pub indexed_still : (all before after : List ℕ) → ((n i : ℕ) → slice_get before n ≡ Some i → slice_get after n ≡ Some i)
     → IsIndexed all before → IsIndexed all after
 indexed_still all before after kept indexed i h = kept (get_or all i 0) i (indexed i h)
+
+-- no number is in the list twice
+pub index_once : (all positions : List ℕ) → IsIndexed all positions → AreOnce all
+index_once all positions indexed = indexed_once all positions 0 (λ i h. indexed i h ∙ ap (λ (m : ℕ). Some m) (omega arith))
 
 -- One more number.
 module _ (all positions : List ℕ) (n : ℕ) (indexed : IsIndexed all positions) where
@@ -81,7 +108,7 @@ module _ (front positions : List ℕ) (last : ℕ) (indexed : IsIndexed (front +
       omega arith
 
   pub last_inside : last < length positions
-  last_inside = there positions last (length front) last_at
+  last_inside = slice_get_within positions last (length front) last_at
 
   pub indexed_front : IsIndexed front positions
   indexed_front = first_at
@@ -102,70 +129,6 @@ module _ (front positions : List ℕ) (last : ℕ) (indexed : IsIndexed (front +
             ap (slice_get (set positions last p)) (get_or-set_other front p i last 0 ne)
             ∙ get_set_other positions last p (get_or front i 0) (isn't_last i within) ∙ first_at i within
 
-    module _ (place : ℕ) (held : get_or front p 0 ≡ place) where
-      at : slice_get positions place ≡ Some p
-      at = ap (slice_get positions) (sym held) ∙ first_at p inside
-
-      stays : (n k : ℕ) → k < length front → get_or (set front p last) k n ≡ n → (k ≡ p) ⊎ (k ≢ p)
-          → Contains (front ++ last ∷ []) n × (n ≢ place)
-      stays n k within reads (inl e) =
-          let is : last ≡ n
-          = sym (get_or-set_same front p last n inside) ∙ ap (λ (j : ℕ). get_or (set front p last) j n) (sym e) ∙ reads in (
-            (length front, omega (arith, long), get_or_push front last n (length front) refl ∙ is),
-            λ same.
-                let two : Some p ≡ Some (length front) = sym at ∙ ap (slice_get positions) (sym same ∙ sym is) ∙ last_at in
-                let no : p ≡ length front = cc in
-                omega arith,
-          )
-      stays n k within reads (inr ne) =
-          let is : get_or front k n ≡ n = sym (get_or-set_other front p k last n ne) ∙ reads in (
-            (k, omega (arith, long), first k n within ∙ is),
-            λ same.
-                let two : Some p ≡ Some k
-                = sym at ∙ ap (slice_get positions) (sym same ∙ sym is ∙ get_or_default front k n 0 within) ∙ first_at k within in
-                let no : p ≡ k = cc in
-                ne (sym no),
-          )
-
-      was_there : (n k : ℕ) → k < length front + 1 → get_or (front ++ last ∷ []) k n ≡ n → n ≢ place
-          → (k ≡ length front) ⊎ (k ≢ length front) → (k ≡ p) ⊎ (k ≢ p) → Contains (set front p last) n
-      was_there n k bound reads apart (inl e) other =
-          let is : last ≡ n = sym (get_or_push front last n k (sym e)) ∙ reads in
-          (p, omega (arith, length-set front p last), get_or-set_same front p last n inside ∙ is)
-      was_there n k bound reads apart (inr ne) (inl e) =
-          let is : get_or front k n ≡ n = sym (first k n (omega arith)) ∙ reads in
-          absurd (apart (sym is ∙ get_or_default front k n 0 (omega arith) ∙ ap (λ (j : ℕ). get_or front j 0) e ∙ held))
-      was_there n k bound reads apart (inr ne) (inr other) = (
-        k,
-        omega (arith, length-set front p last),
-        get_or-set_other front p k last n other ∙ sym (first k n (omega arith)) ∙ reads,
-      )
-
-      pub rest_less : (n : ℕ) → Contains (set front p last) n ↔ (Contains (front ++ last ∷ []) n × (n ≢ place))
-      rest_less n = (
-        λ found. stays n found.0 (omega (arith, length-set front p last, found.1)) found.2 (same_or_other found.0 p),
-        λ both. was_there n both.0.0 (omega (arith, long, both.0.1)) both.0.2 both.1 (same_or_other both.0.0 (length front))
-            (same_or_other both.0.0 p),
-      )
-
-  pub rest_front : (n : ℕ) → Contains front n ↔ (Contains (front ++ last ∷ []) n × (n ≢ last))
-  rest_front n = (stays, λ both. was_there both.0 both.1)
-    where
-      stays : Contains front n → Contains (front ++ last ∷ []) n × (n ≢ last)
-      stays found = (
-        (found.0, omega (arith, long, found.1), first found.0 n found.1 ∙ found.2),
-        λ same. isn't_last found.0 found.1 (get_or_default front found.0 0 n found.1 ∙ found.2 ∙ same),
-      )
-
-      was_there : Contains (front ++ last ∷ []) n → n ≢ last → Contains front n
-      was_there found apart = go (same_or_other found.0 (length front))
-        where
-          go : (found.0 ≡ length front) ⊎ (found.0 ≢ length front) → Contains front n
-          go (inl e) = absurd (apart (sym found.2 ∙ get_or_push front last n found.0 (sym e)))
-          go (inr ne) =
-              let within : found.0 < length front = omega (arith, long, found.1) in
-              (found.0, within, sym (first found.0 n within) ∙ found.2)
-
 -- The same of slots, as the store has them: p is what stands under the number of the place that is taken out.
 module _ (slots front : List StoredPlace) (positions : List ℕ) (last : StoredPlace) (place : ℕ) (p : ℕ) (items : slots ≡ front ++ last ∷ [])
     (indexed : IsIndexed (slots_of slots) positions) (found : Contains (slots_of slots) place)
@@ -181,7 +144,8 @@ module _ (slots front : List StoredPlace) (positions : List ℕ) (last : StoredP
 
   found_at : p ≡ found_so.0
   found_at =
-      read positions place found_so.0 p (stands_at (slots_of front ++ slot_of last ∷ []) positions place indexed_so found_so) is
+      is ∙ get_or_from_slice_get positions place found_so.0 p
+      (stands_at (slots_of front ++ slot_of last ∷ []) positions place indexed_so found_so)
 
   long_so : length (slots_of front ++ slot_of last ∷ []) ≡ length (slots_of front) + 1
   long_so = length_push (slots_of front) (slot_of last)
@@ -193,13 +157,14 @@ module _ (slots front : List StoredPlace) (positions : List ℕ) (last : StoredP
   slots_front = indexed_front (slots_of front) positions (slot_of last) indexed_so
 
   pub slots_rest_front : length front ≤ p → (n : ℕ) → Contains (slots_of front) n ↔ (Contains (slots_of slots) n × (n ≢ place))
-  slots_rest_front past n =
+  slots_rest_front past =
       let held : slot_of last ≡ place
       = sym (get_or_push (slots_of front) (slot_of last) place found_so.0 (omega (arith, count, long_so, found_at, found_so.1)))
       ∙ found_so.2 in
-      subst (λ (m : ℕ). Contains (slots_of front) n ↔ (Contains (slots_of slots) n × (n ≢ m))) held
-      (subst (λ (l : List ℕ). Contains (slots_of front) n ↔ (Contains l n × (n ≢ slot_of last))) (sym all)
-      (rest_front (slots_of front) positions (slot_of last) indexed_so n))
+      taken (slots_of slots) (slots_of front) place (index_once (slots_of slots) positions indexed) (λ n.
+      let whole = ap (counts_in n) all in
+      let same = ap (λ (x : ℕ). counts_if (nat_eq x n)) held in
+      omega (arith, counts_push n (slots_of front) (slot_of last)))
 
   pub slots_less : p < length front → IsIndexed (slots_of (set front p last)) (set positions (slot_of last) p)
   slots_less inside =
@@ -208,15 +173,17 @@ module _ (slots front : List StoredPlace) (positions : List ℕ) (last : StoredP
 
   pub slots_rest_less : p < length front
       → (n : ℕ) → Contains (slots_of (set front p last)) n ↔ (Contains (slots_of slots) n × (n ≢ place))
-  slots_rest_less inside n =
+  slots_rest_less inside =
       let within : p < length (slots_of front) = omega (arith, count) in
       let held : get_or (slots_of front) p 0 ≡ place = ap (λ (k : ℕ). get_or (slots_of front) k 0) found_at
       ∙ get_or_default (slots_of front) found_so.0 0 place (omega (arith, count, found_at))
       ∙ sym (get_or_append_left (slots_of front) (slot_of last ∷ []) place found_so.0 (omega (arith, count, found_at)))
       ∙ found_so.2 in
-      subst (λ (l : List ℕ). Contains l n ↔ (Contains (slots_of slots) n × (n ≢ place))) (sym (map-set slot_of front p last))
-      (subst (λ (l : List ℕ). Contains (set (slots_of front) p (slot_of last)) n ↔ (Contains l n × (n ≢ place))) (sym all)
-      (rest_less (slots_of front) positions (slot_of last) indexed_so p within place held n))
+      taken (slots_of slots) (slots_of (set front p last)) place (index_once (slots_of slots) positions indexed) (λ n.
+      let whole = ap (counts_in n) all in
+      let rest = ap (counts_in n) (map-set slot_of front p last) in
+      let same = ap (λ (x : ℕ). counts_if (nat_eq x n)) held in
+      omega (arith, counts_push n (slots_of front) (slot_of last), counts_put n (slots_of front) p (slot_of last) within))
 
 -- The same of slots of which there is one more.
 pub slots_more : (slots after : List StoredPlace) (positions : List ℕ) (place : StoredPlace) (at : ℕ) → after ≡ slots ++ place ∷ []
@@ -230,6 +197,7 @@ slots_more slots after positions place at items is indexed apart room =
     (indexed_more (slots_of slots) positions (slot_of place) indexed apart room))
 
 -- Positions have an entry for each.
-pub room_indexed : (all positions : List ℕ) → AreOnce all → IsIndexed all positions → length all ≤ length positions
-room_indexed all positions once indexed =
-    room_below all (length positions) once (λ n at. there positions n at.0 (stands_at all positions n indexed at))
+pub room_indexed : (all positions : List ℕ) → IsIndexed all positions → length all ≤ length positions
+room_indexed all positions indexed =
+    room_below all (length positions) (index_once all positions indexed)
+    (λ n at. slice_get_within positions n at.0 (stands_at all positions n indexed at))

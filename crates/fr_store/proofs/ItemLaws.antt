@@ -1,17 +1,9 @@
 -- Laws of items, for proofs: the top has one more child behind the others, which gets a slot and is on top then.
 use Rattle.std.proofs.Common.{◌≡◌, ◌≢◌, ℕ, zero, suc, ◌+◌, ◌<◌, true, false, List, [], ◌∷◌, ◌++◌, Option, Some, None, refl, sym, ◌∙◌, ap, subst, arith}
-use Rattle.fr_store.specs.Common.{AllMarkedAmong, AllServe, AllStayPut, AreLeftAll, Body, Cell, Def, EntriesKind, FrameOwner, HasTracker, Heap, HoldsAll, IfInUse, IsLast, IsOpen, IsOpenAt, IsPlaced, IsThere, IsUnplaced, ItemsKind, KeepsChildren, Kid, Kids, MayHave, Node, NodeId, Place, Plan, Plot, Reaches, SameMarks, SameTokens, Shows, Slot, Stands, Top, Tracker, Tree, Trees, absent, all_kept, and_last, as_entries, as_items, at, begun, begun_body, begun_plot, body_here, body_in, body_other, branch, cell_of, cells_count, cells_in, change_at, child_node, child_owner, count_here, count_in, count_kids, cursor_in, depth_below, depth_limit, fresh_plot, fresh_tree, gone, heap_of, hole, is_map, is_map_tracker, kid, kid_at, kid_here, kid_nth, kid_occurs, kids_occur, marked_body, no_kids, node_along, node_here, open_reach, open_top, put_at, put_nth, slot_here, so_top, stored_in, top_found, top_of, top_slot, tree_change_at, tree_here, tree_in, tree_in_slots, tree_of, tree_of_at, trees_in, used_mapped, uses, uses_among, with_body, with_entered}
+use Rattle.fr_store.specs.Common.{AllMarkedAmong, AllServe, AllStayPut, AreLeftAll, Body, Cell, Def, EntriesKind, FrameOwner, HasTracker, Heap, HoldsAll, IfInUse, IsLast, IsOpen, IsPlaced, IsThere, IsUnplaced, ItemsKind, KeepsChildren, Kid, Kids, MayHave, Node, NodeId, Place, Plan, Plot, Reaches, SameMarks, Shows, Slot, Stands, TakesItems, Top, Tracker, Tree, Trees, absent, added, added_entry, all_kept, and_last, as_entries, as_items, at, begun, begun_body, begun_plot, body_here, body_in, body_other, branch, cell_of, cells_count, cells_in, change_at, child_node, child_owner, count_below, count_here, count_in, count_kids, cursor_in, depth_above, depth_below, depth_limit, entry_next, fresh, fresh_plot, fresh_tree, gone, heap_of, hole, is_map, is_map_tracker, item_owner, kid, kid_at, kid_here, kid_nth, kid_put_at, left_past, marked_body, marked_entered, no_kids, node_along, node_here, open_at_from, open_reach, open_top, put_at, put_at_twice, put_nth, slot_here, so_top, stored_in, top_found, top_of, top_slot, top_so, top_stands_in, tree_change_at, tree_here, tree_in, tree_of, tree_of_at, trees_in, used_mapped, uses, uses_among, with_body, with_entered, with_item_of, with_key_of}
 use Rattle.fr_store.specs.MoveLaws.{top_node}
-use Rattle.fr_model.specs.Tree.{count_below}
-use Rattle.fr_frame.specs.Bodies.{added, added_entry, TakesItems}
-use Rattle.fr_frame.specs.Heap.{depth_above, item_owner}
-use Rattle.fr_store.specs.LeftLaws.{entry_next, left_past}
-use Rattle.fr_store.specs.MoveLaws.{open_at_held, top_so, top_stands_in}
-use Rattle.fr_store.specs.Moves.{with_item_of, with_key_of}
-use Rattle.fr_store.specs.TopLaws.{marked_entered}
-use Rattle.fr_store.specs.WayLaws.{kid_put_at, put_at_twice}
 use Rattle.fr_store.proofs.ChildLaws.{plot_formed}
-use Rattle.fr_store.proofs.EnteringLaws.{IsEntered, child_plot, entered_kid, entered_so}
+use Rattle.fr_store.proofs.EnteringLaws.{GoesTo, IsEntered, child_plot, entered_kid, entered_so}
 use Rattle.fr_store.proofs.StayLaws.{stay_all, stay_shown}
 
 -- One child more.
@@ -45,14 +37,10 @@ pub put_last : (ks : Kids) (old new : Kid) → put_nth (count_kids ks) new (kids
 put_last no_kids old new = refl
 put_last (kid k ks) old new = ap (λ (xs : Kids). kid k xs) (put_last ks old new)
 
--- while it isn't there, it has no slots and no tokens
+-- while it isn't there, it has no slots
 pub uses_and_last : (ks : Kids) (n : ℕ) → uses_among (kids_and_last ks gone) n ≡ uses_among ks n
 uses_and_last no_kids n = refl
 uses_and_last (kid k ks) n = ap (λ (m : ℕ). uses k n + m) (uses_and_last ks n)
-
-pub occurs_and_last : (ks : Kids) (t : ℕ) → kids_occur (kids_and_last ks gone) t ≡ kids_occur ks t
-occurs_and_last no_kids t = refl
-occurs_and_last (kid k ks) t = ap (λ (m : ℕ). kid_occurs k t + m) (occurs_and_last ks t)
 
 pub marked_and_last : (ks : Kids) → AllMarkedAmong true ks → AllMarkedAmong true (kids_and_last ks gone)
 marked_and_last no_kids all = (tt, tt)
@@ -78,17 +66,6 @@ pub left_and_last : (tracker : Tracker) (i : ℕ) (ks : Kids) → AreLeftAll tra
 left_and_last tracker i no_kids all = (left_past tracker i gone all refl, tt, omega (arith, all, entry_next i))
 left_and_last tracker i (kid k ks) all = (all.0, all.1, left_and_last tracker (suc i) ks all.2)
 
--- the place keeps its other children
-grown_keeps : (tracker : Tracker) (kids : Kids) → TakesItems tracker
-    → KeepsChildren (begun_plot tracker kids) (begun_plot tracker (kids_and_last kids gone))
-grown_keeps tracker kids takes = record {
-  marked = λ h. marked_and_last kids h;
-  once = λ n. omega (arith, uses_and_last kids n);
-  holds = λ plan heap node slot depth h.
-      holds_and_last plan heap node slot tracker 0 depth kids (λ count. items_may_have tracker count takes) h;
-  left = λ h. left_and_last tracker 0 kids h;
-}
-
 pub grown_stay : (slot : ℕ) (tracker made : Tracker) (kids : Kids)
     → AllStayPut (at slot false (begun_plot tracker kids)) (at slot false (begun_plot made (kids_and_last kids gone)))
 grown_stay slot tracker made kids [] placed = (record { reaches = tt; here = tt }, refl)
@@ -106,7 +83,6 @@ pub record Grows (tracker made : Tracker) (kids more : Kids) (i : ℕ) (change :
   pub keeps : KeepsChildren (begun_plot tracker kids) (begun_plot made more)
   pub stay : (slot : ℕ) → AllStayPut (at slot false (begun_plot tracker kids)) (at slot false (begun_plot made more))
   pub used : (n : ℕ) → uses_among more n ≡ uses_among kids n
-  pub occurs : (t : ℕ) → kids_occur more t ≡ kids_occur kids t
   pub within : i < count_kids more
   pub unplaced : IsUnplaced (cell_of (kid_nth i more))
   pub vacant : is_map_tracker made ≡ true → IsThere (kid_nth i more) → ⊥
@@ -114,11 +90,11 @@ pub record Grows (tracker made : Tracker) (kids more : Kids) (i : ℕ) (change :
       ≡ with_new def (begun tracker (trees_in kids))
 
 -- a child that isn't there
-pub gone_unplaced : (k : Kid) → k ≡ gone → IsUnplaced (cell_of k)
-gone_unplaced k e = subst (λ (x : Kid). IsUnplaced (cell_of x)) (sym e) tt
+pub gone_unplaced : {k : Kid} → k ≡ gone → IsUnplaced (cell_of k)
+gone_unplaced e = subst (λ (x : Kid). IsUnplaced (cell_of x)) (sym e) tt
 
-pub gone_vacant : (k : Kid) → k ≡ gone → IsThere k → ⊥
-gone_vacant k e is_there = subst IsThere e is_there
+pub gone_vacant : {k : Kid} → k ≡ gone → IsThere k → ⊥
+gone_vacant e is_there = subst IsThere e is_there
 
 -- gets what is fresh
 pub tree_vacant : (tracker : Tracker) (i : ℕ) (ks : Kids) (n : ℕ) (def : Def) → kid_nth i ks ≡ gone
@@ -126,23 +102,40 @@ pub tree_vacant : (tracker : Tracker) (i : ℕ) (ks : Kids) (n : ℕ) (def : Def
     ≡ begun tracker (trees_in (put_nth i (at n false (fresh_plot def)) ks))
 tree_vacant tracker i ks n def e = ap (λ (x : Kid). begun tracker (trees_in (put_nth i (at n false (child_plot def x)) ks))) e
 
+-- one child more, which isn't there yet
+pub last_grows : (tracker made : Tracker) (kids : Kids) {change : Body → Body} {with_new : Def → Tree → Tree}
+    → begun_body made (cells_in kids ++ absent ∷ []) ≡ change (begun_body tracker (cells_in kids))
+    → ((count : ℕ) → MayHave made count)
+    → ((plan : Plan) (heap : Heap) (node : NodeId) (slot depth : ℕ) → HoldsAll plan heap node slot tracker 0 depth kids
+    → HoldsAll plan heap node slot made 0 depth kids) → (AreLeftAll tracker 0 kids → AreLeftAll made 0 kids)
+    → ((def : Def) → begun made (and_last (trees_in kids) (fresh def)) ≡ with_new def (begun tracker (trees_in kids)))
+    → Grows tracker made kids (kids_and_last kids gone) (count_kids kids) change with_new
+last_grows tracker made kids body may holds left tree = record {
+  body = ap (begun_body made) (cells_and_last kids) ∙ body;
+  keeps = record {
+    marked = λ h. marked_and_last kids h;
+    once = λ n. omega (arith, uses_and_last kids n);
+    holds = λ plan heap node slot depth h.
+        holds_and_last plan heap node slot made 0 depth kids may (holds plan heap node slot depth h);
+    left = λ h. left_and_last made 0 kids (left h);
+  };
+  stay = λ slot. grown_stay slot tracker made kids;
+  used = uses_and_last kids;
+  within = omega (arith, count_and_last kids gone);
+  unplaced = gone_unplaced (nth_last kids gone);
+  vacant = λ of_map. gone_vacant (nth_last kids gone);
+  tree = λ n def. tree_vacant made (count_kids kids) (kids_and_last kids gone) n def (nth_last kids gone)
+      ∙ ap (λ (ks : Kids). begun made (trees_in ks)) (put_last kids gone (at n false (fresh_plot def)))
+      ∙ ap (begun made) (trees_and_last kids (at n false (fresh_plot def)))
+      ∙ ap (λ (t : Tree). begun made (and_last (trees_in kids) t)) (fresh_tree def) ∙ tree def;
+}
+
 -- one item
 pub items_grow : (tracker : Tracker) (kids : Kids) → TakesItems tracker
     → Grows tracker tracker kids (kids_and_last kids gone) (count_kids kids) added with_item_of
-items_grow tracker kids takes = record {
-  body = ap (begun_body tracker) (cells_and_last kids);
-  keeps = grown_keeps tracker kids takes;
-  stay = λ slot. grown_stay slot tracker tracker kids;
-  used = uses_and_last kids;
-  occurs = occurs_and_last kids;
-  within = omega (arith, count_and_last kids gone);
-  unplaced = gone_unplaced (kid_nth (count_kids kids) (kids_and_last kids gone)) (nth_last kids gone);
-  vacant = λ of_map. gone_vacant (kid_nth (count_kids kids) (kids_and_last kids gone)) (nth_last kids gone);
-  tree = λ n def. tree_vacant tracker (count_kids kids) (kids_and_last kids gone) n def (nth_last kids gone)
-      ∙ ap (λ (ks : Kids). begun tracker (trees_in ks)) (put_last kids gone (at n false (fresh_plot def)))
-      ∙ ap (begun tracker) (trees_and_last kids (at n false (fresh_plot def)))
-      ∙ ap (λ (t : Tree). begun tracker (and_last (trees_in kids) t)) (fresh_tree def);
-}
+items_grow tracker kids takes =
+    last_grows tracker tracker kids refl (λ count. items_may_have tracker count takes) (λ plan heap node slot depth h. h) (λ h. h)
+    (λ def. refl)
 
 -- one entry: its key, and its value, which isn't there yet
 put_key : (ks : Kids) (old new : Kid)
@@ -180,10 +173,9 @@ entries_grow base kids = record {
   };
   stay = λ slot. two_stay slot (as_entries (EntriesKind.Map base)) kids;
   used = λ n. omega (arith, uses_and_last kids n, uses_and_last (kids_and_last kids gone) n);
-  occurs = λ t. omega (arith, occurs_and_last kids t, occurs_and_last (kids_and_last kids gone) t);
   within = omega (arith, count_and_last kids gone, count_and_last (kids_and_last kids gone) gone);
-  unplaced = gone_unplaced (kid_nth (count_kids kids) (kids_and_last (kids_and_last kids gone) gone)) (nth_key kids);
-  vacant = λ of_map. gone_vacant (kid_nth (count_kids kids) (kids_and_last (kids_and_last kids gone) gone)) (nth_key kids);
+  unplaced = gone_unplaced (nth_key kids);
+  vacant = λ of_map. gone_vacant (nth_key kids);
   tree = λ n def.
       tree_vacant (as_entries (EntriesKind.Map base)) (count_kids kids) (kids_and_last (kids_and_last kids gone) gone) n def (nth_key kids)
       ∙ ap (λ (ks : Kids). begun (as_entries (EntriesKind.Map base)) (trees_in ks)) (put_key kids gone (at n false (fresh_plot def)))
@@ -193,9 +185,9 @@ entries_grow base kids = record {
 }
 
 -- An open builder's top grows.
-module _ (plan : Plan) (before : List Slot) (stack : List ℕ) (open_now : IsOpen plan before stack) (p : ℕ) (last : IsLast stack p)
-    (tracker made : Tracker) (kids more : Kids) (i : ℕ) (begun_now : (open_top plan before stack open_now).plot ≡ begun_plot tracker kids)
-    (change : Body → Body) (with_new : Def → Tree → Tree) (grows : Grows tracker made kids more i change with_new) where
+module _ {plan : Plan} {before : List Slot} {stack : List ℕ} (open_now : IsOpen plan before stack) {p : ℕ} (last : IsLast stack p)
+    {tracker made : Tracker} {kids more : Kids} {i : ℕ} (begun_now : (open_top open_now).plot ≡ begun_plot tracker kids)
+    {change : Body → Body} {with_new : Def → Tree → Tree} (grows : Grows tracker made kids more i change with_new) where
   abbrev k : Kid
   k = kid_here before stack
 
@@ -203,7 +195,7 @@ module _ (plan : Plan) (before : List Slot) (stack : List ℕ) (open_now : IsOpe
   place = cursor_in before stack
 
   abbrev top : Top plan (heap_of before) stack (cursor_in before stack) (kid_here before stack)
-  top = open_top plan before stack open_now
+  top = open_top open_now
 
   -- with more children, which aren't there yet
   abbrev grown : Heap
@@ -216,7 +208,7 @@ module _ (plan : Plan) (before : List Slot) (stack : List ℕ) (open_now : IsOpe
   first = put_at place new k
 
   reach : Reaches place k
-  reach = open_reach plan before stack open_now
+  reach = open_reach open_now
 
   was : kid_at place k ≡ at top.slot false (begun_plot tracker kids)
   was = top.is ∙ ap (λ (plot : Plot). at top.slot false plot) begun_now
@@ -226,7 +218,7 @@ module _ (plan : Plan) (before : List Slot) (stack : List ℕ) (open_now : IsOpe
 
   stands_grown : Stands plan grown stack place first
   stands_grown =
-      top_stands_in plan before grown stack open_now p last change (begun_plot made more) grown_body
+      top_stands_in grown open_now last change grown_body
       (subst (λ (plot : Plot). KeepsChildren plot (begun_plot made more)) (sym begun_now) grows.keeps) (λ m. refl)
 
   stay_grown : AllStayPut k first
@@ -243,7 +235,7 @@ module _ (plan : Plan) (before : List Slot) (stack : List ℕ) (open_now : IsOpe
 
   -- what is on top of that
   abbrev now : Top plan grown stack place first
-  now = top_of plan grown stack place first stands_grown
+  now = top_of stands_grown
 
   now_is : new ≡ at now.slot false now.plot
   now_is = sym (kid_put_at place new k reach) ∙ now.is
@@ -255,28 +247,25 @@ module _ (plan : Plan) (before : List Slot) (stack : List ℕ) (open_now : IsOpe
   plot_same = let is = now_is in cc
 
   slot_is : now.slot ≡ p
-  slot_is = slot_same ∙ top_slot plan before stack open_now p last
+  slot_is = slot_same ∙ top_slot open_now last
 
   same_node : node_along plan plan.root place first ≡ node_along plan plan.root place k
   unfolding top_node
   same_node =
       ap (λ (found : Option Node). node_of found)
-      (sym now.here ∙ ap grown slot_is ∙ body_here (heap_of before) p change (top_node plan before stack open_now p last)
-      (top_found plan before stack open_now p last))
+      (sym now.here ∙ ap grown slot_is ∙ body_here (heap_of before) p change (top_found open_now last))
     where
       node_of : Option Node → NodeId
       node_of (Some found) = found.node
       node_of None = plan.root
 
   module _ (owner_of : Body → FrameOwner) (owner_is : owner_of (begun_body tracker (cells_in kids)) ≡ child_owner p i)
-      (after : List Slot) (next : List ℕ) (def : Def) (n : ℕ) (node : NodeId)
-      (is : node ≡ child_node plan (node_along plan plan.root place k) made i) (vacant : heap_of before n ≡ None)
-      (shows : IfInUse before p (λ (found : Node). Shows after
-      (with_entered def (with_body (heap_of before) p change) node (owner_of found.body) n)))
-      (limit : IfInUse before p (λ (found : Node). depth_below (heap_of before) (owner_of found.body) < depth_limit))
-      (tokens : SameTokens before after) (along : next ≡ stack ++ n ∷ []) where
+      (after : List Slot) {next : List ℕ} (def : Def) (n : ℕ) {node : NodeId} (is : node ≡ child_node plan (node_along
+      plan plan.root place k) made i) (vacant : heap_of before n ≡ None) (shows : IfInUse before p (λ (found : Node). Shows
+      after (with_entered def (with_body (heap_of before) p change) node (owner_of found.body) n))) (limit : IfInUse before p
+      (λ (found : Node). depth_below (heap_of before) (owner_of found.body) < depth_limit)) (along : next ≡ stack ++ n ∷ []) where
     apart : n ≢ p
-    apart e = let wrong = sym vacant ∙ ap (heap_of before) e ∙ top_found plan before stack open_now p last in cc
+    apart e = let wrong = sym vacant ∙ ap (heap_of before) e ∙ top_found open_now last in cc
 
     free : grown n ≡ None
     free = body_other (heap_of before) p change n apart ∙ vacant
@@ -292,34 +281,26 @@ module _ (plan : Plan) (before : List Slot) (stack : List ℕ) (open_now : IsOpe
         (child_owner now.slot i) n m
     unfolding top_node
     shown m =
-        top_so plan before stack open_now p last
-        (λ (found : Node). Shows after (with_entered def grown node (owner_of found.body) n)) shows m
-        ∙ ap (λ (o : FrameOwner). with_entered def grown node o n m) owner_same
-        ∙ ap (λ (x : NodeId). with_entered def grown x (child_owner now.slot i) n m)
-        (is ∙ ap (λ (x : NodeId). child_node plan x made i) (sym same_node))
+        top_so open_now last (λ (found : Node). Shows after (with_entered def grown node (owner_of found.body) n)) shows m
+        ∙ ap (λ (o : FrameOwner). with_entered def grown node o n m) owner_same ∙ ap (λ (x : NodeId). with_entered def grown
+        x (child_owner now.slot i) n m) (is ∙ ap (λ (x : NodeId). child_node plan x made i) (sym same_node))
 
     deep : depth_below grown (child_owner now.slot i) < depth_limit
     unfolding top_node
     deep =
         let was : depth_above (heap_of before p) < depth_limit
         = subst (λ (o : FrameOwner). depth_below (heap_of before) o < depth_limit) owner_here
-        (top_so plan before stack open_now p last
-        (λ (found : Node). depth_below (heap_of before) (owner_of found.body) < depth_limit) limit) in
-        subst (λ (d : ℕ). d < depth_limit)
-        (ap depth_above (top_found plan before stack open_now p last) ∙ sym (ap depth_above now.here)) was
+        (top_so open_now last (λ (found : Node). depth_below (heap_of before) (owner_of found.body) < depth_limit) limit) in
+        subst (λ (d : ℕ). d < depth_limit) (ap depth_above (top_found open_now last) ∙ sym (ap depth_above now.here)) was
 
     abbrev item : Kid
-    item =
-        entered_kid plan grown (heap_of after) stack place first stands_grown now made more plot_same i grows.within
-        grows.unplaced grows.vacant def n free shown deep
+    item = entered_kid (heap_of after) stands_grown now plot_same i grows.within grows.unplaced grows.vacant def n free shown deep
 
     abbrev second : Kid
     second = put_at place item first
 
     so : IsEntered plan grown (heap_of after) stack n place i first second
-    so =
-        entered_so plan grown (heap_of after) stack place first stands_grown now made more plot_same i grows.within
-        grows.unplaced grows.vacant def n free shown deep
+    so = entered_so (heap_of after) stands_grown now plot_same i grows.within grows.unplaced grows.vacant def n free shown deep
 
     tree_second : tree_of second ≡ change_at place (with_new def) (tree_of k)
     tree_second =
@@ -332,68 +313,51 @@ module _ (plan : Plan) (before : List Slot) (stack : List ℕ) (open_now : IsOpe
         let two = so.stay way one.0 in
         (two.0, two.1 ∙ one.1)
 
-    pub open_item : IsOpenAt plan after next (place ++ i ∷ []) (change_at place (with_new def) (tree_of k))
-        × AllStayPut k (kid_here after next)
-    open_item =
-        subst (λ (s : List ℕ). IsOpenAt plan after s (place ++ i ∷ []) (change_at place (with_new def) (tree_of k))
-        × AllStayPut k (kid_here after s)) (sym along) (
-          open_at_held plan after (stack ++ n ∷ []) (place ++ i ∷ []) second
-              (change_at place (with_new def) (tree_of k)) so.stands (so.all all_grown) tree_second,
-          stay_shown plan after (stack ++ n ∷ []) (place ++ i ∷ []) second k so.stands stay_second,
-        )
-
-    pub marks_item : SameMarks before after
-    marks_item m =
-        ap stored_in (shown m) ∙ marked_entered def grown (child_node plan (node_along plan plan.root place first) made i)
-        (child_owner now.slot i) n m free ∙ marked_body (heap_of before) p change m
+    -- none is stored that wasn't, nor taken out of the store
+    pub item_enters : GoesTo plan before after stack next i (with_new def) × SameMarks before after
+    item_enters = (
+      subst (λ (s : List ℕ). GoesTo plan before after stack s i (with_new def)) (sym along)
+          (open_at_from after so.stands (so.all all_grown) tree_second, stay_shown after k so.stands stay_second),
+      λ m. ap stored_in (shown m) ∙ marked_entered def grown (child_node plan (node_along plan plan.root place first) made i)
+          (child_owner now.slot i) n m free ∙ marked_body (heap_of before) p change m,
+    )
 
 -- The same, as the calls say it, of a place that is begun so.
-module _ (plan : Plan) (before : List Slot) (stack : List ℕ) (open_now : IsOpen plan before stack) (p : ℕ) (last : IsLast stack p)
+module _ {plan : Plan} {before : List Slot} {stack : List ℕ} (open_now : IsOpen plan before stack) {p : ℕ} (last : IsLast stack p)
     (tracker : Tracker) (has : HasTracker tracker (tree_here before stack)) where
-  pub formed : (kids : Kids) × ((open_top plan before stack open_now).plot ≡ begun_plot tracker kids)
+  pub formed : (kids : Kids) × ((open_top open_now).plot ≡ begun_plot tracker kids)
   formed =
-      let top = open_top plan before stack open_now in
+      let top = open_top open_now in
       plot_formed tracker top.plot
       (subst (λ (t : Tree). HasTracker tracker t) (sym (tree_of_at (cursor_in before stack) (kid_here before stack)) ∙ ap tree_of top.is) has)
 
   pub counted : count_here before stack ≡ count_kids formed.0
   counted =
-      let top = open_top plan before stack open_now in
+      let top = open_top open_now in
       ap count_below (sym (tree_of_at (cursor_in before stack) (kid_here before stack)) ∙ ap tree_of top.is ∙ ap tree_in formed.1)
       ∙ count_in formed.0
 
   pub formed_here : (So : Body → Type 0) → So (begun_body tracker (cells_in formed.0)) → IfInUse before p (λ (found : Node). So found.body)
   unfolding top_node
   formed_here So so =
-      so_top plan before stack open_now p last (λ (found : Node). So found.body)
-      (subst (λ (plot : Plot). So (body_in plot)) (sym formed.1) so)
+      so_top open_now last (λ (found : Node). So found.body) (subst (λ (plot : Plot). So (body_in plot)) (sym formed.1) so)
 
-  module _ (more : Kids) (change : Body → Body) (with_new : Def → Tree → Tree) (grows : Grows tracker tracker formed.0 more (count_kids formed.0) change with_new)
-      (after : List Slot) (next : List ℕ) (def : Def) (n : ℕ) (node : NodeId)
-      (is : node ≡ child_node plan (node_here plan before stack) tracker (count_here before stack)) (vacant : heap_of before n ≡ None)
-      (shows : IfInUse before p (λ (found : Node). Shows after
-      (with_entered def (with_body (heap_of before) p change) node (item_owner p found.body) n)))
-      (limit : IfInUse before p (λ (found : Node). depth_below (heap_of before) (item_owner p found.body) < depth_limit))
-      (tokens : SameTokens before after) (along : next ≡ stack ++ n ∷ []) where
+  module _ {more : Kids} {change : Body → Body} {with_new : Def → Tree → Tree} (grows : Grows tracker tracker formed.0 more
+      (count_kids formed.0) change with_new) (after : List Slot) {next : List ℕ} (def : Def)
+      (n : ℕ) {node : NodeId} (is : node ≡ child_node plan (node_here plan before stack) tracker (count_here before stack))
+      (vacant : heap_of before n ≡ None) (shows : IfInUse before p (λ (found : Node). Shows after (with_entered def
+      (with_body (heap_of before) p change) node (item_owner p found.body) n))) (limit : IfInUse before p (λ (found : Node).
+      depth_below (heap_of before) (item_owner p found.body) < depth_limit)) (along : next ≡ stack ++ n ∷ []) where
     owner_is : item_owner p (begun_body tracker (cells_in formed.0)) ≡ child_owner p (count_kids formed.0)
     owner_is = ap (child_owner p) (cells_count formed.0)
 
     numbered : node ≡ child_node plan (node_here plan before stack) tracker (count_kids formed.0)
     numbered = is ∙ ap (child_node plan (node_here plan before stack) tracker) counted
 
-    -- the new child is on top, no place leaves its slot, and none is stored that wasn't, nor taken out of the store
-    pub child_enters : (IsOpenAt plan after next (cursor_in before stack ++ count_here before stack ∷ [])
-        (change_at (cursor_in before stack) (with_new def) (tree_in_slots before stack))
-        × AllStayPut (kid_here before stack) (kid_here after next)) × SameMarks before after
-    child_enters = (
-      subst (λ (count : ℕ). IsOpenAt plan after next (cursor_in before stack ++ count ∷ [])
-          (change_at (cursor_in before stack) (with_new def) (tree_in_slots before stack))
-          × AllStayPut (kid_here before stack) (kid_here after next)) (sym counted)
-          (open_item plan before stack open_now p last tracker tracker formed.0 more (count_kids formed.0) formed.1 change with_new
-          grows (item_owner p) owner_is after next def n node numbered vacant shows limit tokens along),
-      marks_item plan before stack open_now p last tracker tracker formed.0 more (count_kids formed.0) formed.1 change with_new grows
-          (item_owner p) owner_is after next def n node numbered vacant shows limit tokens along,
-    )
+    pub child_enters : GoesTo plan before after stack next (count_here before stack) (with_new def) × SameMarks before after
+    child_enters =
+        subst (λ (count : ℕ). GoesTo plan before after stack next count (with_new def) × SameMarks before after) (sym counted)
+        (item_enters open_now last formed.1 grows (item_owner p) owner_is after def n numbered vacant shows limit along)
 
 -- a map is begun over as many entries as it had
 pub map_tracker : (t : Tree) → is_map t ≡ true → (base : ℕ) × HasTracker (as_entries (EntriesKind.Map base)) t

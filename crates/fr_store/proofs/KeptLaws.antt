@@ -1,15 +1,8 @@
 -- The list of stored places, and the marks in the slots.
-use Rattle.std.proofs.Common.{◌≡◌, ◌≢◌, ◌⊎◌, ◌↔◌, ℕ, Bool, true, false, List, [], ◌∷◌, ◌++◌, Contains, Option, Some, None, IsSome, nat_eq, inl, inr, refl, sym, ◌∙◌, ap, subst, arith, if◌then◌else◌}
-use Rattle.std.proofs.lemmas.Bool.Decides.{nat_tests}
-use Rattle.std.proofs.lemmas.Grind.{common_steps}
+use Rattle.std.proofs.Common.{◌≡◌, ◌≢◌, ◌⊎◌, ◌↔◌, ℕ, Bool, true, false, List, [], ◌∷◌, ◌++◌, Contains, Option, Some, None, IsSome, inl, inr, refl, sym, ◌∙◌, ap, subst}
 use Rattle.std.proofs.lemmas.List.Elements.{Contains-append_left, Contains-push, Contains-push_cases}
-use Rattle.fr_store.specs.Common.{Heap, IsInUse, IsKept, Node, Shows, Slot, heap_of, marked, option_map, same_or_other, stored_in, with_mark}
-
-other_number : (m n : ℕ) → m ≢ n → nat_eq m n ≡ false
-other_number m n ne = grind (arith, common_steps, nat_tests)
-
-same_number : (n : ℕ) → nat_eq n n ≡ true
-same_number n = grind (arith, common_steps, nat_tests)
+use Rattle.fr_store.specs.Common.{Heap, IsInUse, IsKept, Node, Shows, Slot, heap_of, marked, option_map, same_or_other, slot_other, stored_in, with_mark}
+use Rattle.fr_store.specs.TopLaws.{slot_here}
 
 now_marked : (found : Option Node) (mark : Bool) → IsSome found
     → stored_in (option_map (λ (at : Node). record at { stored = mark }) found) ≡ mark
@@ -18,13 +11,11 @@ now_marked None mark h = absurd (cc)
 
 pub mark_here : (heap : Heap) (n : ℕ) (mark : Bool) → IsSome (heap n) → marked (with_mark heap n mark) n ≡ mark
 mark_here heap n mark h =
-    ap (λ (b : Bool). stored_in (if b then option_map (λ (at : Node). record at { stored = mark }) (heap n) else heap n))
-    (same_number n) ∙ now_marked (heap n) mark h
+    ap stored_in (slot_here heap n (option_map (λ (at : Node). record at { stored = mark }) (heap n))) ∙ now_marked (heap n) mark h
 
 pub mark_other : (heap : Heap) (n : ℕ) (mark : Bool) (m : ℕ) → m ≢ n → marked (with_mark heap n mark) m ≡ marked heap m
 mark_other heap n mark m ne =
-    ap (λ (b : Bool). stored_in (if b then option_map (λ (at : Node). record at { stored = mark }) (heap n) else heap m))
-    (other_number m n ne)
+    ap stored_in (slot_other heap n (option_map (λ (at : Node). record at { stored = mark }) (heap n)) m ne)
 
 marked_found : (found : Option Node) → stored_in found ≡ true → IsSome found
 marked_found (Some at) h = refl
@@ -33,6 +24,18 @@ marked_found None h = absurd (cc)
 -- what is stored is in use
 pub marked_in_use : (slots : List Slot) (n : ℕ) → marked (heap_of slots) n ≡ true → IsInUse slots n
 marked_in_use slots n h = marked_found (heap_of slots n) h
+
+-- one place is stored no more, and the marks of all others stay
+pub kept_but : (store rest : List ℕ) (before after : List Slot) (place : ℕ) → IsKept store before → marked (heap_of after) place ≡ false
+    → ((n : ℕ) → n ≢ place → marked (heap_of after) n ≡ marked (heap_of before) n)
+    → ((n : ℕ) → Contains rest n ↔ (Contains store n × (n ≢ place))) → IsKept rest after
+kept_but store rest before after place kept freed same less n = (
+  λ is. (less n).1 ((kept n).0 (sym (same n (ne is)) ∙ is), ne is),
+  λ found. let both = (less n).0 found in same n both.1 ∙ (kept n).1 both.0,
+)
+  where
+    ne : marked (heap_of after) n ≡ true → n ≢ place
+    ne is e = let no : false ≡ true = sym freed ∙ ap (marked (heap_of after)) (sym e) ∙ is in cc
 
 module _ (store : List ℕ) (slots after : List Slot) (place : ℕ) (kept : IsKept store slots) (in_use : IsInUse slots place) where
   -- a place is stored
@@ -60,21 +63,6 @@ module _ (store : List ℕ) (slots after : List Slot) (place : ℕ) (kept : IsKe
   -- a place is stored no more
   pub kept_less : (rest : List ℕ) → Shows after (with_mark (heap_of slots) place false)
       → ((n : ℕ) → Contains rest n ↔ (Contains store n × (n ≢ place))) → IsKept rest after
-  kept_less rest shows less n = go (same_or_other n place)
-    where
-      is : marked (heap_of after) n ≡ marked (with_mark (heap_of slots) place false) n
-      is = ap stored_in (shows n)
-
-      go : (n ≡ place) ⊎ (n ≢ place) → (marked (heap_of after) n ≡ true) ↔ Contains rest n
-      go (inl e) = (
-        λ h.
-            let no : true ≡ false = sym h ∙ is ∙ ap (marked (with_mark (heap_of slots) place false)) e
-            ∙ mark_here (heap_of slots) place false in_use in
-            absurd (cc),
-        λ h. absurd (((less n).0 h).1 e),
-      )
-      go (inr ne) =
-          let same : marked (heap_of after) n ≡ marked (heap_of slots) n = is ∙ mark_other (heap_of slots) place false n ne in (
-            λ h. (less n).1 ((kept n).0 (sym same ∙ h), ne),
-            λ h. same ∙ (kept n).1 ((less n).0 h).0,
-          )
+  kept_less rest shows less =
+      kept_but store rest slots after place kept (ap stored_in (shows place) ∙ mark_here (heap_of slots) place false in_use)
+      (λ n ne. ap stored_in (shows n) ∙ mark_other (heap_of slots) place false n ne) less

@@ -1,9 +1,7 @@
 -- Laws of a place that is marked anew, as stored or as not, for proofs: all else is as it was.
 use Rattle.std.proofs.Common.{◌≡◌, ◌≢◌, ℕ, zero, suc, ◌+◌, Bool, List, [], ◌∷◌, nat_eq, option_map, Option, refl, sym, ◌∙◌, ap, subst, arith}
-use Rattle.fr_store.specs.Common.{AgreeBeside, AllStayPut, AreLeftRightly, FrameOwner, Holds, IsOpen, IsOpenAt, IsSome, Kid, Kids, Leads, Node, Place, Plan, Plot, Reaches, Replaces, SameTokens, Shows, Slot, Stands, Tree, Trees, all_kept, at, begun, begun_plot, branch, cell_of, counts_if, counts_same, heap_of, kid, kid_at, kid_here, kid_nth, kid_occurs, no_kids, occurs_put_at, open_at_from, put_at, put_nth, slot_other, slots_along, tokens_kept, tree_in_slots, tree_of, trees_in, used_mapped, uses, uses_at, uses_in, with_mark}
-use Rattle.fr_store.specs.HoldLaws.{holds_frame_in, replaces_at}
+use Rattle.fr_store.specs.Common.{AgreeBeside, AllStayPut, AreLeftRightly, FrameOwner, Holds, IsOpen, IsOpenAt, IsSome, Kid, Kids, Leads, Node, Place, Plan, Plot, Reaches, Replaces, Shows, Slot, Stands, Tree, Trees, all_kept, at, begun, begun_plot, branch, cell_of, counts_if, counts_own, heap_of, holds_frame_in, kid, kid_at, kid_here, kid_nth, no_kids, open_at_from, put_at, put_nth, replaces_at, slot_other, slots_along, tree_in_slots, tree_of, trees_in, used_mapped, uses, uses_at, uses_in, uses_put_at, with_mark}
 use Rattle.fr_store.specs.TopLaws.{slot_here}
-use Rattle.fr_store.specs.WayLaws.{uses_put_at}
 use Rattle.fr_store.proofs.StayLaws.{stay_all, stay_marked, stay_shown}
 
 -- A part with the same tree.
@@ -21,9 +19,9 @@ tree_kept (i ∷ place) new (at slot stored (begun_plot tracker kids)) same =
 tree_kept (i ∷ place) new _ same = refl
 
 -- A place of an open builder is marked anew: it is open still, with the same tree, where the way goes on in what is there then.
-module _ {plan : Plan} {before : List Slot} {stack : List ℕ} (open_now : IsOpen plan before stack) (after : List Slot) (here : Place)
-    (slot : ℕ) (was mark : Bool) (plot : Plot) (reach : Reaches here (kid_here before stack))
-    (is : kid_at here (kid_here before stack) ≡ at slot was plot) (shows : Shows after (with_mark (heap_of before) slot mark)) where
+module _ {plan : Plan} {before : List Slot} {stack : List ℕ} (open_now : IsOpen plan before stack) (after : List Slot)
+    (here : Place) {slot : ℕ} {was : Bool} (mark : Bool) {plot : Plot} (reach : Reaches here (kid_here before stack)) (is : kid_at
+    here (kid_here before stack) ≡ at slot was plot) (shows : Shows after (with_mark (heap_of before) slot mark)) where
   abbrev k : Kid
   k = kid_here before stack
 
@@ -37,11 +35,8 @@ module _ {plan : Plan} {before : List Slot} {stack : List ℕ} (open_now : IsOpe
   elsewhere m ne =
       shows m ∙ slot_other (heap_of before) slot (option_map (λ (x : Node). record x { stored = mark }) (heap_of before slot)) m ne
 
-  serves : (m : ℕ) → m ≡ slot → counts_if (nat_eq slot m) ≡ 1
-  serves m e = ap (λ (x : ℕ). counts_if (nat_eq slot x)) e ∙ counts_same slot
-
   agree : AgreeBeside (heap_of before) (heap_of after) k (kid_at here k)
-  agree m h = elsewhere m (λ e. absurd (omega (arith, serves m e, own m, open_now.stands.once m)))
+  agree m h = elsewhere m (λ e. absurd (omega (arith, counts_own e, own m, open_now.stands.once m)))
 
   replaces : Replaces plan (heap_of before) (heap_of after) (kid_at here k) new
   replaces node owner depth holds =
@@ -49,24 +44,19 @@ module _ {plan : Plan} {before : List Slot} {stack : List ℕ} (open_now : IsOpe
         shows slot ∙ slot_here (heap_of before) slot (option_map (λ (x : Node). record x { stored = mark }) (heap_of before slot))
             ∙ ap (option_map (λ (x : Node). record x { stored = mark })) held.0,
         held.1,
-        holds_frame_in plan (heap_of before) (heap_of after) node slot (suc depth) plot held.2 (λ m h. elsewhere m (λ e.
-            absurd (omega (arith, serves m e, own m, uses_at here k m, open_now.stands.once m)))),
+        holds_frame_in plan (heap_of before) (heap_of after) node slot (suc depth) plot held.2
+            (λ m h. elsewhere m (λ e. absurd (omega (arith, counts_own e, own m, uses_at here k m, open_now.stands.once m)))),
       )
 
-  pub open_marked : SameTokens before after → (next : List ℕ) (place : Place) → Leads place (put_at here (at slot mark plot) (kid_here before stack))
-      → next ≡ slots_along place (put_at here (at slot mark plot) (kid_here before stack))
-      → AreLeftRightly (put_at here (at slot mark plot) (kid_here before stack))
-      → IsOpenAt plan after next place (tree_in_slots before stack) × AllStayPut (kid_here before stack) (kid_here after next)
-  open_marked tokens next place leads along left = (
-    open_at_from plan after next place (put_at here new k) (tree_of k) stands
-        (tokens_kept before after k (put_at here new k) tokens open_now.tokens
-        (λ t. omega (arith, occurs_put_at here new k t reach, ap (λ (x : Kid). kid_occurs x t) is)))
-        (all_kept (heap_of before) (heap_of after) here new k reach open_now.all (λ m used.
-        used_mapped (heap_of before) slot (λ (x : Node). record x { stored = mark }) m
-        (subst (λ (o : Option Node). IsSome o) (shows m) used)) (λ m. omega (arith, own m)))
-        (tree_kept here new k (ap tree_of (sym is))),
-    stay_shown plan after next place (put_at here new k) k stands
-        (stay_all here new k reach (stay_marked (kid_at here k) new slot was mark plot is refl)),
+  pub open_marked : {next : List ℕ} (place : Place) → Leads place (put_at here (at slot mark plot) (kid_here before stack))
+      → next ≡ slots_along place (put_at here (at slot mark plot) (kid_here before stack)) → AreLeftRightly
+      (put_at here (at slot mark plot) (kid_here before stack)) → IsOpenAt plan after next place (tree_in_slots before stack)
+      × AllStayPut (kid_here before stack) (kid_here after next)
+  open_marked {next} place leads along left = (
+    open_at_from after stands (all_kept (heap_of before) (heap_of after) here new k reach open_now.all (λ m used. used_mapped
+        (heap_of before) slot (λ (x : Node). record x { stored = mark }) m (subst (λ (o : Option Node). IsSome o) (shows m) used))
+        (λ m. omega (arith, own m))) (tree_kept here new k (ap tree_of (sym is))),
+    stay_shown after k stands (stay_all here new k reach (stay_marked {new = new} is refl)),
   )
     where
       stands : Stands plan (heap_of after) next place (put_at here (at slot mark plot) (kid_here before stack))

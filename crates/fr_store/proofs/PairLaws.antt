@@ -1,6 +1,7 @@
 -- Lists of which each element stands in some way to all that follow, and what filters and changes leave of them.
 use Rattle.std.proofs.Common.{◌≡◌, ◌≢◌, ◌⊎◌, ℕ, zero, suc, ◌+◌, ◌<◌, ◌≤◌, Bool, true, false, cond, List, [], ◌∷◌, ◌++◌, append_assoc, map, reverse, length, length-append, get_or, nat_eq, slice_get, slice_index, Some, inl, inr, refl, sym, ap, ◌∙◌, subst, arith}
-use Rattle.fr_store.specs.Common.{All, AreOnce, Contains, Pairs, counts_if, counts_in, counts_other, counts_same, filter, same_or_other}
+use Rattle.std.proofs.lemmas.List.Sorted.{All-permutation, Contains-permutation, IsPermutation-reverse}
+use Rattle.fr_store.specs.Common.{All, AreOnce, Contains, Pairs, counts_if, counts_in, counts_other, counts_own, filter, same_or_other}
 use Rattle.std.proofs.lemmas.List.{reverse-append, map-append, get_or_default}
 use Rattle.std.proofs.lemmas.List.Elements.{All-nil, All-cons, All-head, All-tail, All-append, All-filter, All-map, All-weaker, Contains-append_cases, Contains-append_left, Contains-append_right}
 
@@ -10,10 +11,7 @@ module _ {X : Type 0} where
   all_right P (x ∷ xs) ys h = all_right P xs ys (All-tail P x (xs ++ ys) h)
 
   pub all_reverse : (P : X → Type 0) (xs : List X) → All P xs → All P (reverse xs)
-  all_reverse P [] h = All-nil P
-  all_reverse P (x ∷ xs) h =
-      subst (All P) (sym (reverse-append (x ∷ []) xs)) (All-append P (reverse xs) (x ∷ []) (all_reverse P xs (All-tail P x xs h))
-      (All-cons P x [] (All-head P x xs h) (All-nil P)))
+  all_reverse P xs h = All-permutation P xs (reverse xs) (IsPermutation-reverse xs) h
 
   -- Elements.
 
@@ -51,13 +49,7 @@ module _ {X : Type 0} where
       go (inr at) rest = there (p y) (rest at)
 
   pub in_reverse : (xs : List X) (x : X) → Contains xs x → Contains (reverse xs) x
-  in_reverse [] x at = absurd (none_in x at)
-  in_reverse (y ∷ xs) x at =
-      subst (λ (l : List X). Contains l x) (sym (reverse-append (y ∷ []) xs)) (go (in_cases y x xs at) (in_reverse xs x))
-    where
-      go : (y ≡ x) ⊎ Contains xs x → (Contains xs x → Contains (reverse xs) x) → Contains (reverse xs ++ y ∷ []) x
-      go (inl e) rest = Contains-append_right (reverse xs) (y ∷ []) x (0, omega arith, e)
-      go (inr at) rest = Contains-append_left (reverse xs) (y ∷ []) x (rest at)
+  in_reverse xs x at = Contains-permutation xs (reverse xs) x (IsPermutation-reverse xs) at
 
 module _ {X Y : Type 0} where
   pub in_map : (f : X → Y) (xs : List X) (x : X) → Contains xs x → Contains (map f xs) (f x)
@@ -144,9 +136,7 @@ in_counted n [] at = absurd (none_in n at)
 in_counted n (x ∷ xs) at = go (in_cases x n xs at) (in_counted n xs)
   where
     go : (x ≡ n) ⊎ Contains xs n → (Contains xs n → 0 < counts_in n xs) → 0 < counts_if (nat_eq x n) + counts_in n xs
-    go (inl e) rest =
-        let one : counts_if (nat_eq x n) ≡ 1 = ap (λ (m : ℕ). counts_if (nat_eq m n)) e ∙ counts_same n in
-        omega arith
+    go (inl e) rest = omega (arith, counts_own (sym e))
     go (inr at) rest = omega (arith, rest at)
 
 -- each number stands in a list where another list says
@@ -167,9 +157,7 @@ indexed_once (x ∷ xs) positions from at n =
         omega arith
 
     go : (x ≡ n) ⊎ (x ≢ n) → counts_in n xs ≤ 1 → counts_if (nat_eq x n) + counts_in n xs ≤ 1
-    go (inl e) rest =
-        let one : counts_if (nat_eq x n) ≡ 1 = ap (λ (m : ℕ). counts_if (nat_eq m n)) e ∙ counts_same n in
-        omega (arith, none_counted n xs (apart e))
+    go (inl e) rest = omega (arith, counts_own (sym e), none_counted n xs (apart e))
     go (inr ne) rest = omega (arith, counts_other x n ne)
 
 -- Lists that go into others.
@@ -197,9 +185,7 @@ fits (x ∷ xs) ys once inside =
     beside n front back at found = go (Contains-append_cases front (x ∷ back) n found)
       where
         later : (x ≡ n) ⊎ Contains back n → Contains (front ++ back) n
-        later (inl e) =
-            let one : counts_if (nat_eq x n) ≡ 1 = ap (λ (m : ℕ). counts_if (nat_eq m n)) e ∙ counts_same n in
-            absurd (omega (arith, once n, in_counted n xs at))
+        later (inl e) = absurd (omega (arith, counts_own (sym e), once n, in_counted n xs at))
         later (inr more) = Contains-append_right front back n more
 
         go : Contains front n ⊎ Contains (x ∷ back) n → Contains (front ++ back) n

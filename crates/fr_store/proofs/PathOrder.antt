@@ -1,11 +1,10 @@
 -- The order of numbers, and of the walk over paths that begin alike.
 use Rattle.std.proofs.Common.{◌≡◌, ℕ, ◌<◌, List, [], ◌∷◌, ◌++◌, length, length-append, refl, ◌∙◌, ap, arith}
-use Rattle.fr_store.specs.Common.{Less, Ordering, PathStep, ordering_then, slice_cmp, step_order, walk_order}
+use Rattle.fr_store.specs.Common.{Less, Ordering, PathStep, ordering_then, slice_cmp, step_itself, step_order, walk_order}
 use Rattle.std.specs.declared.cmp.Ordering.TheVariants.{Equal}
 use Rattle.std.specs.Ordering.{nat_cmp}
 use Rattle.std.proofs.lemmas.Bool.Decides.{nat_tests}
 use Rattle.std.proofs.lemmas.Grind.{common_steps}
-use Rattle.fr_path.specs.OrderLaws.{step_itself}
 
 -- Numbers.
 

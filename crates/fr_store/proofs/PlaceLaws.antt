@@ -1,10 +1,8 @@
 -- Places in slots, and the ways to them.
 use Rattle.std.proofs.Common.{◌≡◌, ◌≢◌, ◌⊎◌, ℕ, zero, suc, ◌+◌, ◌<◌, ◌≤◌, Bool, true, false, List, [], ◌∷◌, ◌++◌, length, length-append, get_or, map, nat_eq, inl, inr, refl, sym, ◌∙◌, ap, subst, arith}
-use Rattle.fr_store.specs.Common.{All, AllMarked, AreOnce, FrameOwner, Heap, Holds, IsHere, IsPlaced, IsStoredHere, Kid, Kids, Leads, NodeId, Pairs, Place, Plan, Plot, Reaches, StoredBut, at, begun_plot, count_kids, counts_if, counts_in, counts_other, counts_same, gone, holds_at, kid, kid_at, kid_at_append, kid_nth, leads_at, leads_reach, marked, marked_nth, no_kids, node_along, owner_along, same_or_other, slot_at, slot_here, slots_above, slots_along, stored_here, stored_in, there, uses, uses_among, uses_at, uses_in, uses_nth}
-use Rattle.std.proofs.lemmas.List.{append-nil}
+use Rattle.fr_store.specs.Common.{All, AllMarked, AreOnce, FrameOwner, Heap, Holds, IsHere, IsPlaced, IsStoredHere, Kid, Kids, Leads, NodeId, Pairs, Place, Plan, Plot, Reaches, StoredBut, along_at, at, begun_plot, count_kids, counts_if, counts_in, counts_other, counts_own, counts_same, gone, holds_at, kid, kid_at, kid_at_append, kid_in_plot, kid_nth, leads_at, leads_reach, marked, marked_at, marked_nth, no_kids, node_along, owner_along, same_or_other, slot_at, slot_here, slots_above, slots_along, stored_here, stored_in, there, uses, uses_among, uses_at, uses_in, uses_nth}
+use Rattle.std.proofs.lemmas.List.{get_or_at, append-nil}
 use Rattle.std.proofs.lemmas.List.Elements.{All-contains, All-head, All-tail, Contains-get_or}
-use Rattle.fr_store.specs.Ways.{kid_in_plot}
-use Rattle.fr_store.specs.WayLaws.{along_at, marked_at}
 use Rattle.fr_store.proofs.HeadLaws.{two_nth}
 use Rattle.fr_store.proofs.PairLaws.{none_counted, of_map}
 
@@ -33,23 +31,23 @@ here_of_way i below (at slot stored plot) reach = tt
 here_of_way i below _ reach = absurd reach
 
 -- what lies above a place in a slot is in a slot
-pub placed_above : (place below : Place) (k : Kid) → IsPlaced k (place ++ below) → IsPlaced k place
-placed_above place [] k placed = subst (IsPlaced k) (append-nil place) placed
-placed_above place (i ∷ below) k placed = record {
+pub placed_above : (place below : Place) {k : Kid} → IsPlaced k (place ++ below) → IsPlaced k place
+placed_above place [] {k} placed = subst (IsPlaced k) (append-nil place) placed
+placed_above place (i ∷ below) {k} placed = record {
   reaches = reaches_front place (i ∷ below) k placed.reaches;
   here = here_of_way i below (kid_at place k) (reaches_back place (i ∷ below) k placed.reaches);
 }
 
 -- a child in a slot
-pub placed_below : (place below : Place) (k : Kid) → IsPlaced k place → IsPlaced (kid_at place k) below
+pub placed_below : {place below : Place} {k : Kid} → IsPlaced k place → IsPlaced (kid_at place k) below
     → IsPlaced k (place ++ below)
-placed_below place below k placed child = record {
+placed_below {place} {below} {k} placed child = record {
   reaches = reaches_on place below k placed.reaches child.reaches;
   here = subst IsHere (sym (kid_at_append place below k)) child.here;
 }
 
-pub placed_child : (place : Place) (i : ℕ) (k : Kid) → IsPlaced k (place ++ i ∷ []) → IsPlaced (kid_at place k) (i ∷ [])
-placed_child place i k placed = record {
+pub placed_child : (place : Place) (i : ℕ) {k : Kid} → IsPlaced k (place ++ i ∷ []) → IsPlaced (kid_at place k) (i ∷ [])
+placed_child place i {k} placed = record {
   reaches = reaches_back place (i ∷ []) k placed.reaches;
   here = subst IsHere (kid_at_append place (i ∷ []) k) placed.here;
 }
@@ -95,9 +93,9 @@ same_way (i ∷ first) (j ∷ second) (at slot stored (begun_plot tracker kids))
 same_way (i ∷ first) second _ once one here two also e = absurd one
 same_way [] (j ∷ second) _ once one here two also e = absurd two
 
-pub same_place : (first second : Place) (k : Kid) → ((n : ℕ) → uses k n ≤ 1) → IsPlaced k first → IsPlaced k second
+pub same_place : {first second : Place} {k : Kid} → ((n : ℕ) → uses k n ≤ 1) → IsPlaced k first → IsPlaced k second
     → slot_at k first ≡ slot_at k second → first ≡ second
-same_place first second k once one two e = same_way first second k once one.reaches one.here two.reaches two.here e
+same_place {first} {second} {k} once one two e = same_way first second k once one.reaches one.here two.reaches two.here e
 
 -- places that differ are in different slots
 pub slots_once : (k : Kid) → ((n : ℕ) → uses k n ≤ 1) → (So : Place → Place → Type 0) → ((p q : Place) → So p q → p ≢ q)
@@ -113,9 +111,8 @@ slots_once k once So differ (p ∷ places) placed order n =
     apart i d h e =
         let from = of_map (slot_at k) places (get_or (map (slot_at k) places) i d)
         (Contains-get_or (map (slot_at k) places) i d h) in
-        differ p from.0 (All-contains (So p) places from.0 order.0 from.1)
-        (same_place p from.0 k once (All-head (IsPlaced k) p places placed)
-        (All-contains (IsPlaced k) places from.0 others from.1) (sym e ∙ sym from.2))
+        differ p from.0 (All-contains (So p) places from.0 order.0 from.1) (same_place once
+        (All-head (IsPlaced k) p places placed) (All-contains (IsPlaced k) places from.0 others from.1) (sym e ∙ sym from.2))
 
     go : (slot_at k p ≡ n) ⊎ (slot_at k p ≢ n) → counts_in n (map (slot_at k) places) ≤ 1
         → counts_if (nat_eq (slot_at k p) n) + counts_in n (map (slot_at k) places) ≤ 1
@@ -123,8 +120,7 @@ slots_once k once So differ (p ∷ places) placed order n =
         let none = none_counted (slot_at k p) (map (slot_at k) places) apart in
         let same : counts_in (slot_at k p) (map (slot_at k) places) ≡ counts_in n (map (slot_at k) places)
         = ap (λ (m : ℕ). counts_in m (map (slot_at k) places)) e in
-        let one : counts_if (nat_eq (slot_at k p) n) ≡ 1 = ap (λ (m : ℕ). counts_if (nat_eq m n)) e ∙ counts_same n in
-        omega arith
+        omega (arith, counts_own (sym e))
     go (inr ne) less = omega (arith, counts_other (slot_at k p) n ne)
 
 -- The stack and what is stored.
@@ -191,8 +187,8 @@ unstored_top (i ∷ below) (at slot stored plot) leads = leads.0
 pub open_unstored : (above below : Place) (k : Kid) → Leads (above ++ below) k → stored_here (kid_at above k) ≡ false
 open_unstored above below k leads = unstored_top below (kid_at above k) (leads_at above below k leads)
 
-pub open_placed : (above below : Place) (k : Kid) → Leads (above ++ below) k → IsPlaced k above
-open_placed above below k leads = record {
+pub open_placed : (above below : Place) {k : Kid} → Leads (above ++ below) k → IsPlaced k above
+open_placed above below {k} leads = record {
   reaches = leads_reach above below k leads;
   here = leads_here below (kid_at above k) (leads_at above below k leads);
 }
@@ -221,14 +217,11 @@ along_long cursor k leads =
     last_alone (at slot stored plot) here = refl
 
 pub behind : (xs : List ℕ) (y : ℕ) (ys : List ℕ) (i d : ℕ) → i ≡ length xs → get_or (xs ++ y ∷ ys) i d ≡ y
-behind [] y ys zero d e = refl
-behind [] y ys (suc i) d e = absurd (omega arith)
-behind (x ∷ xs) y ys zero d e = absurd (omega arith)
-behind (x ∷ xs) y ys (suc i) d e = behind xs y ys i d (omega arith)
+behind xs y ys i d e = get_or_at xs y ys d i (sym e)
 
-pub along_nth : (above below : Place) (k : Kid) (i d : ℕ) → Leads (above ++ below) k → i ≡ length above
+pub along_nth : (above below : Place) (k : Kid) {i : ℕ} (d : ℕ) → Leads (above ++ below) k → i ≡ length above
     → get_or (slots_along (above ++ below) k) i d ≡ slot_at k above
-along_nth above below k i d leads e =
+along_nth above below k {i} d leads e =
     let reach = leads_reach above below k leads in
     let first = first_along below (kid_at above k) (leads_here below (kid_at above k) (leads_at above below k leads)) in
     ap (λ (l : List ℕ). get_or l i d) (along_at above below k reach ∙ ap (λ (l : List ℕ). slots_above above k ++ l) first.1)
@@ -240,9 +233,9 @@ mark_told : (plan : Plan) (heap : Heap) (node : NodeId) (owner : FrameOwner) (de
 mark_told plan heap node owner depth (at slot stored plot) holds here = ap stored_in holds.0
 mark_told plan heap node owner depth _ holds here = absurd here
 
-pub mark_at : (plan : Plan) (heap : Heap) (node : NodeId) (owner : FrameOwner) (depth : ℕ) (place : Place) (k : Kid)
+pub mark_at : (plan : Plan) (heap : Heap) (node : NodeId) (owner : FrameOwner) (depth : ℕ) {place : Place} {k : Kid}
     → Holds plan heap node owner depth k → IsPlaced k place → marked heap (slot_at k place) ≡ stored_here (kid_at place k)
-mark_at plan heap node owner depth place k holds placed =
+mark_at plan heap node owner depth {place} {k} holds placed =
     mark_told plan heap (node_along plan node place k) (owner_along owner place k) (depth + length place) (kid_at place k)
     (holds_at plan heap node owner depth place k holds placed.reaches) placed.here
 

@@ -1,244 +1,239 @@
--- One child after another leaves its slot.
-use Rattle.std.proofs.Common.{◌≡◌, ◌≢◌, ◌⊎◌, ℕ, zero, suc, ◌+◌, ◌-◌, ◌<◌, ◌≤◌, true, false, List, nat_eq, Option, Some, None, inl, inr, refl, sym, ◌∙◌, ap, subst, arith}
-use Rattle.fr_store.specs.Common.{AllMarked, AllMarkedAmong, Body, Cell, Heap, Holds, HoldsIn, IsPruned, IsRooted, Kid, Kids, MayHave, Node, Plot, Room, Room_fewer, Room_risen, RoseBy, Tracker, at, begun_body, begun_plot, beneath, body_here, body_in, body_occurs, body_other, both, cells_found, cells_in, cells_in_body, child_node, child_owner, count_kids, counts_if, counts_other, counts_same, depth_limit, entered_plot, kid, kid_nth, marked, marked_nth, may_have_all, no_kids, pruned, same_or_other, slot_other, slotted_occur, stored_in, unlinked, uses, uses_among, uses_in, whole_plot, with_slot, without}
-use Rattle.fr_shape.specs.TokenLaws.{Room_left}
+-- One child leaves its slot.
+use Rattle.std.proofs.Common.{◌≡◌, ◌≢◌, ◌⊎◌, ℕ, zero, suc, ◌+◌, ◌-◌, ◌<◌, ◌≤◌, true, false, length, length-set, nat_eq, List, Option, Some, None, inl, inr, refl, sym, ◌∙◌, ap, subst, arith}
+use Rattle.fr_store.specs.Common.{AllMarked, AllMarkedAmong, AllMarkedIn, Body, Cell, Heap, Holds, HoldsAll, HoldsIn, IsPruned, IsRooted, Kid, Kids, Node, Plan, Plot, Tracker, absent, at, begun_body, begun_plot, beneath, body_here, body_in, body_occurs, body_other, cells_found, cells_in, cells_in_body, child_node, child_owner, count_kids, counts_if, counts_other, counts_same, depth_limit, entered_plot, gone, holds_put_nth, kid_nth, marked, marked_nth, pruned, put_nth, same_or_other, slot_other, slotted_occur, stored_in, unlinked, uses, uses_among, uses_in, uses_nth, uses_put_nth, whole_plot, with_slot, without}
 use Rattle.fr_frame.specs.Cells.{slot_at}
-use Rattle.fr_store.specs.HoldLaws.{AgreeOn, holds_frame, holds_nth}
+use Rattle.fr_store.specs.HoldLaws.{holds_nth}
 use Rattle.fr_store.specs.Prunes.{kids_in_plot, slotted_occurs}
 use Rattle.fr_store.specs.TopLaws.{slot_here}
-use Rattle.fr_store.proofs.PruneLaws.{pruned_first, first_kids, depth_found, beneath_is, plot_uses, plot_marked, plot_cells, plot_tokens, first_uses, uses_first, tokens_first, pruned_slot, unlinked_first, kid_in_slot, cell_in_slot}
+use Rattle.fr_store.specs.WayLaws.{marked_put_nth}
+use Rattle.fr_store.proofs.PruneLaws.{IsLeft, beneath_is, beneath_uses, cells_gone, depth_found, emptied_put, kid_in_slot, none_up_to, plot_tokens, slotted_put, unlinked_kid}
 
--- What lies beneath the place.
-
-pub beneath_uses : (heap : Heap) (n : ℕ) (rooted : IsRooted heap n) (m : ℕ) → uses_among (beneath heap n) m ≡ uses_in rooted.plot m
-beneath_uses heap n rooted m = ap (λ (ks : Kids). uses_among ks m) (beneath_is heap n rooted) ∙ sym (plot_uses rooted.plot m)
-
-module _ {heap : Heap} {n : ℕ} (rooted : IsRooted heap n) where
-  pub beneath_once : (m : ℕ) → counts_if (nat_eq n m) + uses_among (beneath heap n) m ≤ 1
-  beneath_once m = omega (arith, rooted.once m, beneath_uses heap n rooted m)
-
-  pub beneath_stored : AllMarkedAmong true (beneath heap n)
-  beneath_stored =
-      subst (λ (ks : Kids). AllMarkedAmong true ks) (sym (beneath_is heap n rooted)) (plot_marked rooted.plot rooted.stored)
-
-  pub beneath_cells : cells_in_body rooted.found.body ≡ cells_in (beneath heap n)
-  beneath_cells = ap cells_in_body rooted.body ∙ plot_cells rooted.plot ∙ ap cells_in (sym (beneath_is heap n rooted))
-
-  -- its own slot isn't beneath it
-  pub beneath_apart : (m : ℕ) → 0 < uses_among (beneath heap n) m → m ≢ n
-  beneath_apart m h e =
-      let one : counts_if (nat_eq n m) ≡ 1 = ap (λ (x : ℕ). counts_if (nat_eq n x)) e ∙ counts_same n in
-      absurd (omega (arith, beneath_once m))
-
-used_or_not : (count : ℕ) → (0 < count) ⊎ (count ≡ 0)
-used_or_not zero = inr refl
-used_or_not (suc count) = inl (omega arith)
-
--- a child in a slot is held there
-pub record ChildHeld (heap : Heap) (n : ℕ) (rooted : IsRooted heap n) (i m : ℕ) (below : Plot) : Type 0 where
-  pub tracker : Tracker
-  pub body : rooted.found.body ≡ begun_body tracker (cells_in (beneath heap n))
-  pub may_have : MayHave tracker (count_kids (beneath heap n))
-  pub holds : Holds rooted.plan heap (child_node rooted.plan rooted.found.node tracker i) (child_owner n i)
-      (suc rooted.found.depth) (at m true below)
-
-nth_within : (i m : ℕ) (ks : Kids) (plot : Plot) → kid_nth i ks ≡ at m true plot → i < count_kids ks
-nth_within i m no_kids plot is = absurd (cc)
-nth_within zero m (kid k ks) plot is = omega arith
-nth_within (suc i) m (kid k ks) plot is = let rest = nth_within i m ks plot is in omega arith
-
-child_held : {heap : Heap} {n : ℕ} (rooted : IsRooted heap n) (i m : ℕ) (below : Plot)
-    → kid_nth i (beneath heap n) ≡ at m true below → ChildHeld heap n rooted i m below
-child_held {heap} {n} rooted i m below is = go rooted.plot rooted.body rooted.holds (beneath_is heap n rooted)
+-- some of what was left leaves, and then more of it
+pub left_on : {before mid after : Heap} {n : ℕ} → IsRooted mid n → IsLeft before mid n → IsLeft mid after n → IsLeft before after n
+left_on {before} {mid} {after} {n} rooted one two = record {
+  here = two.here ∙ one.here;
+  depth = two.depth ∙ one.depth;
+  fewer = λ m. omega (arith, one.fewer m, two.fewer m);
+  free = λ m used none. go m used none (uses_among (beneath mid n) m) refl;
+  rest = λ m ne none. two.rest m ne (omega (arith, one.fewer m)) ∙ one.rest m ne none;
+}
   where
-    go : (plot : Plot) → rooted.found.body ≡ body_in plot
-        → HoldsIn rooted.plan heap rooted.found.node n (suc rooted.found.depth) plot → beneath heap n ≡ kids_in_plot plot
-        → ChildHeld heap n rooted i m below
-    go entered_plot body holds e = let none = sym (ap (kid_nth i) e) ∙ is in absurd (cc)
-    go (whole_plot v) body holds e = let none = sym (ap (kid_nth i) e) ∙ is in absurd (cc)
-    go (begun_plot tracker kids) body holds e =
-        let here : kid_nth i kids ≡ at m true below = sym (ap (kid_nth i) e) ∙ is in
-        record {
-          tracker = tracker;
-          body = body ∙ ap (λ (ks : Kids). begun_body tracker (cells_in ks)) (sym e);
-          may_have = subst (λ (ks : Kids). MayHave tracker (count_kids ks)) (sym e)
-              (may_have_all rooted.plan heap rooted.found.node n tracker (suc rooted.found.depth) kids holds);
-          holds = subst
-              (λ (k : Kid). Holds rooted.plan heap (child_node rooted.plan rooted.found.node tracker i) (child_owner n i)
-              (suc rooted.found.depth) k) here
-              (holds_nth rooted.plan heap rooted.found.node n tracker 0 (suc rooted.found.depth) kids i i (omega arith)
-              (nth_within i m kids below here) holds);
-        }
+    go : (m : ℕ) → 0 < uses_among (beneath before n) m → uses_among (beneath after n) m ≡ 0 → (count : ℕ)
+        → uses_among (beneath mid n) m ≡ count → after m ≡ None
+    go m used none zero e =
+        let free = one.free m used e in
+        two.rest m (λ is. let wrong : None ≡ Some rooted.found = sym free ∙ ap mid is ∙ rooted.here in cc) e ∙ free
+    go m used none (suc count) e = two.free m (omega arith) none
 
--- So many children were released, and one more is in a slot.
-
-pub record Child (before mid : Heap) (n : ℕ) (rooted : IsRooted before n) (i m : ℕ) : Type 0 where
-  pub below : IsRooted mid m
-  pub is : kid_nth i (beneath before n) ≡ at m true below.plot
+-- The place is begun, and its child of this number is in a slot.
+pub record Child (heap : Heap) (n i m : ℕ) : Type 0 where
+  pub plan : Plan
+  pub found : Node
   pub tracker : Tracker
-  pub body : rooted.found.body ≡ begun_body tracker (cells_in (beneath before n))
-  pub may_have : MayHave tracker (count_kids (beneath before n))
-  pub owner : below.found.owner ≡ child_owner n i
-  pub stored : below.found.stored ≡ true
-  pub deeper : below.found.depth ≡ suc rooted.found.depth
+  pub kids : Kids
+  pub below : Plot
+  pub here : heap n ≡ Some (record found { body = begun_body tracker (cells_in kids) })
+  pub limit : found.depth < depth_limit
+  pub holds : HoldsAll plan heap found.node n tracker 0 (suc found.depth) kids
+  pub once : (x : ℕ) → counts_if (nat_eq n x) + uses_among kids x ≤ 1
+  pub stored : AllMarkedAmong true kids
+  pub are : beneath heap n ≡ kids
+  pub is : kid_nth i kids ≡ at m true below
+  pub inside : i < count_kids kids
 
-module _ {before mid : Heap} {n : ℕ} (rooted : IsRooted before n) (i : ℕ)
-    (so_far : IsPruned before mid n (pruned_first i) (first_kids i (beneath before n))) where
-  -- the place is there still
-  pub still_here : mid n ≡ Some (record rooted.found { body = pruned_first i rooted.found.body })
-  still_here = so_far.here ∙ body_here before n (pruned_first i) rooted.found rooted.here
+pub child_of : {heap : Heap} {n : ℕ} (rooted : IsRooted heap n) (i m : ℕ) → slot_at (cells_found (heap n)) i ≡ Some m → Child heap n i m
+child_of {heap} {n} rooted i m found =
+    go rooted.plot rooted.body rooted.holds rooted.once rooted.stored (beneath_is heap n rooted)
+  where
+    cells : (body : Body) → rooted.found.body ≡ body → slot_at (cells_in_body body) i ≡ Some m
+    cells body e =
+        sym (ap (λ (o : Option Node). slot_at (cells_found o) i) rooted.here ∙ ap (λ (b : Body). slot_at (cells_in_body b) i) e)
+        ∙ found
 
-  pub slot_is : slot_at (cells_found (mid n)) i ≡ slot_at (cells_in (beneath before n)) i
-  slot_is =
-      ap (λ (o : Option Node). slot_at (cells_found o) i) still_here ∙ pruned_slot i rooted.found.body
-      ∙ ap (λ (cs : List Cell). slot_at cs i) (beneath_cells rooted)
-
-  pub child_of : (m : ℕ) → slot_at (cells_found (mid n)) i ≡ Some m → Child before mid n rooted i m
-  child_of m found =
-      let one = kid_in_slot i m (beneath before n) (sym slot_is ∙ found) (beneath_stored rooted) in
-      let held = child_held rooted i m one.0 one.1 in
-      let all : (x : ℕ) → uses (kid_nth i (beneath before n)) x ≡ counts_if (nat_eq m x) + uses_in one.0 x
-      = λ x. ap (λ (k : Kid). uses k x) one.1 in
-      let agree : AgreeOn before mid (at m true one.0) = λ x h. so_far.rest x
-      (beneath_apart rooted x (omega (arith, all x, uses_first i (beneath before n) x)))
-      (omega (arith, all x, uses_first i (beneath before n) x, beneath_once rooted x)) in
-      let now = holds_frame rooted.plan before mid (child_node rooted.plan rooted.found.node held.tracker i)
-      (child_owner n i) (suc rooted.found.depth) (at m true one.0) held.holds agree in
-      let marked : AllMarked true (at m true one.0)
-      = subst (λ (k : Kid). AllMarked true k) one.1 (marked_nth true i (beneath before n) (beneath_stored rooted)) in
-      record {
-        below = record {
+    go : (plot : Plot) → rooted.found.body ≡ body_in plot
+        → HoldsIn rooted.plan heap rooted.found.node n (suc rooted.found.depth) plot
+        → ((x : ℕ) → counts_if (nat_eq n x) + uses_in plot x ≤ 1) → AllMarkedIn true plot → beneath heap n ≡ kids_in_plot plot
+        → Child heap n i m
+    go (begun_plot tracker kids) body holds once stored are =
+        let one = kid_in_slot i m kids (cells (begun_body tracker (cells_in kids)) body) stored in
+        record {
           plan = rooted.plan;
-          found = record {
-            node = child_node rooted.plan rooted.found.node held.tracker i;
-            owner = child_owner n i;
-            stored = true;
-            depth = suc rooted.found.depth;
-            body = body_in one.0;
-          };
-          plot = one.0;
-          here = now.0;
-          body = refl;
-          limit = now.1;
-          holds = now.2;
-          once = λ x. omega (arith, all x, uses_first i (beneath before n) x, beneath_once rooted x);
-          stored = marked.1;
-        };
-        is = one.1;
-        tracker = held.tracker;
-        body = held.body;
-        may_have = held.may_have;
-        owner = refl;
-        stored = refl;
-        deeper = refl;
+          found = rooted.found;
+          tracker = tracker;
+          kids = kids;
+          below = one.0;
+          here = rooted.here ∙ ap (λ (b : Body). Some (record rooted.found { body = b })) body;
+          limit = rooted.limit;
+          holds = holds;
+          once = once;
+          stored = stored;
+          are = are;
+          is = one.1;
+          inside = one.2;
+        }
+    go entered_plot body holds once stored are = let none : None ≡ Some m = cells (body_in entered_plot) body in absurd (cc)
+    go (whole_plot v) body holds once stored are =
+        let none : None ≡ Some m = cells (body_in (whole_plot v)) body in
+        absurd (cc)
+
+module _ {heap : Heap} {n i m : ℕ} (child : Child heap n i m) where
+  abbrev rest_kids : Kids
+  rest_kids = put_nth i gone child.kids
+
+  pub held : Holds child.plan heap (child_node child.plan child.found.node child.tracker i) (child_owner n i) (suc child.found.depth)
+      (at m true child.below)
+  held =
+      subst (λ (k : Kid). Holds child.plan heap (child_node child.plan child.found.node child.tracker i) (child_owner n i)
+      (suc child.found.depth) k) child.is (holds_nth child.plan heap child.found.node n child.tracker 0 (suc child.found.depth)
+      child.kids i i (omega arith) child.inside child.holds)
+
+  pub nth_uses : (x : ℕ) → uses (kid_nth i child.kids) x ≡ counts_if (nat_eq m x) + uses_in child.below x
+  nth_uses x = ap (λ (k : Kid). uses k x) child.is
+
+  -- it is a place with all that lies beneath it
+  abbrev pub next : IsRooted heap m
+  next = record {
+    plan = child.plan;
+    found = record {
+      node = child_node child.plan child.found.node child.tracker i;
+      owner = child_owner n i;
+      stored = true;
+      depth = suc child.found.depth;
+      body = body_in child.below;
+    };
+    plot = child.below;
+    here = held.0;
+    body = refl;
+    limit = held.1;
+    holds = held.2;
+    once = λ x. omega (arith, nth_uses x, uses_nth i child.kids x, child.once x);
+    stored =
+        (subst (λ (k : Kid). AllMarked true k) child.is (marked_nth true i child.kids child.stored)).1;
+  }
+
+  -- the depths that are left fall
+  pub child_falls : depth_limit - depth_found (heap m) < depth_limit - depth_found (heap n)
+  child_falls =
+      let here : depth_found (heap m) ≡ suc child.found.depth = ap depth_found held.0 in
+      let above : depth_found (heap n) ≡ child.found.depth = ap depth_found child.here in
+      omega (arith, held.1)
+
+  -- the tokens of all that lies beneath the place: those of the other children, of what lies beneath this one, and its own
+  pub child_tokens : (t : ℕ) → slotted_occur (beneath heap n) t
+      ≡ slotted_occur rest_kids t + (slotted_occur (beneath heap m) t + body_occurs (body_in child.below) t)
+  child_tokens t =
+      let all = ap (λ (ks : Kids). slotted_occur ks t) child.are in
+      let own = ap (λ (k : Kid). slotted_occurs k t) child.is in
+      let below = ap (λ (ks : Kids). slotted_occur ks t) (beneath_is heap m next) in
+      omega (arith, slotted_put i child.kids t, plot_tokens child.below t)
+
+  apart : (x : ℕ) → 0 < uses_among child.kids x → x ≢ n
+  apart x h e =
+      let one : counts_if (nat_eq n x) ≡ 1 = ap (λ (y : ℕ). counts_if (nat_eq n y)) e ∙ counts_same n in
+      absurd (omega (arith, child.once x))
+
+  used : 0 < uses_among child.kids m
+  used = omega (arith, nth_uses m, counts_same m, uses_nth i child.kids m)
+
+  -- What lies beneath the child is released.
+  module _ {late : Heap} (later : IsPruned heap late m pruned (beneath heap m)) where
+    pub child_here : late m ≡ Some (record next.found { body = pruned (body_in child.below) })
+    child_here = later.here ∙ body_here heap m pruned held.0
+
+    above_here : late n ≡ heap n
+    above_here =
+        later.rest n (λ e. apart m used (sym e))
+        (omega (arith, beneath_uses heap m next n, nth_uses n, uses_nth i child.kids n, child.once n, counts_same n))
+
+    -- the child leaves its slot
+    module _ (after : Heap) (left : (x : ℕ) → after x ≡ without late m (child_owner n i) x) where
+      after_other : (x : ℕ) → x ≢ n → x ≢ m → after x ≡ late x
+      after_other x a b = left x ∙ body_other (with_slot late m None) n (unlinked m i) x a ∙ slot_other late m None x b
+
+      after_free : after m ≡ None
+      after_free = left m ∙ body_other (with_slot late m None) n (unlinked m i) m (apart m used) ∙ slot_here late m None
+
+      pub after_here : after n ≡ Some (record child.found { body = begun_body child.tracker (cells_in rest_kids) })
+      after_here =
+          left n ∙ body_here (with_slot late m None) n (unlinked m i)
+          (slot_other late m None n (λ e. apart m used (sym e)) ∙ above_here ∙ child.here)
+          ∙ ap (λ (b : Body). Some (record child.found { body = b })) (unlinked_kid child.tracker i m child.kids child.below child.is)
+
+      pub after_same : (x : ℕ) → uses (kid_nth i child.kids) x < uses_among child.kids x → after x ≡ heap x
+      after_same x h =
+          let ne : x ≢ m
+          = λ e. absurd (omega (arith, nth_uses x, child.once x, counts_same m, ap (λ (y : ℕ). counts_if (nat_eq m y)) e)) in
+          after_other x (apart x (omega arith)) ne
+          ∙ later.rest x ne (omega (arith, beneath_uses heap m next x, nth_uses x, child.once x))
+
+      -- the place is held still, with the others beneath it
+      abbrev pub rooted_on : IsRooted after n
+      rooted_on = record {
+        plan = child.plan;
+        found = record child.found { body = begun_body child.tracker (cells_in rest_kids) };
+        plot = begun_plot child.tracker rest_kids;
+        here = after_here;
+        body = refl;
+        limit = child.limit;
+        holds = holds_put_nth child.plan heap after child.found.node n child.tracker 0 (suc child.found.depth) child.kids i i gone
+            (omega arith) after_same child.holds tt;
+        once = λ x. omega (arith, uses_put_nth i gone child.kids x child.inside, child.once x);
+        stored = marked_put_nth true i gone child.kids child.stored tt;
       }
 
-  module _ {m : ℕ} (child : Child before mid n rooted i m) where
-    -- the depths that are left fall
-    pub child_falls : depth_limit - depth_found (mid m) < depth_limit - depth_found (before n)
-    child_falls =
-        let here : depth_found (mid m) ≡ child.below.found.depth = ap depth_found child.below.here in
-        let above : depth_found (before n) ≡ rooted.found.depth = ap depth_found rooted.here in
-        omega (arith, child.deeper, child.below.limit)
+      pub rest_are : beneath after n ≡ rest_kids
+      rest_are = beneath_is after n rooted_on
 
-    child_uses : (x : ℕ) → uses (kid_nth i (beneath before n)) x ≡ counts_if (nat_eq m x) + uses_among (beneath mid m) x
-    child_uses x = ap (λ (k : Kid). uses k x) child.is ∙ omega (arith, beneath_uses mid m child.below x)
+      fewer : (x : ℕ) → uses_among (beneath heap n) x
+          ≡ uses_among (beneath after n) x + (counts_if (nat_eq m x) + uses_among (beneath heap m) x)
+      fewer x =
+          let was = ap (λ (ks : Kids). uses_among ks x) child.are in
+          let now = ap (λ (ks : Kids). uses_among ks x) rest_are in
+          omega (arith, uses_put_nth i gone child.kids x child.inside, nth_uses x, beneath_uses heap m next x)
 
-    pub child_tokens : (t : ℕ) → slotted_occurs (kid_nth i (beneath before n)) t
-        ≡ slotted_occur (beneath mid m) t + body_occurs child.below.found.body t
-    child_tokens t =
-        ap (λ (k : Kid). slotted_occurs k t) child.is ∙ plot_tokens child.below.plot t
-        ∙ ap (λ (ks : Kids). slotted_occur ks t + body_occurs (body_in child.below.plot) t) (sym (beneath_is mid m child.below))
-        ∙ ap (λ (b : Body). slotted_occur (beneath mid m) t + body_occurs b t) (sym child.below.body)
+      pub child_left : IsLeft heap after n
+      child_left = record {
+        here = body_here after n pruned after_here
+            ∙ ap (λ (cs : List Cell). Some (record child.found { body = begun_body child.tracker cs }))
+            (emptied_put i m child.kids child.below child.is)
+            ∙ sym (body_here heap n pruned child.here);
+        depth = ap depth_found after_here ∙ sym (ap depth_found child.here);
+        fewer = λ x. omega (arith, fewer x);
+        free = λ x h none. free x h none (same_or_other x m);
+        rest = λ x a h.
+            let ne : x ≢ m
+            = λ e. absurd (omega (arith, fewer x, counts_same m, ap (λ (y : ℕ). counts_if (nat_eq m y)) e)) in
+            after_other x a ne ∙ later.rest x ne (omega (arith, fewer x));
+      }
+        where
+          free : (x : ℕ) → 0 < uses_among (beneath heap n) x → uses_among (beneath after n) x ≡ 0 → (x ≡ m) ⊎ (x ≢ m)
+              → after x ≡ None
+          free x h none (inl e) = ap after e ∙ after_free
+          free x h none (inr ne) =
+              after_other x (apart x (subst (λ (ks : Kids). 0 < uses_among ks x) child.are h)) ne
+              ∙ later.free x (omega (arith, fewer x, counts_other m x (λ e. ne (sym e))))
 
-    child_used : 0 < uses_among (beneath before n) m
-    child_used = omega (arith, child_uses m, counts_same m, uses_first i (beneath before n) m)
+      -- of the children up to it none is in a slot, and there are as many as before
+      pub none_on : ((j : ℕ) → j < i → slot_at (cells_found (heap n)) j ≡ None) → (j : ℕ) → j < suc i
+          → slot_at (cells_found (after n)) j ≡ None
+      none_on none j h =
+          ap (λ (o : Option Node). slot_at (cells_found o) j) after_here ∙ none_up_to i j child.kids h
+          (λ less. sym (ap (λ (o : Option Node). slot_at (cells_found o) j) child.here) ∙ none j less)
 
-    -- all that the child has beneath it and itself has room
-    module _ (ledger now : List ℕ) (room : Room (slotted_occur (beneath before n)) ledger)
-        (rose : RoseBy (slotted_occur (first_kids i (beneath before n))) ledger now) where
-      pub child_room : Room (both (slotted_occur (beneath mid m)) (body_occurs child.below.found.body)) now
-      child_room =
-          Room_risen (slotted_occur (first_kids i (beneath before n)))
-          (both (slotted_occur (beneath mid m)) (body_occurs child.below.found.body)) ledger now (Room_fewer
-          (both (slotted_occur (first_kids i (beneath before n)))
-          (both (slotted_occur (beneath mid m)) (body_occurs child.below.found.body))) (slotted_occur (beneath before n)) ledger
-          (λ t. omega (arith, child_tokens t, tokens_first i (beneath before n) t)) room) rose
+      pub count_on : length (cells_found (after n)) ≡ length (cells_found (heap n))
+      count_on =
+          ap (λ (o : Option Node). length (cells_found o)) after_here
+          ∙ ap (λ (cs : List Cell). length cs) (sym (cells_gone i child.kids)) ∙ length-set (cells_in child.kids) i absent
+          ∙ sym (ap (λ (o : Option Node). length (cells_found o)) child.here)
 
-      pub below_room : Room (slotted_occur (beneath mid m)) now
-      below_room = Room_left (slotted_occur (beneath mid m)) (body_occurs child.below.found.body) now child_room
+      -- marks
+      pub after_marked : (x : ℕ) → x ≢ m → marked after x ≡ marked late x
+      after_marked x ne = go (same_or_other x n)
+        where
+          go : (x ≡ n) ⊎ (x ≢ n) → marked after x ≡ marked late x
+          go (inl e) =
+              ap (marked after) e ∙ ap stored_in after_here ∙ sym (ap stored_in (above_here ∙ child.here)) ∙ ap (marked late) (sym e)
+          go (inr other) = ap stored_in (after_other x other ne)
 
-    -- What lies beneath the child is released.
-    module _ {late : Heap} (later : IsPruned mid late m pruned (beneath mid m)) where
-      pub child_here : late m ≡ Some (record child.below.found { body = pruned child.below.found.body })
-      child_here = later.here ∙ body_here mid m pruned child.below.found child.below.here
-
-      above_here : late n ≡ Some (record rooted.found { body = pruned_first i rooted.found.body })
-      above_here =
-          later.rest n (λ e. beneath_apart rooted m child_used (sym e))
-          (omega (arith, child_uses n, uses_first i (beneath before n) n, beneath_once rooted n, counts_same n))
-          ∙ still_here
-
-      -- the child leaves its slot
-      module _ (after : Heap) (left : (x : ℕ) → after x ≡ without late m (child_owner n i) x) where
-        after_other : (x : ℕ) → x ≢ n → x ≢ m → after x ≡ late x
-        after_other x a b = left x ∙ body_other (with_slot late m None) n (unlinked m i) x a ∙ slot_other late m None x b
-
-        after_free : after m ≡ None
-        after_free =
-            left m ∙ body_other (with_slot late m None) n (unlinked m i) m (beneath_apart rooted m child_used)
-            ∙ slot_here late m None
-
-        after_here : after n ≡ Some (record rooted.found { body = pruned_first (suc i) rooted.found.body })
-        after_here =
-            left n ∙ body_here (with_slot late m None) n (unlinked m i)
-            (record rooted.found { body = pruned_first i rooted.found.body })
-            (slot_other late m None n (λ e. beneath_apart rooted m child_used (sym e)) ∙ above_here)
-            ∙ ap (λ (b : Body). Some (record rooted.found { body = b }))
-            (ap (λ (b : Body). unlinked m i (pruned_first i b)) child.body
-            ∙ unlinked_first child.tracker i m (count_kids (beneath before n)) (cells_in (beneath before n)) child.may_have
-            (nth_within i m (beneath before n) child.below.plot child.is)
-            (cell_in_slot i m (beneath before n) child.below.plot child.is) ∙ ap (pruned_first (suc i)) (sym child.body))
-
-        first_now : (x : ℕ) → uses_among (first_kids (suc i) (beneath before n)) x
-            ≡ uses_among (first_kids i (beneath before n)) x + (counts_if (nat_eq m x) + uses_among (beneath mid m) x)
-        first_now x = omega (arith, first_uses i (beneath before n) x, child_uses x)
-
-        first_apart : (x : ℕ) → 0 < uses_among (first_kids (suc i) (beneath before n)) x → x ≢ n
-        first_apart x h =
-            beneath_apart rooted x (omega (arith, first_now x, child_uses x, uses_first i (beneath before n) x))
-
-        pub child_left : IsPruned before after n (pruned_first (suc i)) (first_kids (suc i) (beneath before n))
-        child_left = record {
-          here = after_here ∙ sym (body_here before n (pruned_first (suc i)) rooted.found rooted.here);
-          free = λ x h. free x h (same_or_other x m);
-          rest = rest;
-        }
-          where
-            free : (x : ℕ) → 0 < uses_among (first_kids (suc i) (beneath before n)) x → (x ≡ m) ⊎ (x ≢ m) → after x ≡ None
-            free x h (inl e) = ap after e ∙ after_free
-            free x h (inr ne) =
-                let other : counts_if (nat_eq m x) ≡ 0 = counts_other m x (λ e. ne (sym e)) in
-                after_other x (first_apart x h) ne ∙ earlier (used_or_not (uses_among (beneath mid m) x))
-              where
-                earlier : (0 < uses_among (beneath mid m) x) ⊎ (uses_among (beneath mid m) x ≡ 0) → late x ≡ None
-                earlier (inl used) = later.free x used
-                earlier (inr none) =
-                    later.rest x ne none ∙ so_far.free x (omega (arith, first_now x, counts_other m x (λ e. ne (sym e))))
-
-            rest : (x : ℕ) → x ≢ n → uses_among (first_kids (suc i) (beneath before n)) x ≡ 0 → after x ≡ before x
-            rest x a h =
-                let ne : x ≢ m
-                = λ e. absurd (omega (arith, first_now x, counts_same m, ap (λ (y : ℕ). counts_if (nat_eq m y)) e)) in
-                after_other x a ne ∙ later.rest x ne (omega (arith, first_now x)) ∙ so_far.rest x a (omega (arith, first_now x))
-
-        -- marks
-        pub after_marked : (x : ℕ) → x ≢ m → marked after x ≡ marked late x
-        after_marked x ne = go (same_or_other x n)
-          where
-            go : (x ≡ n) ⊎ (x ≢ n) → marked after x ≡ marked late x
-            go (inl e) = ap (marked after) e ∙ ap stored_in after_here ∙ sym (ap stored_in above_here) ∙ ap (marked late) (sym e)
-            go (inr other) = ap stored_in (after_other x other ne)
-
-        pub after_unmarked : marked after m ≡ false
-        after_unmarked = ap stored_in after_free
+      pub after_unmarked : marked after m ≡ false
+      after_unmarked = ap stored_in after_free

@@ -84,23 +84,20 @@ queue_starts k cursor leads = record {
 }
 
 module _ {k : Kid} {cursor : Place} {queue : List ℕ} {head opened at : ℕ} (q : IsQueue k cursor queue head opened at) where
-  listed : List Place
+  abbrev listed : List Place
   listed = stored_among k (q.done ++ q.waiting)
 
   listed_placed : All (IsPlaced k) listed
-  unfolding listed
   listed_placed = All-filter (λ p. stored_here (kid_at p k)) (IsPlaced k) (q.done ++ q.waiting) q.spreading.placed
 
   -- no slot is written twice
   pub written_once : ((n : ℕ) → uses k n ≤ 1) → AreOnce queue
-  unfolding listed
   written_once once =
       subst AreOnce (sym q.queue_is) (slots_once k once (ComesEarlier k) (earlier_differs k) listed listed_placed
       (pairs_filter (ComesEarlier k) (λ p. stored_here (kid_at p k)) (q.done ++ q.waiting) q.spreading.order))
 
   -- each is that of a stored place
   pub written_of : (n : ℕ) → Contains queue n → (p : Place) × IsPlaced k p × IsStoredHere k p × (slot_at k p ≡ n)
-  unfolding listed
   written_of n found =
       let from = of_map (slot_at k) listed n (subst (λ (l : List ℕ). Contains l n) q.queue_is found) in (
         from.0,
@@ -117,14 +114,14 @@ module _ {k : Kid} {cursor : Place} {queue : List ℕ} {head opened at : ℕ} (q
       omega (arith, q.head_is, length-map (stored_among k (q.done ++ q.waiting)) (slot_at k), length-append (stored_among k q.done) (stored_among k q.waiting))
 
   -- the children of the first one that waits are written behind
-  module _ (p : Place) (rest : List Place) (waits : q.waiting ≡ p ∷ rest) where
+  module _ {p : Place} {rest : List Place} (waits : q.waiting ≡ p ∷ rest) where
     spreading_p : IsSpreading k q.done (p ∷ rest)
     spreading_p = subst (λ (l : List Place). IsSpreading k q.done l) waits q.spreading
 
-    goes_on : (added : List Place) → AreChildren k p added → (more : List ℕ) → more ≡ map (slot_at k) (stored_among k added)
-        → (head_then opened_then at_then : ℕ) → head_then ≡ head + length (stored_among k (p ∷ []))
+    goes_on : {added : List Place} → AreChildren k p added → {more : List ℕ} → more ≡ map (slot_at k) (stored_among k added)
+        → {head_then opened_then at_then : ℕ} → head_then ≡ head + length (stored_among k (p ∷ []))
         → Next k cursor (rest ++ added) head_then opened_then at_then → IsQueue k cursor (queue ++ more) head_then opened_then at_then
-    goes_on added are more more_is head_then opened_then at_then head_is next = record {
+    goes_on {added} are more_is head_is next = record {
       done = q.done ++ p ∷ [];
       waiting = rest ++ added;
       spreading = spreads_on k q.done rest p spreading_p added are;
@@ -149,8 +146,7 @@ module _ {k : Kid} {cursor : Place} {queue : List ℕ} {head opened at : ℕ} (q
           → (opened < length cursor + 1) ⊎ (head < length queue) → FirstStored k cursor q.waiting head opened at
       last waiting e over all (inl still) = absurd (omega (arith, over, still))
       last [] e over all (inr less) =
-          let none = ap (λ (l : List Place). length (stored_among k l)) e in
-          absurd (omega (arith, written, less))
+          absurd (omega (arith, ap (λ (l : List Place). length (stored_among k l)) e, written, less))
       last (p ∷ rest) e over all (inr less) = record {
         p = p;
         rest = rest;
@@ -204,7 +200,7 @@ module _ {k : Kid} {cursor : Place} {queue : List ℕ} {head opened at : ℕ} (q
         ∙ ap (λ (l : List Place). map (slot_at k) (stored_among k q.done) ++ map (slot_at k) l) (among_by k first.p first.rest true first.stored)
 
     pub first_placed : IsPlaced k first.p
-    first_placed = p_placed k q.done first.rest first.p (spreading_p first.p first.rest first.waits)
+    first_placed = p_placed k q.done first.rest first.p (spreading_p first.waits)
 
     -- it is written at the head
     pub first_within : head < length queue
@@ -223,8 +219,7 @@ module _ {k : Kid} {cursor : Place} {queue : List ℕ} {head opened at : ℕ} (q
     pub stored_next : (more : List ℕ) → AreClosed k first.p more → IsQueue k cursor (queue ++ more) (head + 1) opened at
     stored_next more closed =
         let one = ap (λ (l : List Place). length l) (among_by k first.p [] true first.stored) in
-        goes_on first.p first.rest first.waits closed.children closed.are more
-        (closed.slots_are ∙ ap (map (slot_at k)) (sym (all_among k closed.children closed.stored))) (head + 1) opened at
+        goes_on first.waits closed.are (closed.slots_are ∙ ap (map (slot_at k)) (sym (all_among k closed.children closed.stored)))
         (omega arith) (first.next closed.children closed.stored)
 
   -- An open place that comes now.
@@ -255,8 +250,7 @@ module _ {k : Kid} {cursor : Place} {queue : List ℕ} {head opened at : ℕ} (q
         → IsQueue k cursor (queue ++ more) head (opened + 1) at_then
     last_next none more closed at_then =
         let last : cursor ≡ o.above = o.on_way ∙ ap (λ (l : Place). o.above ++ l) none ∙ append-nil o.above in
-        goes_on o.above o.after o_waits closed.children closed.are more
-        (closed.slots_are ∙ ap (map (slot_at k)) (sym (all_among k closed.children closed.stored))) head (opened + 1) at_then
+        goes_on o_waits closed.are (closed.slots_are ∙ ap (map (slot_at k)) (sym (all_among k closed.children closed.stored)))
         same_head (inl (
           omega (arith, o.number, ap (λ (l : Place). length l) last),
           All-append (IsStoredHere k) o.after closed.children o.after_stored closed.stored,
@@ -266,8 +260,7 @@ module _ {k : Kid} {cursor : Place} {queue : List ℕ} {head opened at : ℕ} (q
     pub open_next : (j : ℕ) (below : Place) → o.below ≡ j ∷ below → (first last : List ℕ) → AreOpenAt k o.above j first last
         → IsQueue k cursor (queue ++ (first ++ last)) head (opened + 1) (length queue + length first)
     open_next j below on first last open_at =
-        goes_on o.above o.after o_waits (open_at.front ++ (o.above ++ j ∷ []) ∷ open_at.back) open_at.are (first ++ last) more_is head
-        (opened + 1) (length queue + length first) same_head (inr
+        goes_on o_waits open_at.are more_is same_head (inr
         (record {
           above = o.above ++ j ∷ [];
           below = below;
@@ -288,14 +281,12 @@ module _ {k : Kid} {cursor : Place} {queue : List ℕ} {head opened at : ℕ} (q
 
         more_is : first ++ last ≡ map (slot_at k) (stored_among k (open_at.front ++ (o.above ++ j ∷ []) ∷ open_at.back))
         more_is =
-            ap (λ (l : List ℕ). l ++ last) open_at.first_is ∙ ap (λ (l : List ℕ). map (slot_at k) open_at.front ++ l) open_at.last_is
-            ∙ sym (map-append (slot_at k) open_at.front open_at.back) ∙ ap (map (slot_at k))
-            (sym (more_among k open_at.front ((o.above ++ j ∷ []) ∷ open_at.back)
-            ∙ ap (λ (l : List Place). l ++ stored_among k ((o.above ++ j ∷ []) ∷ open_at.back)) (all_among k open_at.front open_at.front_stored)
-            ∙ ap (λ (l : List Place). open_at.front ++ l)
-            (among_by k (o.above ++ j ∷ []) open_at.back false
-            (open_unstored (o.above ++ j ∷ []) below k (subst (λ (c : Place). Leads c k) way leads))
-            ∙ all_among k open_at.back open_at.back_stored)))
+            ap (λ (l : List ℕ). l ++ last) open_at.first_is ∙ ap (λ (l : List ℕ). map (slot_at k) open_at.front ++ l)
+            open_at.last_is ∙ sym (map-append (slot_at k) open_at.front open_at.back) ∙ ap (map (slot_at k))
+            (sym (more_among k open_at.front ((o.above ++ j ∷ []) ∷ open_at.back) ∙ ap (λ (l : List Place). l ++ stored_among
+            k ((o.above ++ j ∷ []) ∷ open_at.back)) (all_among k open_at.front open_at.front_stored) ∙ ap (λ (l : List Place).
+            open_at.front ++ l) (among_by k (o.above ++ j ∷ []) open_at.back false (open_unstored (o.above ++ j ∷ []) below k
+            (subst (λ (c : Place). Leads c k) way leads)) ∙ all_among k open_at.back open_at.back_stored)))
 
         -- all that was written is done, or comes after the open place
         behind_it : length queue ≡ head + length o.after

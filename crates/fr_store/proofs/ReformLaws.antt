@@ -1,9 +1,6 @@
 -- Laws of pointers to slices, for proofs: the top, an open one, is closed, or a closed one opened.
 use Rattle.std.proofs.Common.{◌≡◌, ◌≤◌, ℕ, suc, false, List, [], ◌∷◌, refl, sym, ◌∙◌, ap, subst, arith}
-use Rattle.fr_store.specs.Common.{AllStayPut, AreLeftAll, Heap, Holds, HoldsAll, IsLast, IsLeftRightly, IsOpen, IsOpenAt, ItemsKind, KeepsChildren, Kid, Kids, LosesNone, MayHave, NodeId, Place, Plan, Plot, SameMarks, Shows, Slot, Top, Tracker, Tree, as_items, at, base_of_tracker, begun_plot, body_in, change_at, child_node, child_owner, cursor_in, entered_plot, entry_of, heap_of, kid, kid_here, marked_body, no_kids, open_reach, open_top, put_at, stored_in, top_stands, tree_change_at, tree_here, tree_in, tree_in_slots, tree_of, tree_of_at, tree_put_at, whole_plot, with_body}
-use Rattle.fr_frame.specs.Bodies.{reformed}
-use Rattle.fr_store.specs.MoveLaws.{top_changed_held}
-use Rattle.fr_store.specs.Moves.{IsBegunSlice, IsSlice, begun_as}
+use Rattle.fr_store.specs.Common.{AllStayPut, AreLeftAll, Heap, Holds, HoldsAll, IsBegunSlice, IsLast, IsLeftRightly, IsOpen, IsOpenAt, IsSlice, ItemsKind, KeepsChildren, Kid, Kids, LosesNone, MayHave, NodeId, Place, Plan, Plot, SameMarks, Shows, Slot, Top, Tracker, Tree, as_items, at, base_of_tracker, begun_as, begun_plot, body_in, change_at, child_node, child_owner, cursor_in, entered_plot, entry_of, heap_of, kid, kid_here, marked_body, no_kids, open_reach, open_top, reformed, stored_in, top_changed, top_stands, tree_change_at, tree_here, tree_in, tree_in_slots, tree_of, tree_of_at, tree_put_at, whole_plot, with_body}
 use Rattle.fr_store.proofs.StayLaws.{stay_all, stay_shown}
 
 abbrev pub reformed_plot : Tracker → Plot → Plot
@@ -76,8 +73,8 @@ reformed_keeps tracker (begun_plot made kids) is was = record {
 reformed_keeps tracker _ is was = absurd was
 
 -- The top is one.
-module _ (plan : Plan) (before after : List Slot) (stack : List ℕ) (open_now : IsOpen plan before stack) (n : ℕ)
-    (last : IsLast stack n) (tracker : Tracker) (is : IsSlice tracker) (begun_now : IsBegunSlice (tree_here before stack))
+module _ {plan : Plan} {before : List Slot} (after : List Slot) {stack : List ℕ} (open_now : IsOpen plan before stack)
+    {n : ℕ} (last : IsLast stack n) (tracker : Tracker) (is : IsSlice tracker) (begun_now : IsBegunSlice (tree_here before stack))
     (shows : Shows after (with_body (heap_of before) n (reformed tracker))) where
   abbrev place : Place
   place = cursor_in before stack
@@ -86,7 +83,7 @@ module _ (plan : Plan) (before after : List Slot) (stack : List ℕ) (open_now :
   k = kid_here before stack
 
   abbrev top : Top plan (heap_of before) stack place k
-  top = open_top plan before stack open_now
+  top = open_top open_now
 
   abbrev new : Plot
   new = reformed_plot tracker top.plot
@@ -99,16 +96,14 @@ module _ (plan : Plan) (before after : List Slot) (stack : List ℕ) (open_now :
       let same : change_at place (λ old. tree_in new) (tree_of k) ≡ change_at place (begun_as tracker) (tree_of k)
       = sym (tree_put_at place (at top.slot false new) k) ∙ tree_change_at place (begun_as tracker) (at top.slot false new) k
       (reformed_tree tracker top.plot ∙ ap (begun_as tracker) (ap tree_of (sym top.is) ∙ tree_of_at place k)) in
-      subst (λ (t : Tree). IsOpenAt plan after stack place t) same
-      (top_changed_held plan before after stack open_now n last (reformed tracker) new (reformed_body tracker top.plot) keeps
-      (reformed_loses tracker top.plot) shows)
+      subst (λ (t : Tree). IsOpenAt plan after stack place t) same (top_changed after open_now last (reformed tracker)
+      (reformed_body tracker top.plot) keeps (reformed_loses tracker top.plot) shows)
 
   -- no place leaves its slot
   pub stay_reformed : AllStayPut k (kid_here after stack)
   stay_reformed =
-      stay_shown plan after stack place (put_at place (at top.slot false new) k) k
-      (top_stands plan before after stack open_now n last (reformed tracker) new (reformed_body tracker top.plot) keeps shows)
-      (stay_all place (at top.slot false new) k (open_reach plan before stack open_now)
+      stay_shown after k (top_stands after open_now last (reformed tracker) (reformed_body tracker top.plot) keeps shows)
+      (stay_all place (at top.slot false new) k (open_reach open_now)
       (subst (λ (x : Kid). AllStayPut x (at top.slot false new)) (sym top.is) (reformed_stay top.slot tracker top.plot)))
 
 -- which places are stored is as it was

@@ -3,23 +3,16 @@ use Rattle.std.proofs.Common.{◌≡◌, ℕ, zero, suc, ◌+◌, ◌-◌, ◌<�
 use Rattle.fr_store.specs.Common.{IsNonDecreasingBy, StoredPlace, filter, is_between, key_of}
 use Rattle.std.specs.List.Sorted.{IsPartitionPoint}
 use borrow.Author.Tests.{ltb-true, ltb-false}
-use Rattle.std.proofs.lemmas.Bool.Decides.{nat_tests}
-use Rattle.std.proofs.lemmas.Grind.{common_steps}
+use Rattle.std.proofs.lemmas.Bool.{lt-ltb, le-ltb}
 use Rattle.std.proofs.lemmas.List.{take_rest, get_or_default, get_or-drop, length-drop}
 use Rattle.fr_store.proofs.PairLaws.{filter_none}
 
 -- What the test says.
 
-pub below_told : (m n : ℕ) → m < n → ltb m n ≡ true
-below_told m n h = grind (arith, common_steps, nat_tests)
-
-pub not_below : (m n : ℕ) → n ≤ m → ltb m n ≡ false
-not_below m n h = grind (arith, common_steps, nat_tests)
-
 pub between_is : (from to : ℕ) (place : StoredPlace) → from ≤ key_of place → key_of place < to → is_between from to place ≡ true
 between_is from to place low high =
-    ap (λ (b : Bool). cond b false (ltb (key_of place) to)) (not_below (key_of place) from low)
-    ∙ below_told (key_of place) to high
+    ap (λ (b : Bool). cond b false (ltb (key_of place) to)) (le-ltb (key_of place) from low)
+    ∙ lt-ltb (key_of place) to high
 
 pub between_told : (from to : ℕ) (place : StoredPlace) → is_between from to place ≡ true
     → (from ≤ key_of place) × (key_of place < to)
@@ -31,14 +24,14 @@ between_told from to place is = go (ltb (key_of place) from) refl is
     go false e h = (ltb-false (key_of place) from e, ltb-true (key_of place) to h)
 
 pub too_low : (from to : ℕ) (place : StoredPlace) → key_of place < from → is_between from to place ≡ false
-too_low from to place h = ap (λ (b : Bool). cond b false (ltb (key_of place) to)) (below_told (key_of place) from h)
+too_low from to place h = ap (λ (b : Bool). cond b false (ltb (key_of place) to)) (lt-ltb (key_of place) from h)
 
 pub too_high : (from to : ℕ) (place : StoredPlace) → to ≤ key_of place → is_between from to place ≡ false
 too_high from to place h = go (ltb (key_of place) from)
   where
     go : (b : Bool) → cond b false (ltb (key_of place) to) ≡ false
     go true = refl
-    go false = not_below (key_of place) to h
+    go false = le-ltb (key_of place) to h
 
 -- nothing is in no range
 pub between_none : (from : ℕ) (places : List StoredPlace) → filter (is_between from from) places ≡ []

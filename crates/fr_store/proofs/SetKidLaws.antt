@@ -77,29 +77,26 @@ unplaced_item ks v closed = go (has_same_cell v (cells_in ks))
 
 pub set_left : (i : ℕ) (ks : Kids) → AreUnplaced (cells_in ks) → AreLeftAll (as_items ItemsKind.Set) i ks
 set_left i no_kids closed = omega arith
-set_left i (kid gone ks) closed = (refl, tt, set_left (suc i) ks closed.1)
-set_left i (kid (there v) ks) closed = (refl, tt, set_left (suc i) ks closed.1)
 set_left i (kid (at slot stored plot) ks) closed = absurd closed.0
+set_left i (kid _ ks) closed = (refl, tt, set_left (suc i) ks closed.1)
 
 -- Of a set's items but the one on the way none is in a slot.
 
 among_unplaced : (i : ℕ) (ks : Kids) → AllMarkedAmong true ks → AreLeftAll (as_items ItemsKind.Set) i ks → AreUnplaced (cells_in ks)
 among_unplaced i no_kids marks left = tt
-among_unplaced i (kid gone ks) marks left = (tt, among_unplaced (suc i) ks marks.1 left.2)
-among_unplaced i (kid (there v) ks) marks left = (tt, among_unplaced (suc i) ks marks.1 left.2)
 among_unplaced i (kid (at slot stored plot) ks) marks left =
     let apart : true ≡ false = sym marks.0.0 ∙ left.0 in
     absurd (cc)
+among_unplaced i (kid _ ks) marks left = (tt, among_unplaced (suc i) ks marks.1 left.2)
 
 pub others_unplaced : (i first : ℕ) (Below : Kid → Type 0) (ks : Kids) → StoredBut i Below ks → AreLeftAll (as_items ItemsKind.Set) first ks
     → AreUnplaced (cells_in (put_nth i gone ks))
 others_unplaced i first Below no_kids but left = absurd but
 others_unplaced zero first Below (kid k ks) but left = (tt, among_unplaced (suc first) ks but.1 left.2)
-others_unplaced (suc i) first Below (kid gone ks) but left = (tt, others_unplaced i (suc first) Below ks but.1 left.2)
-others_unplaced (suc i) first Below (kid (there v) ks) but left = (tt, others_unplaced i (suc first) Below ks but.1 left.2)
 others_unplaced (suc i) first Below (kid (at slot stored plot) ks) but left =
     let apart : true ≡ false = sym but.0.0 ∙ left.0 in
     absurd (cc)
+others_unplaced (suc i) first Below (kid _ ks) but left = (tt, others_unplaced i (suc first) Below ks but.1 left.2)
 
 pub set_tracker : (tracker : Tracker) → is_set_tracker tracker ≡ true → tracker ≡ as_items ItemsKind.Set
 set_tracker (as_items ItemsKind.Set) of_set = refl
@@ -109,7 +106,7 @@ beside_unplaced : (i j : ℕ) (ks : Kids) (way : Place) → i ≢ j → AreUnpla
     → IsPlaced (kid_nth j ks) way → ⊥
 beside_unplaced i j no_kids way unlike closed lies = not_placed gone way tt lies
 beside_unplaced zero zero (kid k ks) way unlike closed lies = unlike refl
-beside_unplaced zero (suc j) (kid k ks) way unlike closed lies = none_below j ks way closed.1 lies
+beside_unplaced zero (suc j) (kid k ks) way unlike closed lies = none_below j ks closed.1 lies
 beside_unplaced (suc i) zero (kid k ks) way unlike closed lies = not_placed k way closed.0 lies
 beside_unplaced (suc i) (suc j) (kid k ks) way unlike closed lies =
     beside_unplaced i j ks way (λ e. unlike (ap suc e)) closed.1 lies
@@ -122,6 +119,5 @@ only_placed i j ks way closed slot stored plot is shut lies = go (same_or_other 
     go : (i ≡ j) ⊎ (i ≢ j) → (way : Place) → IsPlaced (kid_nth j ks) way → j ∷ way ≡ i ∷ []
     go (inl e) [] lies = ap (λ (m : ℕ). m ∷ []) (sym e)
     go (inl e) (m ∷ way) lies =
-        absurd (closed_below (kid_nth i ks) slot stored plot is shut m way
-        (subst (λ (x : ℕ). IsPlaced (kid_nth x ks) (m ∷ way)) (sym e) lies))
+        absurd (closed_below is shut m way (subst (λ (x : ℕ). IsPlaced (kid_nth x ks) (m ∷ way)) (sym e) lies))
     go (inr unlike) way lies = absurd (beside_unplaced i j ks way unlike closed lies)

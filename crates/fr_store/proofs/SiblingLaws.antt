@@ -43,10 +43,7 @@ module _ (k : Kid) (p : Place) where
       orders : y.order ≤ x.order
       orders =
           let parent : x.parent ≡ y.parent = one.parent ∙ sym two.parent in
-          let le = so.0 in
-          let small = one.narrow.1 in
-          let other = two.narrow.1 in
-          omega arith
+          omega (arith, so.0, one.narrow.1, two.narrow.1)
 
       apart : order_below y.number (kid_at p k) ≢ order_below x.number (kid_at p k)
       apart e = so.1 (sym (told_below (kid_at p k) y.number x.number two.narrow.0 one.narrow.0 e))
@@ -124,8 +121,8 @@ module _ {k : Kid} {places : List StoredPlace} (are : AreSorted k places) (p : P
             let at_least = keys.0 in
             let less = keys.1 in
             let parent : x.parent ≡ slot_at k p = omega arith in
-            subst (IsStoredChildOf k x) (same_place child.0 p k are.once (placed_above child.0 (x.number ∷ []) k child.1.placed)
-            placed (sym child.1.parent ∙ parent)) child.1
+            subst (IsStoredChildOf k x) (same_place are.once (placed_above child.0 (x.number ∷ []) child.1.placed) placed
+            (sym child.1.parent ∙ parent)) child.1
 
     so_each : All (IsChildOf k p) (found from to)
     so_each i d h =
@@ -164,7 +161,7 @@ module _ {k : Kid} {places : List StoredPlace} (are : AreSorted k places) (p : P
   among i child is =
       let from = of_map slot_of places (slot_at k (p ++ i ∷ [])) (are.stored.all (p ++ i ∷ []) child is) in
       let its = All-contains (λ (place : StoredPlace). (above : Place) × IsStoredChildOf k place above) places from.0 are.stored.each from.1 in
-      let ways = same_place (child_of its.0 from.0) (p ++ i ∷ []) k are.once its.1.placed child (sym its.1.slot ∙ from.2) in (
+      let ways = same_place are.once its.1.placed child (sym its.1.slot ∙ from.2) in (
         from.0,
         from.1,
         its.1.parent ∙ ap (slot_at k) (same_front its.0 p from.0.number i ways),
@@ -243,8 +240,7 @@ module _ {k : Kid} {places : List StoredPlace} (are : AreSorted k places) (p : P
         let at_least = (between_told middle high y (kept middle high above_low (omega arith) m e g).1).0 in (
           omega arith,
           λ same.
-              let key = same_key k p x y (each_front i d h) (each_back m e g) same in
-              omega arith,
+              omega (arith, same_key k p x y (each_front i d h) (each_back m e g) same),
         ))
 
     split : map (child_of p) (front ++ x_j ∷ back) ≡ map (child_of p) front ++ (p ++ j ∷ []) ∷ map (child_of p) back

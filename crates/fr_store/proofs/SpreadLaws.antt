@@ -119,9 +119,8 @@ reached k done s front [] at placed = subst (Contains done) (sym (append-nil fro
 reached k done s front (i ∷ back) at placed =
     let longer : (front ++ i ∷ []) ++ back ≡ front ++ i ∷ back = append_assoc front (i ∷ []) back in
     let placed_on : IsPlaced k ((front ++ i ∷ []) ++ back) = subst (IsPlaced k) (sym longer) placed in
-    subst (Contains done) longer (reached k done s (front ++ i ∷ []) back
-    (subst (λ (l : List Place). Contains l (front ++ i ∷ [])) (append-nil done)
-    (s.children front i at (placed_above (front ++ i ∷ []) back k placed_on))) placed_on)
+    subst (Contains done) longer (reached k done s (front ++ i ∷ []) back (subst (λ (l : List Place). Contains
+    l (front ++ i ∷ [])) (append-nil done) (s.children front i at (placed_above (front ++ i ∷ []) back placed_on))) placed_on)
 
 pub all_reached : (k : Kid) (done : List Place) → IsSpreading k done [] → (place : Place) → IsPlaced k place → Contains done place
 all_reached k done s place placed =

@@ -1,8 +1,9 @@
 -- The steps of the loop that writes down all stored places.
 use Rattle.std.proofs.Common.{◌≡◌, ◌≢◌, ◌⊎◌, ℕ, zero, suc, ◌+◌, ◌<◌, ◌≤◌, List, [], ◌∷◌, ◌++◌, length, length-append, get_or, map, slice_get, take, append_assoc, append-nil, Some, inl, inr, refl, sym, ◌∙◌, ap, subst, arith}
-use Rattle.fr_store.specs.Common.{AreAllStored, Contains, HasOwner, IsKeyOf, IsNonDecreasingBy, IsOpen, IsPlaced, IsSomeAnd, IsSpread, IsStoredChildOf, Kid, Leads, Node, Place, Plan, Slot, SlotId, StoredPlace, cursor_shown, first_key, heap_of, key_of, kid_shown, numbers, slot_at, slot_of, slots_along, slots_between, slots_of}
+use Rattle.fr_store.specs.Common.{AreAllStored, Contains, HasOwner, IsKeyOf, IsNonDecreasingBy, IsOpened, IsPlaced, IsSomeAnd, IsSpread, IsStoredChildOf, Kid, Leads, Node, Place, Plan, Slot, SlotId, StoredPlace, cursor_shown, first_key, heap_of, key_of, kid_shown, numbers, slot_at, slot_of, slots_along, slots_between, slots_of}
 use Rattle.std.proofs.lemmas.List.{get_or-take, length-map, length-take-le}
 use Rattle.std.proofs.lemmas.List.Elements.{All-contains}
+use Rattle.std.proofs.lemmas.Option.{none-some, slice_get-get_or, slice_get_past}
 use Rattle.fr_store.specs.Numbers.{number_of}
 use Rattle.fr_store.specs.Places.{child_of}
 use Rattle.fr_store.proofs.PairLaws.{fits, in_map, of_map}
@@ -13,43 +14,27 @@ use Rattle.fr_store.proofs.SiblingLaws.{AreSorted, closed_children, none_of_last
 use Rattle.fr_store.proofs.SpreadLaws.{AreClosed}
 use Rattle.fr_store.proofs.StoredLaws.{child_key, child_owned}
 
-get_there : (xs : List ℕ) (i d : ℕ) → i < length xs → slice_get xs i ≡ Some (get_or xs i d)
-get_there [] i d h = absurd (omega arith)
-get_there (x ∷ xs) zero d h = refl
-get_there (x ∷ xs) (suc i) d h = get_there xs i d (omega arith)
-
-get_past : (xs : List ℕ) (i n : ℕ) → length xs ≤ i → slice_get xs i ≡ Some n → ⊥
-get_past [] i n h e = cc
-get_past (x ∷ xs) zero n h e = absurd (omega arith)
-get_past (x ∷ xs) (suc i) n h e = get_past xs i n (omega arith) e
-
-pub number_read : (slots : List SlotId) (i e : ℕ) (d : SlotId) → i < length slots
-    → number_of (get_or slots i d) ≡ get_or (numbers slots) i e
-number_read [] i e d h = absurd (omega arith)
-number_read (s ∷ slots) zero e d h = refl
-number_read (s ∷ slots) (suc i) e d h = number_read slots i e d (omega arith)
-
 -- What is known at the start, and how far it got.
-pub record Spreading (plan : Plan) (slots : List Slot) (stack : List ℕ) (places : List StoredPlace) (order : List ℕ) (count head opened at : ℕ) : Type 0 where
-  pub is_open : IsOpen plan slots stack
+pub record Spreading (slots : List Slot) (stack : List ℕ) (places : List StoredPlace) (order : List ℕ) (count head opened at : ℕ) : Type 0 where
+  pub builder : IsOpened slots stack
   pub all : AreSorted (kid_shown (heap_of slots) stack) places
   pub long : length places ≤ length order
   pub queue : IsQueue (kid_shown (heap_of slots) stack) (cursor_shown (heap_of slots) stack) (take count order) head opened at
   pub room : count ≤ length places
 
-pub spread_starts : (plan : Plan) (slots : List Slot) (stack : List ℕ) (is_open : IsOpen plan slots stack) (places : List StoredPlace)
+pub spread_starts : {slots : List Slot} {stack : List ℕ} (builder : IsOpened slots stack) {places : List StoredPlace}
     → AreAllStored (kid_shown (heap_of slots) stack) places → IsNonDecreasingBy key_of places → (order : List ℕ)
-    → length places ≤ length order → Spreading plan slots stack places order 0 0 0 0
-spread_starts plan slots stack is_open places stored sorted order long = record {
-  is_open = is_open;
-  all = record { once = is_open.stands.once; stored = stored; sorted = sorted };
+    → length places ≤ length order → Spreading slots stack places order 0 0 0 0
+spread_starts {slots = slots} {stack = stack} builder stored sorted order long = record {
+  builder = builder;
+  all = record { once = builder.is_open.stands.once; stored = stored; sorted = sorted };
   long = long;
-  queue = queue_starts (kid_shown (heap_of slots) stack) (cursor_shown (heap_of slots) stack) is_open.stands.leads;
+  queue = queue_starts (kid_shown (heap_of slots) stack) (cursor_shown (heap_of slots) stack) builder.is_open.stands.leads;
   room = omega arith;
 }
 
-module _ {plan : Plan} {slots : List Slot} {stack : List ℕ} {places : List StoredPlace} {order : List ℕ} {count head opened at : ℕ}
-    (s : Spreading plan slots stack places order count head opened at) where
+module _ {slots : List Slot} {stack : List ℕ} {places : List StoredPlace} {order : List ℕ} {count head opened at : ℕ}
+    (s : Spreading slots stack places order count head opened at) where
   abbrev k : Kid
   k = kid_shown (heap_of slots) stack
 
@@ -57,10 +42,10 @@ module _ {plan : Plan} {slots : List Slot} {stack : List ℕ} {places : List Sto
   cursor = cursor_shown (heap_of slots) stack
 
   leads : Leads (cursor_shown (heap_of slots) stack) (kid_shown (heap_of slots) stack)
-  leads = s.is_open.stands.leads
+  leads = s.builder.is_open.stands.leads
 
   stack_long : length stack ≡ length (cursor_shown (heap_of slots) stack) + 1
-  stack_long = ap (λ (l : List ℕ). length l) s.is_open.stands.along ∙ along_long cursor k leads
+  stack_long = ap (λ (l : List ℕ). length l) s.builder.is_open.stands.along ∙ along_long cursor k leads
 
   written_long : length (take count order) ≡ count
   written_long = let room = s.room in let long = s.long in length-take-le count order (omega arith)
@@ -75,9 +60,9 @@ module _ {plan : Plan} {slots : List Slot} {stack : List ℕ} {places : List Sto
 
   state_then : (more after : List ℕ) (next h o a : ℕ) → IsQueue k cursor (take count order ++ more) h o a → next ≡ count + length more
       → take next after ≡ take count order ++ more → length after ≡ length order
-      → Spreading plan slots stack places after next h o a
+      → Spreading slots stack places after next h o a
   state_then more after next h o a q counted added long = record {
-    is_open = s.is_open;
+    builder = s.builder;
     all = s.all;
     long = let enough = s.long in omega arith;
     queue = subst (λ (l : List ℕ). IsQueue k cursor l h o a) (sym added) q;
@@ -114,7 +99,7 @@ module _ {plan : Plan} {slots : List Slot} {stack : List ℕ} {places : List Sto
         (arith, written_long, room_then (take count order ++ more) (head + 1) opened at stored_then, length-append (take count order) more)
 
     pub stored_step : (after : List ℕ) (next : ℕ) → next ≡ count + length more → take next after ≡ take count order ++ more
-        → length after ≡ length order → Spreading plan slots stack places after next (head + 1) opened at
+        → length after ≡ length order → Spreading slots stack places after next (head + 1) opened at
     stored_step after next counted added long = state_then more after next (head + 1) opened at stored_then counted added long
 
   -- An open place.
@@ -129,7 +114,7 @@ module _ {plan : Plan} {slots : List Slot} {stack : List ℕ} {places : List Sto
     way_long = ap (λ (l : Place). length l) o.on_way ∙ length-append o.above o.below
 
     placed : IsPlaced (kid_shown (heap_of slots) stack) o.above
-    placed = open_placed o.above o.below k (subst (λ (c : Place). Leads c k) o.on_way leads)
+    placed = open_placed o.above o.below (subst (λ (c : Place). Leads c k) o.on_way leads)
 
     -- the next one on the stack
     module _ (j : ℕ) (below : Place) (e : o.below ≡ j ∷ below) where
@@ -140,7 +125,7 @@ module _ {plan : Plan} {slots : List Slot} {stack : List ℕ} {places : List Sto
       next_leads = subst (λ (c : Place). Leads c k) way leads
 
       next_placed : IsPlaced k (o.above ++ j ∷ [])
-      next_placed = open_placed (o.above ++ j ∷ []) below k next_leads
+      next_placed = open_placed (o.above ++ j ∷ []) below next_leads
 
       -- where it lies
       next_at : slice_get (numbers on_stack) (opened + 1) ≡ Some (slot_at k (o.above ++ j ∷ []))
@@ -149,10 +134,10 @@ module _ {plan : Plan} {slots : List Slot} {stack : List ℕ} {places : List Sto
           = ap (λ (l : Place). length l) way ∙ length-append (o.above ++ j ∷ []) below in
           let one : length (o.above ++ j ∷ []) ≡ length o.above + 1 = length-append o.above (j ∷ []) in
           let long = stack_long in
-          ap (λ (l : List ℕ). slice_get l (opened + 1)) same ∙ get_there stack (opened + 1) 0 (omega (arith, o.number))
+          ap (λ (l : List ℕ). slice_get l (opened + 1)) same ∙ slice_get-get_or stack (opened + 1) 0 (omega (arith, o.number))
           ∙ ap (λ (m : ℕ). Some m)
-          (ap (λ (l : List ℕ). get_or l (opened + 1) 0) (s.is_open.stands.along ∙ ap (λ (c : Place). slots_along c k) way)
-          ∙ along_nth (o.above ++ j ∷ []) below k (opened + 1) 0 next_leads (omega (arith, o.number, one)))
+          (ap (λ (l : List ℕ). get_or l (opened + 1) 0) (s.builder.is_open.stands.along ∙ ap (λ (c : Place). slots_along c k) way)
+          ∙ along_nth (o.above ++ j ∷ []) below k {i = opened + 1} 0 next_leads (omega (arith, o.number, one)))
 
     pub open_owned : (n : ℕ) → slice_get (numbers on_stack) (opened + 1) ≡ Some n
         → IsSomeAnd (heap_of slots n) (λ (found : Node). HasOwner found.owner)
@@ -161,16 +146,15 @@ module _ {plan : Plan} {slots : List Slot} {stack : List ℕ} {places : List Sto
         go : (below : Place) → o.below ≡ below → IsSomeAnd (heap_of slots n) (λ (found : Node). HasOwner found.owner)
         go [] e =
             let none = ap (λ (l : Place). length l) e in
-            let long = stack_long in
-            absurd (get_past stack (opened + 1) n (omega (arith, o.number, way_long))
-            (ap (λ (l : List ℕ). slice_get l (opened + 1)) (sym same) ∙ told))
+            absurd (none-some n (sym (slice_get_past stack (opened + 1) (omega (arith, stack_long, o.number, way_long)))
+            ∙ ap (λ (l : List ℕ). slice_get l (opened + 1)) (sym same) ∙ told))
         go (j ∷ below) e =
             let both : Some (slot_at k (o.above ++ j ∷ [])) ≡ Some n = sym (next_at j below e) ∙ told in
             let is : slot_at k (o.above ++ j ∷ []) ≡ n = cc in
             subst (λ (m : ℕ). IsSomeAnd (heap_of slots m) (λ (found : Node). HasOwner found.owner)) is
-            (child_owned plan (heap_of slots) stack cursor k s.is_open.stands o.above j (next_placed j below e))
+            (child_owned s.builder.is_open.stands o.above j (next_placed j below e))
 
-    module _ (n middle : ℕ) (read : n ≡ get_or stack opened 0)
+    module _ {n middle : ℕ} (read : n ≡ get_or stack opened 0)
         (key : (m : ℕ) → slice_get (numbers on_stack) (opened + 1) ≡ Some m
         → IsSomeAnd (heap_of slots m) (λ (found : Node). IsKeyOf (heap_of slots) middle found.owner))
         (none : length on_stack ≤ opened + 1 → middle ≡ first_key n + 4294967296) where
@@ -182,8 +166,8 @@ module _ {plan : Plan} {slots : List Slot} {stack : List ℕ} {places : List Sto
 
       slot_is : n ≡ slot_at k o.above
       slot_is =
-          read ∙ ap (λ (l : List ℕ). get_or l opened 0) (s.is_open.stands.along ∙ ap (λ (c : Place). slots_along c k) o.on_way)
-          ∙ along_nth o.above o.below k opened 0 (subst (λ (c : Place). Leads c k) o.on_way leads) o.number
+          read ∙ ap (λ (l : List ℕ). get_or l opened 0) (s.builder.is_open.stands.along ∙ ap (λ (c : Place). slots_along c k) o.on_way)
+          ∙ along_nth o.above o.below k 0 (subst (λ (c : Place). Leads c k) o.on_way leads) o.number
 
       open_then : IsQueue k cursor (take count order ++ (before ++ after)) head (opened + 1) (count + length before)
       open_then = go o.below refl
@@ -203,15 +187,15 @@ module _ {plan : Plan} {slots : List Slot} {stack : List ℕ} {places : List Sto
               (closed_children s.all o.above placed (none_of_last k cursor leads o.above
               (o.on_way ∙ ap (λ (l : Place). o.above ++ l) e ∙ append-nil o.above)))) (count + length before)
           go (j ∷ below) e =
-              let told = child_key plan (heap_of slots) stack cursor k s.is_open.stands o.above j middle (next_placed j below e)
+              let told = child_key s.builder.is_open.stands o.above j middle (next_placed j below e)
               (key (slot_at k (o.above ++ j ∷ [])) (next_at j below e)) in
-              subst (λ (m : ℕ). IsQueue k cursor (take count order ++ (before ++ after)) head (opened + 1) (m + length before)) written_long
-              (subst (λ (m : ℕ). IsQueue k cursor (take count order ++ (slots_between (first_key m) middle places
-              ++ slots_between middle (first_key m + 4294967296) places)) head (opened + 1)
-              (length (take count order) + length (slots_between (first_key m) middle places))) (sym slot_is)
+              subst (λ (m : ℕ). IsQueue k cursor (take count order ++ (before ++ after)) head (opened + 1) (m + length before))
+              written_long (subst (λ (m : ℕ). IsQueue k cursor (take count
+              order ++ (slots_between (first_key m) middle places ++ slots_between middle (first_key m + 4294967296) places))
+              head (opened + 1) (length (take count order) + length (slots_between (first_key m) middle places))) (sym slot_is)
               (open_next s.queue leads o now j below e (slots_between (first_key (slot_at k o.above)) middle places)
-              (slots_between middle (first_key (slot_at k o.above) + 4294967296) places) (open_children s.all o.above placed j middle
-              (next_placed j below e) (open_unstored (o.above ++ j ∷ []) below k (next_leads j below e)) told.0 told.1
+              (slots_between middle (first_key (slot_at k o.above) + 4294967296) places) (open_children s.all o.above placed
+              j middle (next_placed j below e) (open_unstored (o.above ++ j ∷ []) below k (next_leads j below e)) told.0 told.1
               (one_of_open k cursor leads o.above j below (o.on_way ∙ ap (λ (l : Place). o.above ++ l) e)))))
 
       pub open_room : count + length before + length after ≤ length places
@@ -219,11 +203,11 @@ module _ {plan : Plan} {slots : List Slot} {stack : List ℕ} {places : List Sto
           omega
           (arith, written_long, room_then (take count order ++ (before ++ after)) head (opened + 1) (count + length before) open_then, length-append (take count order) (before ++ after), length-append before after)
 
-      pub open_step : (first last : List ℕ) (mid next : ℕ) → mid ≡ count + length before
+      pub open_step : (first last : List ℕ) {mid next : ℕ} → mid ≡ count + length before
           → take mid first ≡ take count order ++ before → next ≡ mid + length after
           → take next last ≡ take mid first ++ after → length last ≡ length order
-          → Spreading plan slots stack places last next head (opened + 1) mid
-      open_step first last mid next mid_is first_is next_is last_is long =
+          → Spreading slots stack places last next head (opened + 1) mid
+      open_step first last {mid} {next} mid_is first_is next_is last_is long =
           state_then (before ++ after) last next head (opened + 1) mid
           (subst (λ (m : ℕ). IsQueue k cursor (take count order ++ (before ++ after)) head (opened + 1) m) (sym mid_is) open_then)
           (omega (arith, mid_is, next_is, length-append before after)) (last_is ∙ ap (λ (l : List ℕ). l ++ after) first_is

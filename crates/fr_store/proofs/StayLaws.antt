@@ -1,10 +1,6 @@
 -- Laws of places that stay in their slots, for proofs: where what lies at one place is replaced, all beside it stays.
 use Rattle.std.proofs.Common.{◌≡◌, ◌≢◌, ◌⊎◌, ℕ, zero, suc, ◌<◌, Bool, List, [], ◌∷◌, ◌++◌, append-nil, inl, inr, refl, sym, ◌∙◌, ap, subst}
-use Rattle.fr_store.specs.Common.{AllStayPut, AreUnplaced, FrameOwner, IsClosed, IsHere, IsOpen, IsPlaced, IsUnplaced, Kid, Kids, Place, Plan, Plot, Reaches, Shows, Slot, Stands, StayPutBut, StayPutButBeneath, at, begun_plot, body_in, cell_of, cells_in, cursor_shown, entered_plot, gone, heap_of, kid, kid_at, kid_here, kid_is, kid_nth, no_kids, nth_put, put_at, put_nth, same_or_other, slot_at, slot_here, whole_plot}
-use Rattle.fr_store.specs.HoldLaws.{holds_frame}
-use Rattle.fr_store.specs.OffLaws.{nth_other}
-use Rattle.fr_store.specs.Staying.{StaysPut}
-use Rattle.fr_store.specs.WayLaws.{count_put}
+use Rattle.fr_store.specs.Common.{AllStayPut, AreUnplaced, FrameOwner, IsClosed, IsHere, IsOpen, IsPlaced, IsUnplaced, Kid, Kids, Place, Plan, Plot, Reaches, Shows, Slot, Stands, StayPutBut, StayPutButBeneath, StaysPut, at, begun_plot, body_in, cell_of, cells_in, count_put, entered_plot, gone, heap_of, holds_frame, kid, kid_at, kid_here, kid_is, kid_nth, no_kids, nth_other, nth_put, put_at, put_nth, same_or_other, slot_at, slot_here, whole_plot}
 
 pub stay_same : (k : Kid) → AllStayPut k k
 stay_same k place placed = (placed, refl)
@@ -65,9 +61,9 @@ stay_all part new k reach within place = stay_at part new k reach place (λ rest
 -- Within one place.
 
 -- it is marked anew
-pub stay_marked : (old new : Kid) (slot : ℕ) (was mark : Bool) (plot : Plot) → old ≡ at slot was plot
-    → new ≡ at slot mark plot → AllStayPut old new
-stay_marked old new slot was mark plot e f =
+pub stay_marked : {old new : Kid} {slot : ℕ} {was mark : Bool} {plot : Plot} → old ≡ at slot was plot → new ≡ at slot mark plot
+    → AllStayPut old new
+stay_marked {new} {slot} {was} {mark} {plot} e f =
     subst (λ (x : Kid). AllStayPut x new) (sym e) (subst (λ (x : Kid). AllStayPut (at slot was plot) x) (sym f) go)
   where
     go : AllStayPut (at slot was plot) (at slot mark plot)
@@ -84,37 +80,37 @@ pub stay_unplaced : (old new : Kid) → IsUnplaced (cell_of old) → AllStayPut 
 stay_unplaced old new unplaced place placed = absurd (not_placed old place unplaced placed)
 
 -- none of its children lay in a slot
-pub none_below : (i : ℕ) (ks : Kids) (place : Place) → AreUnplaced (cells_in ks) → IsPlaced (kid_nth i ks) place → ⊥
-none_below i no_kids place closed placed = not_placed gone place tt placed
-none_below zero (kid k ks) place closed placed = not_placed k place closed.0 placed
-none_below (suc i) (kid k ks) place closed placed = none_below i ks place closed.1 placed
+pub none_below : (i : ℕ) (ks : Kids) {place : Place} → AreUnplaced (cells_in ks) → IsPlaced (kid_nth i ks) place → ⊥
+none_below i no_kids {place} closed placed = not_placed gone place tt placed
+none_below zero (kid k ks) {place} closed placed = not_placed k place closed.0 placed
+none_below (suc i) (kid k ks) {place} closed placed = none_below i ks closed.1 placed
 
-pub closed_below : (old : Kid) (slot : ℕ) (stored : Bool) (plot : Plot) → old ≡ at slot stored plot → IsClosed (body_in plot)
+pub closed_below : {old : Kid} {slot : ℕ} {stored : Bool} {plot : Plot} → old ≡ at slot stored plot → IsClosed (body_in plot)
     → (i : ℕ) (place : Place) → IsPlaced old (i ∷ place) → ⊥
-closed_below old slot stored plot e closed i place placed = go plot closed (subst (λ (x : Kid). IsPlaced x (i ∷ place)) e placed)
+closed_below {slot} {stored} {plot} e closed i place placed
+    = go plot closed (subst (λ (x : Kid). IsPlaced x (i ∷ place)) e placed)
   where
     go : (plot : Plot) → IsClosed (body_in plot) → IsPlaced (at slot stored plot) (i ∷ place) → ⊥
     go entered_plot closed placed = placed.reaches
     go (whole_plot v) closed placed = placed.reaches
     go (begun_plot tracker kids) closed placed =
-        none_below i kids place closed (record { reaches = placed.reaches.1; here = placed.here })
+        none_below i kids closed (record { reaches = placed.reaches.1; here = placed.here })
 
 -- Something else at one place.
 
 -- that was none of whose children lay in a slot, and is in none itself: each place but it stays
-pub stay_but : (part : Place) (new k : Kid) (slot : ℕ) (stored : Bool) (plot : Plot) → Reaches part k
+pub stay_but : (part : Place) (new k : Kid) {slot : ℕ} {stored : Bool} {plot : Plot} → Reaches part k
     → kid_at part k ≡ at slot stored plot → IsClosed (body_in plot) → StayPutBut part k (put_at part new k)
-stay_but part new k slot stored plot reach is closed place ne = stay_at part new k reach place (λ rest e. go rest e)
+stay_but part new k {slot} {stored} {plot} reach is closed place ne = stay_at part new k reach place (λ rest e. go rest e)
   where
     go : (rest : Place) → place ≡ part ++ rest → StaysPut (kid_at part k) new rest
     go [] e placed = absurd (ne (e ∙ append-nil part))
-    go (i ∷ rest) e placed = absurd (closed_below (kid_at part k) slot stored plot is closed i rest placed)
+    go (i ∷ rest) e placed = absurd (closed_below is closed i rest placed)
 
 -- in the same slot: each place that isn't strictly beneath it stays
-pub stay_but_beneath : (part : Place) (new k : Kid) (slot : ℕ) (was mark : Bool) (old plot : Plot) → Reaches part k
+pub stay_but_beneath : (part : Place) {new : Kid} (k : Kid) {slot : ℕ} {was mark : Bool} {old plot : Plot} → Reaches part k
     → kid_at part k ≡ at slot was old → new ≡ at slot mark plot → StayPutButBeneath part k (put_at part new k)
-stay_but_beneath part new k slot was mark old plot reach is now place beside =
-    stay_at part new k reach place (λ rest e. go rest e)
+stay_but_beneath part {new} k reach is now place beside = stay_at part new k reach place (λ rest e. go rest e)
   where
     go : (rest : Place) → place ≡ part ++ rest → StaysPut (kid_at part k) new rest
     go [] e placed =
@@ -125,22 +121,20 @@ stay_but_beneath part new k slot was mark old plot reach is now place beside =
 -- Open builders.
 
 -- what stands is what is shown
-pub stay_shown : (plan : Plan) (slots : List Slot) (stack : List ℕ) (place : Place) (k before : Kid)
+pub stay_shown : {plan : Plan} (slots : List Slot) {stack : List ℕ} {place : Place} {k : Kid} (before : Kid)
     → Stands plan (heap_of slots) stack place k → AllStayPut before k → AllStayPut before (kid_here slots stack)
-stay_shown plan slots stack place k before stands stay =
-    subst (λ (x : Kid). AllStayPut before x) (sym (kid_is plan (heap_of slots) stack place k stands)) stay
+stay_shown {plan} slots {stack} {place} {k} before stands stay =
+    subst (λ (x : Kid). AllStayPut before x) (sym (kid_is stands)) stay
 
 -- slots that show the same
-pub stay_refused : (plan : Plan) (before after : List Slot) (stack : List ℕ) → IsOpen plan before stack
+pub stay_refused : {plan : Plan} {before : List Slot} (after : List Slot) {stack : List ℕ} → IsOpen plan before stack
     → Shows after (heap_of before) → AllStayPut (kid_here before stack) (kid_here after stack)
-stay_refused plan before after stack open_now shows =
-    stay_shown plan after stack (cursor_shown (heap_of before) stack) (kid_here before stack) (kid_here before stack)
-    (record {
-      holds =
-          holds_frame plan (heap_of before) (heap_of after) plan.root FrameOwner.Root 0 (kid_here before stack)
-          open_now.stands.holds (λ n h. shows n);
-      once = open_now.stands.once;
-      leads = open_now.stands.leads;
-      along = open_now.stands.along;
-      left = open_now.stands.left;
-    }) (stay_same (kid_here before stack))
+stay_refused {plan} {before} after {stack} open_now shows = stay_shown after (kid_here before stack) (record {
+  holds =
+      holds_frame plan (heap_of before) (heap_of after) plan.root FrameOwner.Root 0 (kid_here before stack)
+      open_now.stands.holds (λ n h. shows n);
+  once = open_now.stands.once;
+  leads = open_now.stands.leads;
+  along = open_now.stands.along;
+  left = open_now.stands.left;
+}) (stay_same (kid_here before stack))

@@ -1,13 +1,9 @@
 -- Laws of the steps to places in slots, for proofs: they tell in which order the places come.
 use Rattle.std.proofs.Common.{◌≡◌, ◌≢◌, ◌⊎◌, ℕ, zero, suc, ◌+◌, ◌-◌, ◌<◌, ◌≤◌, Bool, true, false, [], ◌∷◌, inl, inr, refl, sym, ◌∙◌, ap, subst, arith, if◌then◌else◌}
-use Rattle.fr_store.specs.Common.{AllMarked, AreLeftAll, AreLeftRightly, EntriesKind, FrameOwner, Heap, Holds, IsHere, IsLeftRightly, IsThere, ItemsKind, Kid, Kids, Leads, Less, MayHave, NodeId, Ordering, PathStep, Place, Plan, Reaches, Tracker, Tree, as_content, as_entries, as_fields, as_items, at, base_of_tracker, begun_plot, child_node, child_owner, count_kids, entry_of, gone, is_key, kid, kid_at, kid_nth, left_nth, marked_nth, may_have_all, no_kids, order_as, ordering_then, same_or_other, slice_cmp, step_as, step_order, steps_in, there, tree_nth, tree_of, tree_of_nth, trees_in}
+use Rattle.std.proofs.lemmas.Bool.{cases_lt}
+use Rattle.fr_store.specs.Common.{AllMarked, AreLeftAll, AreLeftRightly, EntriesKind, FrameOwner, Heap, Holds, IsHere, IsLeftRightly, IsThere, ItemsKind, Kid, Kids, Leads, Less, MayHave, NodeId, Ordering, PathStep, Place, Plan, Reaches, Tracker, Tree, as_content, as_entries, as_fields, as_items, at, base_of_tracker, begun_plot, but_nth, child_node, child_owner, count_kids, entry_of, gone, holds_nth, is_key, is_stored, kid, kid_at, kid_nth, leads_same, left_nth, marked_nth, may_have_all, no_kids, order_as, ordering_then, same_or_other, slice_cmp, step_as, step_itself, step_order, steps_in, takes_at_end_as, there, tree_nth, tree_of, tree_of_nth, trees_in}
 use Rattle.std.specs.Ordering.{nat_cmp}
 use Rattle.std.specs.declared.cmp.Ordering.TheVariants.{Equal}
-use Rattle.fr_path.specs.OrderLaws.{step_itself}
-use Rattle.fr_frame.specs.Kids.{is_stored}
-use Rattle.fr_store.specs.HoldLaws.{holds_nth}
-use Rattle.fr_store.specs.Moves.{takes_at_end_as}
-use Rattle.fr_store.specs.OffLaws.{but_nth, leads_same}
 use Rattle.fr_store.specs.Places.{IsAbove, IsAfter, IsLater}
 use Rattle.fr_store.proofs.PathOrder.{number_less}
 
@@ -23,14 +19,7 @@ halves (suc (suc i)) = let rest = halves i in omega (arith, rest)
 halves _ = refl
 
 pub either_less : (i j : ℕ) → (i < j) ⊎ (j ≤ i)
-either_less zero zero = inr (omega arith)
-either_less zero (suc j) = inl (omega arith)
-either_less (suc i) zero = inr (omega arith)
-either_less (suc i) (suc j) = go (either_less i j)
-  where
-    go : (i < j) ⊎ (j ≤ i) → (suc i < suc j) ⊎ (suc j ≤ suc i)
-    go (inl h) = inl (omega arith)
-    go (inr h) = inr (omega arith)
+either_less i j = cases_lt i j
 
 -- What may be beside each other.
 
@@ -83,7 +72,7 @@ module _ (slot : ℕ) (stored : Bool) (tracker : Tracker) (kids : Kids) where
       go (c ∷ rest) leads = on (same_or_other i c)
         where
           on : (i ≡ c) ⊎ (i ≢ c) → IsByTheWay (kid_nth i kids)
-          on (inl e) = inl (rest, leads_same i c rest kids e leads.1)
+          on (inl e) = inl (rest, leads_same rest kids e leads.1)
           on (inr ne) = inr (but_nth i c (λ below. Leads rest below) kids leads.1 ne)
 
   -- of the children in slots at most one isn't stored

@@ -1,10 +1,7 @@
 -- Laws of leaving the top half done, for proofs: it is stored as it is, and the place above is on top.
 use Rattle.std.proofs.Common.{◌≡◌, ◌↔◌, ℕ, zero, suc, ◌<◌, Bool, true, false, List, [], ◌∷◌, ◌++◌, append-nil, Option, Some, None, IfSome, IsNone, refl, sym, ◌∙◌, ap, subst, arith}
-use Rattle.fr_store.specs.Common.{AllMarked, AllMarkedAmong, AllStayPut, AreLeftAll, AreLeftRightly, Heap, IsLast, IsOpen, IsOpenAt, IsThere, Kid, Kids, Leads, Place, Plan, Reaches, SameTokens, Shows, Slot, SlotId, Stands, StoredBut, Top, Tracker, above_append, at, at_for_at, begun_plot, below_root, count_kids, cursor_in, entered_plot, gone, heap_of, is_root, kid, kid_at, kid_at_append, kid_here, kid_nth, kid_shown, leads_at, leads_reach, left_as, left_at, left_nth, left_put_nth, marked, no_kids, put_append, put_at, put_nth, same_front, same_last, slots_above, slots_along, stored_in, there, top_found, top_of, tree_at, tree_in_slots, tree_of, tree_of_at, up, up_append, whole_plot, with_mark}
+use Rattle.fr_store.specs.Common.{AllMarked, AllMarkedAmong, AllStayPut, AreLeftAll, AreLeftRightly, Heap, IsLast, IsOpen, IsOpenAt, IsThere, Kid, Kids, Leads, Place, Plan, Reaches, Shows, Slot, SlotId, Stands, StoredBut, Top, Tracker, above_append, along_put_at, at, at_for_at, begun_plot, below_root, count_kids, cursor_in, entered_plot, gone, heap_of, is_root, kid, kid_at, kid_at_append, kid_here, kid_nth, kid_shown, leads_at, leads_put_at, leads_reach, left_as, left_at, left_nth, left_put_at, left_put_nth, marked, no_kids, put_append, put_at, put_nth, same_front, same_last, slots_above, slots_along, stands_reach, stored_in, takes_at_end, takes_at_end_as, there, top_found, top_of, tree_at, tree_in_slots, tree_of, tree_of_at, up, up_append, whole_plot, with_mark}
 use Rattle.fr_store.specs.MoveLaws.{top_node}
-use Rattle.fr_store.specs.Moves.{takes_at_end, takes_at_end_as}
-use Rattle.fr_store.specs.LeftLaws.{left_put_at}
-use Rattle.fr_store.specs.WayLaws.{along_put_at, leads_put_at}
 use Rattle.fr_store.proofs.MarkLaws.{open_marked}
 
 -- all are stored where the one is that wasn't
@@ -45,8 +42,8 @@ parent_of above i k leads = go (kid_at above k) refl (leads_at above (i ∷ []) 
         }
 
 -- The top is stored as it is.
-module _ {plan : Plan} {heap : Heap} {stack : List ℕ} (above : Place) (i : ℕ) (k : Kid)
-    (stands : Stands plan heap stack (above ++ i ∷ []) k) (top : Top plan heap stack (above ++ i ∷ []) k) (found : Parent above i k) where
+module _ {plan : Plan} {heap : Heap} {stack : List ℕ} {above : Place} {i : ℕ} {k : Kid} (stands : Stands plan heap stack
+    (above ++ i ∷ []) k) (top : Top plan heap stack (above ++ i ∷ []) k) (found : Parent above i k) where
   abbrev stored_top : Kid
   stored_top = at top.slot true top.plot
 
@@ -64,13 +61,11 @@ module _ {plan : Plan} {heap : Heap} {stack : List ℕ} (above : Place) (i : ℕ
   left_stored not_item =
       let among : AreLeftAll found.tracker 0 found.kids
       = subst (λ (x : Kid). AreLeftRightly x) found.is (left_at above k stands.left) in
-      subst (λ (x : Kid). AreLeftRightly x) (sym above_is) (left_put_at above stored_above k
-      (at_for_at (kid_at above k) found.slot found.slot false (begun_plot found.tracker found.kids)
-      (begun_plot found.tracker (put_nth i (at top.slot true top.plot) found.kids)) found.is)
-      (left_put_nth found.tracker 0 i i stored_top found.kids (omega arith)
-      (left_as found.tracker i (kid_nth i found.kids) stored_top
-      (λ is. let apart : true ≡ false = sym is ∙ not_item in absurd (cc)) (λ h there. absurd (subst IsThere child there)))
-      (subst (λ (x : Kid). AreLeftRightly x) child (left_nth found.tracker 0 i i found.kids (omega arith) among)) among) stands.left)
+      subst (λ (x : Kid). AreLeftRightly x) (sym above_is) (left_put_at above k
+      (at_for_at found.slot (begun_plot found.tracker (put_nth i (at top.slot true top.plot) found.kids)) found.is) (left_put_nth
+      found.tracker 0 i i stored_top found.kids (omega arith) (left_as found.tracker i (kid_nth i found.kids) stored_top
+      (λ is. let apart : true ≡ false = sym is ∙ not_item in absurd (cc)) (λ h there. absurd (subst IsThere child there))) (subst
+      (λ (x : Kid). AreLeftRightly x) child (left_nth found.tracker 0 i i found.kids (omega arith) among)) among) stands.left)
 
   leads_stored : Leads above (put_at (above ++ i ∷ []) stored_top k)
   leads_stored =
@@ -80,52 +75,47 @@ module _ {plan : Plan} {heap : Heap} {stack : List ℕ} (above : Place) (i : ℕ
 
   along_stored : slots_above (above ++ i ∷ []) k ≡ slots_along above (put_at (above ++ i ∷ []) stored_top k)
   along_stored =
-      above_append above i k stands.leads found.slot false (begun_plot found.tracker found.kids) found.is
+      above_append above i k stands.leads found.is
       ∙ sym (along_put_at above [] stored_above k (leads_reach above (i ∷ []) k stands.leads))
       ∙ ap (λ (p : Place). slots_along p (put_at above stored_above k)) (append-nil above) ∙ ap (slots_along above) (sym above_is)
 
 -- what is in the last slot isn't stored
-pub top_unmarked : (plan : Plan) (slots : List Slot) (stack : List ℕ) → IsOpen plan slots stack → (n : ℕ) → IsLast stack n
+pub top_unmarked : {plan : Plan} {slots : List Slot} {stack : List ℕ} → IsOpen plan slots stack → {n : ℕ} → IsLast stack n
     → marked (heap_of slots) n ≡ false
 unfolding top_node
-top_unmarked plan slots stack open_now n last = ap stored_in (top_found plan slots stack open_now n last)
+top_unmarked {plan} {slots} {stack} open_now {n} last = ap stored_in (top_found open_now last)
 
 -- what was taken off the stack is what was last
-pub taken_off : (stack next : List ℕ) (n : ℕ) (result : Option SlotId) → IsLast stack n
+pub taken_off : {stack : List ℕ} (next : List ℕ) {n : ℕ} (result : Option SlotId) → IsLast stack n
     → IfSome result (λ (place : SlotId). stack ≡ next ++ place.0 ∷ []) → (IsNone result ↔ (stack ≡ [])) → stack ≡ next ++ n ∷ []
-taken_off stack next n (Some place) last taken none =
+taken_off next {n} (Some place) last taken none =
     let same : place.0 ≡ n = same_last next last.0 place.0 n (sym taken ∙ last.1) in
     taken ∙ ap (λ (m : ℕ). next ++ m ∷ []) same
-taken_off stack next n None last taken none = absurd (not_empty last.0 (sym last.1 ∙ none.0 refl))
+taken_off next {n} None last taken none = absurd (not_empty last.0 (sym last.1 ∙ none.0 refl))
   where
     not_empty : (xs : List ℕ) → xs ++ n ∷ [] ≡ [] → ⊥
     not_empty [] e = cc
     not_empty (x ∷ xs) e = cc
 
 -- An open builder leaves its top as it is.
-pub open_left : (plan : Plan) (before after : List Slot) (stack next : List ℕ) → IsOpen plan before stack
-    → is_root (cursor_in before stack) ≡ false
-    → takes_at_end (tree_at (up (cursor_in before stack)) (tree_in_slots before stack)) ≡ false → (n : ℕ) → stack ≡ next ++ n ∷ []
-    → Shows after (with_mark (heap_of before) n true) → SameTokens before after
-    → IsOpenAt plan after next (up (cursor_in before stack)) (tree_in_slots before stack)
-    × AllStayPut (kid_here before stack) (kid_here after next)
-open_left plan before after stack next open_now below not_item n taken shows tokens =
+pub open_left : {plan : Plan} {before : List Slot} (after : List Slot) {stack : List ℕ} (next : List ℕ) → IsOpen plan before stack
+    → is_root (cursor_in before stack) ≡ false → takes_at_end (tree_at (up (cursor_in before stack)) (tree_in_slots before stack))
+    ≡ false → (n : ℕ) → stack ≡ next ++ n ∷ [] → Shows after (with_mark (heap_of before) n true) → IsOpenAt plan after next
+    (up (cursor_in before stack)) (tree_in_slots before stack) × AllStayPut (kid_here before stack) (kid_here after next)
+open_left {plan} {before} after {stack} next open_now below not_item n taken shows =
     let k : Kid = kid_shown (heap_of before) stack in
     let way = below_root (cursor_in before stack) below in
     let place : Place = way.0 ++ way.1 ∷ [] in
     let stands : Stands plan (heap_of before) stack place k
     = subst (λ (p : Place). Stands plan (heap_of before) stack p k) way.2 open_now.stands in
-    let top = top_of plan (heap_of before) stack place k stands in
+    let top = top_of stands in
     let both : slots_above place k ++ top.slot ∷ [] ≡ next ++ n ∷ [] = sym top.last ∙ taken in
     let same : top.slot ≡ n = same_last (slots_above place k) next top.slot n both in
     let found = parent_of way.0 way.1 k stands.leads in
     let plain : takes_at_end_as found.tracker ≡ false = ap takes_at_end (sym (ap tree_of found.is) ∙ tree_of_at way.0 k
     ∙ ap (λ (p : Place). tree_at p (tree_of k)) (sym (ap up way.2 ∙ up_append way.0 way.1))) ∙ not_item in
-    let reach : Reaches place k = leads_reach place [] k (subst (λ (p : Place). Leads p k) (sym (append-nil place)) stands.leads) in
-    subst (λ (p : Place). IsOpenAt plan after next p (tree_in_slots before stack) × AllStayPut (kid_here before stack) (kid_here after next))
-    (sym (ap up way.2 ∙ up_append way.0 way.1))
-    (open_marked open_now after place top.slot false true top.plot reach top.is
-    (λ m. shows m ∙ ap (λ (x : ℕ). with_mark (heap_of before) x true m) (sym same)) tokens next way.0
-    (leads_stored way.0 way.1 k stands top found)
-    (sym (same_front (slots_above place k) next top.slot n both) ∙ along_stored way.0 way.1 k stands top found)
-    (left_stored way.0 way.1 k stands top found plain))
+    let reach : Reaches place k = stands_reach stands in
+    subst (λ (p : Place). IsOpenAt plan after next p (tree_in_slots before stack) × AllStayPut (kid_here before stack)
+    (kid_here after next)) (sym (ap up way.2 ∙ up_append way.0 way.1)) (open_marked open_now after place true reach top.is
+    (λ m. shows m ∙ ap (λ (x : ℕ). with_mark (heap_of before) x true m) (sym same)) way.0 (leads_stored stands top found) (sym
+    (same_front (slots_above place k) next top.slot n both) ∙ along_stored stands top found) (left_stored stands top found plain))

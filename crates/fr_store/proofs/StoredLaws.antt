@@ -1,5 +1,5 @@
 -- What the slots say of stored places: where they belong.
-use Rattle.std.proofs.Common.{◌≡◌, ◌↔◌, ℕ, ◌+◌, ◌-◌, ◌<◌, ◌≤◌, true, false, List, [], ◌∷◌, ◌++◌, length, get_or, nat_eq, Some, None, Option, IsSome, refl, sym, ◌∙◌, ap, subst, arith}
+use Rattle.std.proofs.Common.{◌≡◌, ◌↔◌, ℕ, zero, suc, ◌+◌, ◌-◌, ◌<◌, ◌≤◌, true, false, List, [], ◌∷◌, ◌++◌, length, get_or, nat_eq, Some, None, Option, IsSome, refl, sym, ◌∙◌, ap, subst, arith}
 use Rattle.fr_store.specs.Common.{All, AreAllStored, AreOnce, BelongsTo, Contains, FrameOwner, HasOwner, Heap, Holds, IsHere, IsKeyOf, IsNarrow, IsNoted, IsPlaced, IsSomeAnd, IsStoredChildOf, IsStoredHere, Kid, Node, NodeId, Place, Plan, Reaches, Stands, StoredPlace, at, begun_plot, below_root, child_owner, counts_if, counts_in, first_key, holds_at, kid_at, marked, node_along, order_below, owner_along, owner_append, owner_below, slot_at, slot_here, slot_of, slots_of, stored_in, uses}
 use Rattle.std.specs.List.{sum_by}
 use Rattle.std.specs.List.Sorted.{IsPermutation}
@@ -22,7 +22,8 @@ order_over : (plan : Plan) (heap : Heap) (node : NodeId) (owner : FrameOwner) (d
 order_over plan heap node owner depth i (at slot stored plot) holds here = ap (λ (x : Option Node). order_at x i) holds.0
 order_over plan heap node owner depth i _ holds here = absurd here
 
-found_in : (plan : Plan) (heap : Heap) (node : NodeId) (owner : FrameOwner) (depth : ℕ) (k : Kid)
+-- what is found in the slot of a place that is held
+pub found_in : (plan : Plan) (heap : Heap) (node : NodeId) (owner : FrameOwner) (depth : ℕ) (k : Kid)
     → Holds plan heap node owner depth k → IsHere k → (found : Node) × (heap (slot_here k) ≡ Some found) × (found.owner ≡ owner)
 found_in plan heap node owner depth (at slot stored plot) holds here = (
   record { node = node; owner = owner; stored = stored; depth = depth; body = _ },
@@ -31,7 +32,21 @@ found_in plan heap node owner depth (at slot stored plot) holds here = (
 )
 found_in plan heap node owner depth _ holds here = absurd here
 
-module _ (plan : Plan) (heap : Heap) (stack : List ℕ) (cursor : Place) (k : Kid) (stands : Stands plan heap stack cursor k) where
+-- a slot that is free doesn't serve
+pub unused : (plan : Plan) (heap : Heap) (node : NodeId) (owner : FrameOwner) (depth : ℕ) (k : Kid) (n : ℕ)
+    → Holds plan heap node owner depth k → heap n ≡ None → uses k n ≡ 0
+unused plan heap node owner depth k n holds free = go (uses k n) refl
+  where
+    go : (count : ℕ) → uses k n ≡ count → uses k n ≡ 0
+    go zero e = e
+    go (suc count) e =
+        let lies = place_of k n (omega arith) in
+        let found = found_in plan heap (node_along plan node lies.0 k) (owner_along owner lies.0 k) (depth + length lies.0)
+        (kid_at lies.0 k) (holds_at plan heap node owner depth lies.0 k holds lies.1.reaches) lies.1.here in
+        let wrong : None ≡ Some found.0 = sym free ∙ ap heap (sym lies.2) ∙ found.1 in
+        absurd (cc)
+
+module _ {plan : Plan} {heap : Heap} {stack : List ℕ} {cursor : Place} {k : Kid} (stands : Stands plan heap stack cursor k) where
   -- what is found in the slot of a child
   pub child_found : (above : Place) (i : ℕ) → IsPlaced k (above ++ i ∷ [])
       → (found : Node) × (heap (slot_at k (above ++ i ∷ [])) ≡ Some found) × (found.owner ≡ child_owner (slot_at k above) i)
@@ -40,14 +55,14 @@ module _ (plan : Plan) (heap : Heap) (stack : List ℕ) (cursor : Place) (k : Ki
       let found = found_in plan heap (node_along plan plan.root place k) (owner_along FrameOwner.Root place k)
       (0 + length place) (kid_at place k) (holds_at plan heap plan.root FrameOwner.Root 0 place k stands.holds placed.reaches)
       placed.here in
-      let over = owner_over (owner_along FrameOwner.Root above k) i (kid_at above k) (placed_child above i k placed).reaches in
+      let over = owner_over (owner_along FrameOwner.Root above k) i (kid_at above k) (placed_child above i placed).reaches in
       (found.0, found.1, found.2 ∙ owner_append FrameOwner.Root above i k ∙ over)
 
   -- where it comes among the children of the place above
   child_order : (above : Place) (i : ℕ) → IsPlaced k (above ++ i ∷ [])
       → order_at (heap (slot_at k above)) i ≡ order_below i (kid_at above k)
   child_order above i placed =
-      let over = placed_above above (i ∷ []) k placed in
+      let over = placed_above above (i ∷ []) placed in
       order_over plan heap (node_along plan plan.root above k) (owner_along FrameOwner.Root above k) (0 + length above) i
       (kid_at above k) (holds_at plan heap plan.root FrameOwner.Root 0 above k stands.holds over.reaches) over.here
 
@@ -94,7 +109,7 @@ module _ (plan : Plan) (heap : Heap) (stack : List ℕ) (cursor : Place) (k : Ki
     stored_place n is =
         let lies = place_of k n (all n (marked_found (heap n) is)) in
         go lies.0 lies.1 lies.2
-        (sym (mark_at plan heap plan.root FrameOwner.Root 0 lies.0 k stands.holds lies.1) ∙ ap (marked heap) lies.2 ∙ is)
+        (sym (mark_at plan heap plan.root FrameOwner.Root 0 stands.holds lies.1) ∙ ap (marked heap) lies.2 ∙ is)
       where
         go : (p : Place) → IsPlaced k p → slot_at k p ≡ n → IsStoredHere k p
             → (above : Place) × (i : ℕ) × IsPlaced k (above ++ i ∷ []) × IsStoredHere k (above ++ i ∷ [])
@@ -161,5 +176,5 @@ module _ (plan : Plan) (heap : Heap) (stack : List ℕ) (cursor : Place) (k : Ki
             (arith, counted_by n noted, counted_by n sorted, sum_by-IsPermutation (λ (p : StoredPlace). counts_if (nat_eq (slot_of p) n)) noted sorted moved);
         all = λ place placed stored. Contains-permutation (slots_of noted) (slots_of sorted) (slot_at k place)
             (IsPermutation-map slot_of noted sorted moved) (subst (λ (l : List ℕ). Contains l (slot_at k place)) (sym same)
-            ((kept (slot_at k place)).0 (mark_at plan heap plan.root FrameOwner.Root 0 place k stands.holds placed ∙ stored)));
+            ((kept (slot_at k place)).0 (mark_at plan heap plan.root FrameOwner.Root 0 stands.holds placed ∙ stored)));
       }

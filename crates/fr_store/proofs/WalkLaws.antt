@@ -8,13 +8,13 @@ use Rattle.fr_store.proofs.StepLaws.{IsByTheWay}
 use Rattle.fr_store.proofs.PairLaws.{all_reverse, in_reverse, map_reverse, pairs_reverse}
 
 -- a stored place lies there
-pub placed_stored : (k : Kid) (n : ℕ) (place : Place) → IsStoredAt k n place → IsPlaced k place
-placed_stored k n place stored = record { reaches = stored.reaches; here = subst IsHere (sym stored.is) tt }
+pub placed_stored : {k : Kid} {n : ℕ} {place : Place} → IsStoredAt k n place → IsPlaced k place
+placed_stored stored = record { reaches = stored.reaches; here = subst IsHere (sym stored.is) tt }
 
 -- a slot serves once, so that only one place lies in it
-pub one_stored : (k : Kid) → ((n : ℕ) → uses k n ≤ 1) → (n : ℕ) (p q : Place) → IsStoredAt k n p → IsStoredAt k n q → p ≡ q
-one_stored k once n p q one other =
-    same_place p q k once (placed_stored k n p one) (placed_stored k n q other) (ap slot_here one.is ∙ sym (ap slot_here other.is))
+pub one_stored : {k : Kid} → ((n : ℕ) → uses k n ≤ 1) → {n : ℕ} {p q : Place} → IsStoredAt k n p → IsStoredAt k n q → p ≡ q
+one_stored {k} once {n} {p} {q} one other =
+    same_place once (placed_stored one) (placed_stored other) (ap slot_here one.is ∙ sym (ap slot_here other.is))
 
 stored_plot : (k : Kid) → IsHere k → stored_here k ≡ true → (plot : Plot) × (k ≡ at (slot_here k) true plot)
 stored_plot (at slot stored plot) here is = (plot, ap (λ (mark : Bool). at slot mark plot) is)
@@ -32,10 +32,9 @@ stored_list k (p ∷ places) placed marked_so =
     )
 
 -- all stored places, read from the end
-pub walk_of : (plan : Plan) (heap : Heap) (node : NodeId) (owner : FrameOwner) (depth : ℕ) (k : Kid)
-    → Holds plan heap node owner depth k → AreLeftRightly k → IsByTheWay k → (slots : List ℕ) → IsSpread k slots
-    → IsWalk k (reverse slots)
-walk_of plan heap node owner depth k holds left by slots s = record {
+pub walk_of : (plan : Plan) (heap : Heap) (node : NodeId) (owner : FrameOwner) (depth : ℕ) {k : Kid} → Holds plan heap node
+    owner depth k → AreLeftRightly k → IsByTheWay k → {slots : List ℕ} → IsSpread k slots → IsWalk k (reverse slots)
+walk_of plan heap node owner depth {k} holds left by s = record {
   places = reverse s.places;
   stored =
       subst (λ (l : List ℕ). AreStoredAt k l (reverse s.places))
@@ -45,6 +44,5 @@ walk_of plan heap node owner depth k holds left by slots s = record {
   order =
       in_walk_order plan heap node owner depth k holds left by (reverse s.places) (all_reverse (IsPlaced k) s.places s.placed)
       (pairs_reverse (ComesEarlier k) s.places s.order);
-  all = λ slot place st. in_reverse s.places place
-      (s.all place (placed_stored k slot place st) (ap stored_here st.is));
+  all = λ slot place st. in_reverse s.places place (s.all place (placed_stored st) (ap stored_here st.is));
 }

@@ -1,18 +1,6 @@
 -- Laws of trees in which a place becomes whole, for proofs: what the other places are then.
 use Rattle.std.proofs.Common.{◌≡◌, ◌≢◌, ◌⊎◌, ℕ, zero, suc, ◌+◌, ◌<◌, List, [], ◌∷◌, ◌++◌, Some, None, inl, inr, refl, sym, ◌∙◌, ap, subst, arith}
-use Rattle.fr_shape.specs.Hooks.{Meanings}
-use Rattle.fr_shape.specs.Look.{Table, def_of}
-use Rattle.fr_shape.specs.Val.{Val}
-use Rattle.fr_path.specs.declared.path_steps.PathStep.{PathStep}
-use Rattle.fr_model.specs.Complete.{complete}
-use Rattle.fr_model.specs.Failing.{failures}
-use Rattle.fr_model.specs.FinishLaws.{Closes, closed_at, ClosingKeepsCompletion, ClosingKeepsFailures}
-use Rattle.fr_model.specs.Paths.{steps_in, step_as}
-use Rattle.fr_model.specs.Places.{Place, deferred_column}
-use Rattle.fr_model.specs.Relation.{HasPlace}
-use Rattle.fr_model.specs.Trackers.{Tracker, as_fields, as_elements, as_content, ContentKind, as_items, ItemsKind, as_entries, EntriesKind}
-use Rattle.fr_model.specs.Tree.{Tree, begun, Trees, no_trees, branch, tree_nth, change_nth, child_tree, tree_at, change_at, child_as, shapes_from, shape_in, shape_below, count_trees}
-use Rattle.fr_model.specs.Well.{Suits, SuitAll, AreEntries, AreTouched, IsBegunAs, IsBegunRightly, IsContent, IsTouched}
+use Rattle.fr_store.specs.Below.{AreEntries, AreTouched, Closes, ClosingKeepsCompletion, ClosingKeepsFailures, ContentKind, EntriesKind, HasPlace, IsBegunAs, IsBegunRightly, IsContent, IsTouched, ItemsKind, Meanings, PathStep, Place, SuitAll, Suits, Table, Tracker, Tree, Trees, Val, as_content, as_elements, as_entries, as_fields, as_items, begun, branch, change_at, change_nth, child_as, child_tree, closed_at, complete, count_trees, def_of, deferred_column, failures, no_trees, shape_below, shape_in, shapes_from, step_as, steps_in, tree_at, tree_nth}
 use Rattle.fr_store.specs.ShapeLaws.{suits_nth}
 use Rattle.fr_store.specs.Turns.{CompletesAsBefore}
 use Rattle.fr_store.specs.WayLaws.{same_or_other}
@@ -49,10 +37,10 @@ shape_append table s [] way t = refl
 shape_append table s (i ∷ other) way t = shape_append table (shape_below table s i t) other way (child_tree i t)
 
 -- a place that makes a value is no hole, and closes with it
-pub closes_with : (hooks : Meanings) (table : Table) (s : ℕ) (here : Place) (v : Val) (tree : Tree) → HasPlace here tree
-    → complete deferred_column hooks table (shape_in table s here tree) (tree_at here tree) ≡ Some v
+pub closes_with : (hooks : Meanings) (table : Table) (s : ℕ) (here : Place) {v : Val} (tree : Tree)
+    → HasPlace here tree → complete deferred_column hooks table (shape_in table s here tree) (tree_at here tree) ≡ Some v
     → Closes hooks table s here v tree
-closes_with hooks table s here v tree place makes = record {
+closes_with hooks table s here {v} tree place makes = record {
   place = place;
   there = λ e.
       let none : None ≡ Some v = sym (ap (complete deferred_column hooks table (shape_in table s here tree)) e) ∙ makes in
@@ -126,10 +114,11 @@ stays (i ∷ here) (j ∷ other) v (begun tracker ts) has still =
 stays (i ∷ here) (j ∷ other) v _ has still = absurd has
 
 -- what stands there completes as before
-pub completes_still : ClosingKeepsCompletion → ClosingKeepsFailures → (hooks : Meanings) (table : Table) (s : ℕ)
-    (here other : Place) (v : Val) (tree : Tree) → Closes hooks table s here v tree → HasPlace other (closed_at here v tree)
+pub completes_still : ClosingKeepsCompletion → ClosingKeepsFailures → {hooks : Meanings} {table : Table} {s : ℕ} {here : Place}
+    (other : Place) {v : Val} {tree : Tree} → Closes hooks table s here v tree → HasPlace other (closed_at here v tree)
     → CompletesAsBefore hooks table s tree (closed_at here v tree) other
-completes_still completion failing hooks table s here other v tree closing has = go (stays here other v tree closing.place has).lies
+completes_still completion failing {hooks} {table} {s} {here} other {v} {tree} closing has
+    = go (stays here other v tree closing.place has).lies
   where
     shape : shape_in table s other (closed_at here v tree) ≡ shape_in table s other tree
     shape = (stays here other v tree closing.place has).shape table s

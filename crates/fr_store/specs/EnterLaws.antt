@@ -1,12 +1,7 @@
 -- Laws of a place that is just entered, for proofs.
 use Rattle.std.proofs.Common.{◌≡◌, ℕ, Bool, true, false, refl}
 use Rattle.std.specs.Prelude.{if◌then◌else◌}
-use Rattle.fr_shape.specs.declared.shape.Def.{Def}
-use Rattle.fr_shape.specs.Fills.{is_empty_struct}
-use Rattle.fr_shape.specs.Val.{product, no_vals}
-use Rattle.fr_model.specs.Tree.{whole, entered, fresh}
-use Rattle.fr_frame.specs.Bodies.{entered_body, whole_body, fresh_body, IsClosed}
-use Rattle.fr_frame.specs.Kids.{Plot, entered_plot, whole_plot, tree_in, body_in, plot_occurs}
+use Rattle.fr_store.specs.Below.{Def, IsClosed, Plot, body_in, entered, entered_body, entered_plot, fresh, fresh_body, is_empty_struct, no_vals, plot_occurs, product, tree_in, whole, whole_body, whole_plot}
 
 -- what lies in its slot
 abbrev pub fresh_plot : Def → Plot

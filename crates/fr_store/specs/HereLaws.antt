@@ -1,10 +1,7 @@
 -- Laws of places none of whose children is in a slot, for proofs: what is put there, and what has a value.
 use Rattle.std.proofs.Common.{◌≡◌, List, [], ◌∷◌, Some, refl, ap}
-use Rattle.fr_shape.specs.Val.{Val, Vals}
-use Rattle.fr_model.specs.Tree.{hole, whole, begun, Trees, branch}
-use Rattle.fr_frame.specs.Bodies.{Body, entered_body, whole_body, begun_body, own_tree, trees_of, value_of, IsClosed, AreUnplaced}
-use Rattle.fr_frame.specs.Cells.{Cell, absent, given, placed, values_of}
-use Rattle.fr_frame.specs.Kids.{gone, Plot, tree_in, trees_in, cells_in, body_in, kids_in, plot_in}
+use Rattle.fr_store.specs.Below.{AreUnplaced, Body, Cell, IsClosed, Plot, Trees, Val, Vals, absent, begun, begun_body, body_in, branch, cells_in, entered_body, gone, hole, kids_in, own_tree, placed, plot_in, tree_in, trees_in, trees_of, value_of, values_of, whole, whole_body}
+use Rattle.fr_frame.specs.Cells.{given}
 use Rattle.fr_store.specs.ValueLaws.{made_of, made_value, more_is}
 
 -- Places none of whose children is in a slot.
@@ -36,17 +33,16 @@ tree_back (begun_body tracker cells) = ap (λ (ts : Trees). begun tracker ts) (t
 
 -- Places that have a value.
 
-values_unplaced : (cells : List Cell) (vs : Vals) → values_of cells ≡ Some vs → AreUnplaced cells
-values_unplaced [] vs e = tt
-values_unplaced (absent ∷ cells) vs e = absurd (cc)
-values_unplaced (placed n ∷ cells) vs e = absurd (cc)
-values_unplaced (given v ∷ cells) vs e =
-    let rest = more_is v (values_of cells) vs e in
-    (tt, values_unplaced cells rest.0 rest.1)
+values_unplaced : (cells : List Cell) {vs : Vals} → values_of cells ≡ Some vs → AreUnplaced cells
+values_unplaced [] e = tt
+values_unplaced (given v ∷ cells) {vs} e =
+    let rest = more_is v (values_of cells) e in
+    (tt, values_unplaced cells rest.1)
+values_unplaced (_ ∷ cells) e = absurd (cc)
 
-pub value_closed : (body : Body) (v : Val) → value_of body ≡ Some v → IsClosed body
-value_closed entered_body v e = tt
-value_closed (whole_body w) v e = tt
-value_closed (begun_body tracker cells) v e =
-    let values = made_of tracker (values_of cells) v (made_value tracker cells v e) in
-    values_unplaced cells values.0 values.1
+pub value_closed : (body : Body) {v : Val} → value_of body ≡ Some v → IsClosed body
+value_closed entered_body e = tt
+value_closed (whole_body w) e = tt
+value_closed (begun_body tracker cells) {v} e =
+    let values = made_of tracker (values_of cells) (made_value tracker cells e) in
+    values_unplaced cells values.1

@@ -1,5 +1,5 @@
 -- Laws of what heaps hold, for proofs: other heaps that hold the same, or the same with something else at one place.
-use Rattle.std.proofs.Common.{◌≡◌, ◌≢◌, ◌⊎◌, ℕ, zero, suc, ◌+◌, ◌<◌, Bool, false, List, [], ◌∷◌, ◌++◌, length, nat_eq, Option, Some, None, inl, inr, refl, sym, ◌∙◌, ap, subst, arith}
+use Rattle.std.proofs.Common.{◌≡◌, ℕ, zero, suc, ◌+◌, ◌<◌, ◌≤◌, Bool, true, false, List, [], ◌∷◌, ◌++◌, length, Option, Some, refl, sym, ◌∙◌, ap, subst, arith}
 use Rattle.fr_model.specs.Places.{Place}
 use Rattle.fr_model.specs.Trackers.{Tracker}
 use Rattle.fr_plan.specs.declared.nodes.NodeId.{NodeId}
@@ -8,10 +8,11 @@ use Rattle.fr_frame.specs.declared.places.FrameOwner.{FrameOwner}
 use Rattle.fr_frame.specs.Bodies.{begun_body}
 use Rattle.fr_frame.specs.Cells.{Cell}
 use Rattle.fr_frame.specs.Heap.{Node, Heap, depth_limit, marked, stored_in}
-use Rattle.fr_frame.specs.Kids.{Kid, gone, at, Plot, entered_plot, whole_plot, begun_plot, Kids, no_kids, kid, MayHave, cell_of, cells_in, body_in, kid_in, kids_in, plot_in, kid_by, kid_from, child_node, child_owner, Holds, HoldsIn, HoldsAll}
+use Rattle.fr_frame.specs.Kids.{Kid, gone, at, Plot, begun_plot, Kids, no_kids, kid, MayHave, cell_of, cells_in, body_in, kid_in, kids_in, plot_in, kid_by, kid_from, child_node, child_owner, Holds, HoldsIn, HoldsAll}
 use Rattle.fr_store.specs.Stands.{cursor_shown, number_of_owner, number_to}
-use Rattle.fr_store.specs.Ways.{count_kids, kid_nth, kid_at, put_nth, put_at, slots_along, counts_if, uses, uses_in, uses_among, AllMarkedIn, AllMarkedAmong, NoneStored, Leads, Reaches, node_along, owner_along}
-use Rattle.fr_store.specs.WayLaws.{counts_same, counts_other, same_or_other, leads_reach, leads_at, uses_nth, uses_at}
+use Rattle.fr_store.specs.Walks.{IsStoredAt}
+use Rattle.fr_store.specs.Ways.{count_kids, kid_nth, kid_at, put_nth, put_at, slots_along, uses, uses_in, uses_among, AllMarkedIn, AllMarkedAmong, NoneStored, Leads, Reaches, node_along, owner_along}
+use Rattle.fr_store.specs.WayLaws.{counts_same, leads_reach, leads_at, uses_nth, uses_at}
 
 -- the other heap has the same under each number that serves in it
 abbrev pub AgreeOn : Heap → Heap → Kid → Type 0
@@ -45,53 +46,6 @@ mutual
     holds_frame_among plan heap other node slot tracker (suc i) depth ks holds.1 (λ n h. agree n (omega arith)),
   )
 
--- a slot that is free doesn't serve
-mutual
-  pub unused : (plan : Plan) (heap : Heap) (node : NodeId) (owner : FrameOwner) (depth : ℕ) (k : Kid) (n : ℕ)
-      → Holds plan heap node owner depth k → heap n ≡ None → uses k n ≡ 0
-  unused plan heap node owner depth (at slot stored plot) n holds free =
-      omega (arith, go (same_or_other slot n), unused_in plan heap node slot (suc depth) plot n holds.2 free)
-    where
-      go : (slot ≡ n) ⊎ (slot ≢ n) → counts_if (nat_eq slot n) ≡ 0
-      go (inl e) = let both = ap heap e in cc (holds.0, free, both)
-      go (inr ne) = counts_other slot n ne
-  unused plan heap node owner depth _ n holds free = refl
-
-  unused_in : (plan : Plan) (heap : Heap) (node : NodeId) (slot depth : ℕ) (plot : Plot) (n : ℕ)
-      → HoldsIn plan heap node slot depth plot → heap n ≡ None → uses_in plot n ≡ 0
-  unused_in plan heap node slot depth (begun_plot tracker kids) n holds free =
-      unused_among plan heap node slot tracker 0 depth kids n holds free
-  unused_in plan heap node slot depth _ n holds free = refl
-
-  unused_among : (plan : Plan) (heap : Heap) (node : NodeId) (slot : ℕ) (tracker : Tracker) (i depth : ℕ) (ks : Kids) (n : ℕ)
-      → HoldsAll plan heap node slot tracker i depth ks → heap n ≡ None → uses_among ks n ≡ 0
-  unused_among plan heap node slot tracker i depth no_kids n holds free = refl
-  unused_among plan heap node slot tracker i depth (kid k ks) n holds free =
-      omega
-      (arith, unused plan heap (child_node plan node tracker i) (child_owner slot i) depth k n holds.0 free, unused_among plan heap node slot tracker (suc i) depth ks n holds.1 free)
-
--- where nothing that the heap holds is stored
-mutual
-  pub none_stored : (plan : Plan) (heap : Heap) (node : NodeId) (owner : FrameOwner) (depth : ℕ) (k : Kid)
-      → Holds plan heap node owner depth k → ((n : ℕ) → marked heap n ≡ false) → NoneStored k
-  none_stored plan heap node owner depth (at slot stored plot) holds none =
-      (sym (ap stored_in holds.0) ∙ none slot, none_stored_in plan heap node slot (suc depth) plot holds.2 none)
-  none_stored plan heap node owner depth _ holds none = tt
-
-  none_stored_in : (plan : Plan) (heap : Heap) (node : NodeId) (slot depth : ℕ) (plot : Plot)
-      → HoldsIn plan heap node slot depth plot → ((n : ℕ) → marked heap n ≡ false) → AllMarkedIn false plot
-  none_stored_in plan heap node slot depth (begun_plot tracker kids) holds none =
-      none_stored_among plan heap node slot tracker 0 depth kids holds none
-  none_stored_in plan heap node slot depth _ holds none = tt
-
-  none_stored_among : (plan : Plan) (heap : Heap) (node : NodeId) (slot : ℕ) (tracker : Tracker) (i depth : ℕ) (ks : Kids)
-      → HoldsAll plan heap node slot tracker i depth ks → ((n : ℕ) → marked heap n ≡ false) → AllMarkedAmong false ks
-  none_stored_among plan heap node slot tracker i depth no_kids holds none = tt
-  none_stored_among plan heap node slot tracker i depth (kid k ks) holds none = (
-    none_stored plan heap (child_node plan node tracker i) (child_owner slot i) depth k holds.0 none,
-    none_stored_among plan heap node slot tracker (suc i) depth ks holds.1 none,
-  )
-
 -- One child of many, and one place.
 
 pub holds_nth : (plan : Plan) (heap : Heap) (node : NodeId) (slot : ℕ) (tracker : Tracker) (first depth : ℕ) (ks : Kids) (i m : ℕ)
@@ -118,6 +72,39 @@ holds_at plan heap node owner depth (i ∷ place) (at slot stored (begun_plot tr
     (owner_along (child_owner slot i) place (kid_nth i kids)) d (kid_at place (kid_nth i kids))) same
     (holds_at plan heap (child_node plan node tracker i) (child_owner slot i) (suc depth) place (kid_nth i kids) child reach.1)
 holds_at plan heap node owner depth (i ∷ place) _ holds reach = absurd reach
+
+-- where no place is stored none is marked
+mutual
+  pub no_marks : (k : Kid) → ((slot : ℕ) (place : Place) → IsStoredAt k slot place → ⊥) → NoneStored k
+  no_marks (at slot true plot) none = absurd (none slot [] (record { plot = plot; reaches = tt; is = refl }))
+  no_marks (at slot false plot) none = (refl, no_marks_in slot plot none)
+  no_marks _ none = tt
+
+  no_marks_in : (own : ℕ) (plot : Plot) → ((slot : ℕ) (place : Place) → IsStoredAt (at own false plot) slot place → ⊥)
+      → AllMarkedIn false plot
+  no_marks_in own (begun_plot tracker kids) none =
+      no_marks_among kids (λ i slot place h stored. none slot (i ∷ place)
+      (record { plot = stored.plot; reaches = (h, stored.reaches); is = stored.is }))
+  no_marks_in own _ none = tt
+
+  no_marks_among : (ks : Kids) → ((i slot : ℕ) (place : Place) → i < count_kids ks → IsStoredAt (kid_nth i ks) slot place → ⊥)
+      → AllMarkedAmong false ks
+  no_marks_among no_kids none = tt
+  no_marks_among (kid k ks) none = (
+    no_marks k (λ slot place stored. none 0 slot place (omega arith) stored),
+    no_marks_among ks (λ i slot place h stored. none (suc i) slot place (omega arith) stored),
+  )
+
+-- where nothing that the heap holds is stored
+pub none_stored : (plan : Plan) (heap : Heap) (node : NodeId) (owner : FrameOwner) (depth : ℕ) (k : Kid)
+    → Holds plan heap node owner depth k → ((n : ℕ) → marked heap n ≡ false) → NoneStored k
+none_stored plan heap node owner depth k holds none =
+    no_marks k (λ slot place stored.
+    let held = subst
+    (λ (x : Kid). Holds plan heap (node_along plan node place k) (owner_along owner place k) (depth + length place) x) stored.is
+    (holds_at plan heap node owner depth place k holds stored.reaches) in
+    let both : true ≡ false = sym (ap stored_in held.0) ∙ none slot in
+    cc)
 
 -- a place that is held has no more children than it may
 pub may_have : (plan : Plan) (heap : Heap) (node : NodeId) (slot : ℕ) (tracker : Tracker) (first depth : ℕ) (ks : Kids) (count : ℕ)
@@ -201,12 +188,6 @@ pub replaces_at : (plan : Plan) (heap other : Heap) (place : Place) (new k : Kid
     → cell_of new ≡ cell_of (kid_at place k) → AgreeBeside heap other k (kid_at place k)
     → Replaces plan heap other (kid_at place k) new → Replaces plan heap other k (put_at place new k)
 replaces_at plan heap other [] new k same agree step node owner depth holds = step node owner depth holds
-replaces_at plan heap other (i ∷ place) new (at slot stored entered_plot) same agree step node owner depth holds =
-    holds_frame plan heap other node owner depth (at slot stored entered_plot) holds
-    (λ n h. agree n (omega (arith, uses_at place gone n)))
-replaces_at plan heap other (i ∷ place) new (at slot stored (whole_plot v)) same agree step node owner depth holds =
-    holds_frame plan heap other node owner depth (at slot stored (whole_plot v)) holds
-    (λ n h. agree n (omega (arith, uses_at place gone n)))
 replaces_at plan heap other (i ∷ place) new (at slot stored (begun_plot tracker kids)) same agree step node owner depth holds =
     let child : Kid = kid_nth i kids in (
       agree slot (omega (arith, counts_same slot, uses_at place child slot, uses_nth i kids slot)) ∙ holds.0
@@ -223,38 +204,41 @@ replaces_at plan heap other (i ∷ place) new (at slot stored (begun_plot tracke
           (child_node plan node tracker i) (child_owner slot i) (suc depth)) (λ n h. agree n (omega (arith, uses_at place child n)))
           holds.2,
     )
+replaces_at plan heap other (i ∷ place) new (at slot stored plot) same agree step node owner depth holds =
+    holds_frame plan heap other node owner depth (at slot stored plot) holds
+    (λ n h. agree n (omega (arith, uses_at place gone n)))
 replaces_at plan heap other (i ∷ place) new _ same agree step node owner depth holds = tt
 
 -- Reading back.
 
-level_below : (levels depth : ℕ) → levels + depth ≡ depth_limit → depth < depth_limit → (less : ℕ) × (levels ≡ suc less)
+pub level_below : (levels depth : ℕ) → depth_limit ≤ levels + depth → depth < depth_limit → (less : ℕ) × (levels ≡ suc less)
 level_below zero depth e h = absurd (omega arith)
 level_below (suc less) depth e h = (less, refl)
 
 mutual
-  -- what a heap holds is what is read off it
+  -- what a heap holds is what is read off it, at more levels than need be
   pub read_back : (plan : Plan) (heap : Heap) (node : NodeId) (owner : FrameOwner) (depth levels : ℕ) (k : Kid)
-      → levels + depth ≡ depth_limit → Holds plan heap node owner depth k → kid_in (kid_from levels heap) (cell_of k) ≡ k
+      → depth_limit ≤ levels + depth → Holds plan heap node owner depth k → kid_in (kid_from levels heap) (cell_of k) ≡ k
   read_back plan heap node owner depth levels (at slot stored plot) e holds =
       go (level_below levels depth e holds.1) (λ less deep. read_back_in plan heap node slot (suc depth) less plot deep holds.2)
     where
       go : (less : ℕ) × (levels ≡ suc less)
-          → ((less : ℕ) → less + suc depth ≡ depth_limit → plot_in (kid_from less heap) (body_in plot) ≡ plot)
+          → ((less : ℕ) → depth_limit ≤ less + suc depth → plot_in (kid_from less heap) (body_in plot) ≡ plot)
           → kid_from levels heap slot ≡ at slot stored plot
       go l rest =
           ap (λ (n : ℕ). kid_from n heap slot) l.1 ∙ ap (kid_by (kid_from l.0 heap) slot) holds.0
           ∙ ap (λ (p : Plot). at slot stored p) (rest l.0 (omega (arith, l.1)))
   read_back plan heap node owner depth levels _ e holds = refl
 
-  read_back_in : (plan : Plan) (heap : Heap) (node : NodeId) (slot depth levels : ℕ) (plot : Plot)
-      → levels + depth ≡ depth_limit → HoldsIn plan heap node slot depth plot
+  pub read_back_in : (plan : Plan) (heap : Heap) (node : NodeId) (slot depth levels : ℕ) (plot : Plot)
+      → depth_limit ≤ levels + depth → HoldsIn plan heap node slot depth plot
       → plot_in (kid_from levels heap) (body_in plot) ≡ plot
   read_back_in plan heap node slot depth levels (begun_plot tracker kids) e holds =
       ap (λ (ks : Kids). begun_plot tracker ks) (read_back_among plan heap node slot tracker 0 depth levels kids e holds)
   read_back_in plan heap node slot depth levels _ e holds = refl
 
   read_back_among : (plan : Plan) (heap : Heap) (node : NodeId) (slot : ℕ) (tracker : Tracker) (i depth levels : ℕ) (ks : Kids)
-      → levels + depth ≡ depth_limit → HoldsAll plan heap node slot tracker i depth ks
+      → depth_limit ≤ levels + depth → HoldsAll plan heap node slot tracker i depth ks
       → kids_in (kid_from levels heap) (cells_in ks) ≡ ks
   read_back_among plan heap node slot tracker i depth levels no_kids e holds = refl
   read_back_among plan heap node slot tracker i depth levels (kid k ks) e holds =

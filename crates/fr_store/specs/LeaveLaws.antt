@@ -3,12 +3,7 @@ use Rattle.std.proofs.Common.{◌≡◌, ℕ, zero, suc, ◌<◌, Bool, true, fa
 use Rattle.std.specs.Prelude.{if◌then◌else◌}
 use Rattle.std.proofs.lemmas.Grind.{common_steps}
 use Rattle.std.proofs.lemmas.Bool.Decides.{nat_tests}
-use Rattle.fr_model.specs.Places.{Place, is_root, up}
-use Rattle.fr_model.specs.Trackers.{Tracker}
-use Rattle.fr_frame.specs.declared.places.FrameOwner.{FrameOwner}
-use Rattle.fr_frame.specs.Bodies.{begun_body, cell_at, with_cell, unlinked, unlinked_by}
-use Rattle.fr_frame.specs.Cells.{Cell, absent, placed}
-use Rattle.fr_frame.specs.Kids.{Kid, gone, at, Plot, begun_plot, Kids, no_kids, kid, MayHave, cell_of, cells_in}
+use Rattle.fr_store.specs.Below.{Cell, FrameOwner, Kid, Kids, MayHave, Place, Plot, Tracker, absent, at, begun_body, begun_plot, cell_at, cell_of, cells_in, gone, is_root, kid, no_kids, placed, unlinked, unlinked_by, up, with_cell}
 use Rattle.fr_store.specs.Ways.{count_kids, kid_nth, kid_below, kid_at, put_nth, put_below, put_at, slots_above, Leads, owner_along, owner_below}
 use Rattle.fr_store.specs.WayLaws.{count_put, leads_at}
 
@@ -28,16 +23,16 @@ pub put_append : (place below : Place) (new k : Kid)
 put_append [] below new k = refl
 put_append (i ∷ place) below new k = ap (λ (x : Kid). put_below i x k) (put_append place below new (kid_below i k))
 
-pub above_append : (place : Place) (i : ℕ) (k : Kid) → Leads (place ++ i ∷ []) k → (q : ℕ) (stored : Bool) (plot : Plot)
+pub above_append : (place : Place) (i : ℕ) (k : Kid) → Leads (place ++ i ∷ []) k → {q : ℕ} {stored : Bool} {plot : Plot}
     → kid_at place k ≡ at q stored plot → slots_above (place ++ i ∷ []) k ≡ slots_above place k ++ q ∷ []
-above_append [] i (at slot s p) leads q stored plot e =
+above_append [] i (at slot s p) leads {q} e =
     let same : slot ≡ q = cc in ap (λ (n : ℕ). n ∷ []) same
-above_append [] i _ leads q stored plot e = absurd leads
-above_append (j ∷ place) i (at slot s (begun_plot tracker kids)) leads q stored plot e =
-    ap (λ (slots : List ℕ). slot ∷ slots) (above_append place i (kid_nth j kids)
-    (leads_at (j ∷ []) (place ++ i ∷ []) (at slot s (begun_plot tracker kids)) leads) q stored plot e)
-above_append (j ∷ place) i (at slot s _) leads q stored plot e = absurd leads.1
-above_append (j ∷ place) i _ leads q stored plot e = absurd leads
+above_append [] i _ leads e = absurd leads
+above_append (j ∷ place) i (at slot s (begun_plot tracker kids)) leads {q} {stored} {plot} e =
+    ap (λ (slots : List ℕ). slot ∷ slots)
+    (above_append place i (kid_nth j kids) (leads_at (j ∷ []) (place ++ i ∷ []) (at slot s (begun_plot tracker kids)) leads) e)
+above_append (j ∷ place) i (at slot s _) leads e = absurd leads.1
+above_append (j ∷ place) i _ leads e = absurd leads
 
 -- a place that isn't the root's has one above
 pub below_root : (place : Place) → is_root place ≡ false → (above : Place) × (i : ℕ) × (place ≡ above ++ i ∷ [])

@@ -1,10 +1,6 @@
 -- Laws of what is never stored, for proofs: items of a set, parts of a dynamic value, and what a map had when it was begun.
 use Rattle.std.proofs.Common.{◌≡◌, ℕ, zero, suc, ◌+◌, ◌≤◌, Bool, true, false, ◌∷◌, [], refl, sym, subst, arith}
-use Rattle.fr_model.specs.Collections.{is_map_tracker}
-use Rattle.fr_shape.specs.Val.{Val}
-use Rattle.fr_model.specs.Places.{Place, entry_of}
-use Rattle.fr_model.specs.Trackers.{Tracker, as_items, ItemsKind, as_entries, EntriesKind, base_of_tracker}
-use Rattle.fr_frame.specs.Kids.{Kid, gone, there, at, Plot, begun_plot, Kids, no_kids, kid, is_stored, IsThere, IsLeftRightly, AreLeftRightly, AreLeftAll}
+use Rattle.fr_store.specs.Below.{AreLeftAll, AreLeftRightly, EntriesKind, IsLeftRightly, IsThere, ItemsKind, Kid, Kids, Place, Plot, Tracker, Val, as_entries, as_items, at, base_of_tracker, begun_plot, entry_of, gone, is_map_tracker, is_stored, kid, no_kids, there}
 use Rattle.fr_store.specs.Moves.{takes_at_end_as}
 use Rattle.fr_store.specs.Ways.{count_kids, kid_nth, kid_at, put_nth, put_at}
 
@@ -51,33 +47,33 @@ pub record IsLeftAs (old new : Kid) : Type 0 where
   pub stored : is_stored old ≡ false → is_stored new ≡ false
   pub there : IsThere old → IsThere new
 
-pub as_left : (tracker : Tracker) (i : ℕ) (old new : Kid) → IsLeftAs old new → IsLeftRightly tracker i old → IsLeftRightly tracker i new
-as_left (as_items ItemsKind.Set) i old new same left = same.stored left
-as_left (as_entries (EntriesKind.Map base)) i old new same left = λ h. same.there (left h)
-as_left (as_items ItemsKind.Array) i old new same left = same.stored left
-as_left (as_entries (EntriesKind.Object keys)) i old new same left = same.stored left
-as_left _ i old new same left = tt
+pub as_left : (tracker : Tracker) (i : ℕ) {old new : Kid} → IsLeftAs old new → IsLeftRightly tracker i old
+    → IsLeftRightly tracker i new
+as_left (as_items ItemsKind.Set) i same left = same.stored left
+as_left (as_entries (EntriesKind.Map base)) i same left = λ h. same.there (left h)
+as_left (as_items ItemsKind.Array) i same left = same.stored left
+as_left (as_entries (EntriesKind.Object keys)) i same left = same.stored left
+as_left _ i same left = tt
 
 -- above the place itself nothing changes
-as_put_at : (place : Place) (new k : Kid) → IsLeftAs (kid_at place k) new → IsLeftAs k (put_at place new k)
-as_put_at [] new k same = same
-as_put_at (i ∷ place) new gone same = record { stored = λ h. h; there = λ h. h }
-as_put_at (i ∷ place) new (there v) same = record { stored = λ h. h; there = λ h. h }
-as_put_at (i ∷ place) new (at slot stored plot) same = record { stored = λ h. h; there = λ h. h }
+as_put_at : (place : Place) {new : Kid} (k : Kid) → IsLeftAs (kid_at place k) new → IsLeftAs k (put_at place new k)
+as_put_at [] k same = same
+as_put_at (i ∷ place) gone same = record { stored = λ h. h; there = λ h. h }
+as_put_at (i ∷ place) (there v) same = record { stored = λ h. h; there = λ h. h }
+as_put_at (i ∷ place) (at slot stored plot) same = record { stored = λ h. h; there = λ h. h }
 
-pub left_put_at : (place : Place) (new k : Kid) → IsLeftAs (kid_at place k) new → AreLeftRightly new → AreLeftRightly k
+pub left_put_at : (place : Place) {new : Kid} (k : Kid) → IsLeftAs (kid_at place k) new → AreLeftRightly new → AreLeftRightly k
     → AreLeftRightly (put_at place new k)
-left_put_at [] new k same is left = is
-left_put_at (i ∷ place) new (at slot stored (begun_plot tracker kids)) same is left =
-    left_put_nth tracker 0 i i (put_at place new (kid_nth i kids)) kids (omega arith)
-    (as_left tracker i (kid_nth i kids) (put_at place new (kid_nth i kids)) (as_put_at place new (kid_nth i kids) same))
-    (left_put_at place new (kid_nth i kids) same is (left_nth tracker 0 i i kids (omega arith) left)) left
-left_put_at (i ∷ place) new _ same is left = tt
+left_put_at [] k same is left = is
+left_put_at (i ∷ place) {new} (at slot stored (begun_plot tracker kids)) same is left =
+    left_put_nth tracker 0 i i (put_at place new (kid_nth i kids)) kids (omega arith) (as_left tracker i (as_put_at place
+    (kid_nth i kids) same)) (left_put_at place (kid_nth i kids) same is (left_nth tracker 0 i i kids (omega arith) left)) left
+left_put_at (i ∷ place) _ same is left = tt
 
 -- what is in a slot and not stored may come in the stead of anything that is in a slot, and so may a value
-pub at_for_at : (old : Kid) (slot n : ℕ) (stored : Bool) (plot other : Plot) → old ≡ at slot stored plot
+pub at_for_at : {old : Kid} {slot : ℕ} (n : ℕ) {stored : Bool} {plot : Plot} (other : Plot) → old ≡ at slot stored plot
     → IsLeftAs old (at n false other)
-at_for_at old slot n stored plot other e = record { stored = λ h. refl; there = λ h. absurd (subst IsThere e h) }
+at_for_at n {stored} other e = record { stored = λ h. refl; there = λ h. absurd (subst IsThere e h) }
 
 pub there_for_any : (old : Kid) (new : Kid) → IsThere new → is_stored new ≡ false → IsLeftAs old new
 there_for_any old new is unstored = record { stored = λ h. unstored; there = λ h. is }

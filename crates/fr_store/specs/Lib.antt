@@ -1,3 +1,4 @@
+pub mod Below
 pub mod Beneath
 pub mod ClosingLaws
 pub mod Common

@@ -1,24 +1,6 @@
 -- What the moves of a builder do, as contracts see it.
 use Rattle.std.specs.Prelude.{◌≡◌, ℕ, ◌<◌, Bool, true, false, ◌||◌, length, List, [], ◌∷◌, ◌++◌, Option, Some, None}
-use Rattle.fr_shape.specs.declared.shape.Def.{Def}
-use Rattle.fr_shape.specs.Val.{Val}
-use Rattle.fr_model.specs.Collections.{is_map, is_set, is_set_tracker, number_in, with_ended_item}
-use Rattle.fr_model.specs.Dynamics.{keys_apart}
-use Rattle.fr_model.specs.DynamicPlaces.{is_begun_dynamic, is_begun_object, is_dynamic_tracker, keys_here, entry_found, number_or_last}
-use Rattle.fr_model.specs.Places.{Place, is_root, up}
-use Rattle.fr_model.specs.Step.{enter}
-use Rattle.fr_model.specs.Trackers.{Tracker, as_fields, as_elements, as_content, as_items, ItemsKind, as_entries, EntriesKind, keys_of_tracker}
-use Rattle.fr_model.specs.Tree.{child_tree, change_child, Tree, hole, entered, whole, begun, Trees, and_last, count_below, count_trees, fresh, change_at, change_nth, tree_at, tree_occurs}
-use Rattle.fr_plan.specs.declared.nodes.NodeId.{NodeId}
-use Rattle.fr_plan.specs.TypePlan.{Plan}
-use Rattle.fr_frame.specs.declared.places.FrameOwner.{FrameOwner}
-use Rattle.fr_frame.specs.declared.places.Slot.{Slot}
-use Rattle.fr_frame.specs.declared.places.ChildWay.{ChildWay}
-use Rattle.fr_frame.specs.Bodies.{TakesItems}
-use Rattle.fr_frame.specs.Changes.{IfInUse}
-use Rattle.fr_frame.specs.Heap.{Node, heap_of}
-use Rattle.fr_frame.specs.Kids.{child_node}
-use Rattle.fr_frame.specs.declared.places.Taker.{Taker}
+use Rattle.fr_store.specs.Below.{ChildWay, Def, EntriesKind, FrameOwner, IfInUse, ItemsKind, Node, NodeId, Place, Plan, Slot, Taker, TakesItems, Tracker, Tree, Trees, Val, and_last, as_content, as_elements, as_entries, as_fields, as_items, begun, change_at, change_child, change_nth, child_node, child_tree, count_below, count_trees, enter, entered, entry_found, fresh, heap_of, hole, is_begun_dynamic, is_begun_object, is_dynamic_tracker, is_map, is_root, is_set, is_set_tracker, keys_apart, keys_here, keys_of_tracker, number_in, number_or_last, tree_at, tree_occurs, up, whole, with_ended_item}
 use Rattle.fr_store.specs.Numbers.{IsLast}
 use Rattle.fr_store.specs.Stands.{IsOpen, cursor_shown, kid_shown, tree_shown}
 use Rattle.fr_store.specs.Ways.{node_along}

@@ -1,12 +1,6 @@
 -- Laws of places off the way, for proofs: what something else there changes, and what it leaves as it is.
 use Rattle.std.proofs.Common.{◌≡◌, ◌≢◌, ◌↔◌, ◌⊎◌, ℕ, zero, suc, ◌<◌, Bool, true, List, [], ◌∷◌, ◌++◌, append-nil, inl, inr, refl, sym, ◌∙◌, ap, subst, arith}
-use Rattle.fr_shape.specs.Val.{Val}
-use Rattle.fr_model.specs.Finishing.{IsOffTheWay}
-use Rattle.fr_model.specs.Places.{Place}
-use Rattle.fr_model.specs.Relation.{HasPlace}
-use Rattle.fr_model.specs.Tree.{Tree}
-use Rattle.fr_frame.specs.Bodies.{IsClosed, AreUnplaced}
-use Rattle.fr_frame.specs.Kids.{Kid, gone, there, at, Plot, entered_plot, whole_plot, begun_plot, Kids, no_kids, kid, tree_of, cells_in, body_in}
+use Rattle.fr_store.specs.Below.{AreUnplaced, HasPlace, IsClosed, IsOffTheWay, Kid, Kids, Place, Plot, Tree, Val, at, begun_plot, body_in, cells_in, entered_plot, gone, kid, no_kids, there, tree_of, whole_plot}
 use Rattle.fr_store.specs.LeaveLaws.{kid_at_append}
 use Rattle.fr_store.specs.Walks.{IsStoredAt}
 use Rattle.fr_store.specs.Ways.{kid_nth, kid_at, put_nth, put_at, slots_along, AllMarked, StoredBut, Leads, Reaches}
@@ -54,18 +48,18 @@ but_same (suc j) Below new (kid k ks) but is = (but.0, but_same j Below new ks b
 off_below : (i : ℕ) (place here : Place) → IsOffTheWay (i ∷ place) (i ∷ here) → IsOffTheWay place here
 off_below i place here off way e = off way (ap (λ (p : Place). i ∷ p) e)
 
-off_same : (i j : ℕ) (place here : Place) → i ≡ j → IsOffTheWay (j ∷ place) (i ∷ here) → IsOffTheWay place here
-off_same i j place here e off = off_below j place here (subst (λ (n : ℕ). IsOffTheWay (j ∷ place) (n ∷ here)) e off)
+off_same : {i j : ℕ} (place here : Place) → i ≡ j → IsOffTheWay (j ∷ place) (i ∷ here) → IsOffTheWay place here
+off_same {j} place here e off = off_below j place here (subst (λ (n : ℕ). IsOffTheWay (j ∷ place) (n ∷ here)) e off)
 
-pub leads_same : (i j : ℕ) (place : Place) (ks : Kids) → i ≡ j → StoredBut j (λ below. Leads place below) ks
+pub leads_same : {i j : ℕ} (place : Place) (ks : Kids) → i ≡ j → StoredBut j (λ below. Leads place below) ks
     → Leads place (kid_nth i ks)
-leads_same i j place ks e but =
+leads_same {j} place ks e but =
     subst (λ (n : ℕ). Leads place (kid_nth n ks)) (sym e) (below_nth j (λ below. Leads place below) ks but)
 
 -- a stored place is off the way
-pub off_stored : (place here : Place) (k : Kid) (slot : ℕ) (plot : Plot) → Leads place k → kid_at here k ≡ at slot true plot
-    → IsOffTheWay place here
-off_stored place here k slot plot leads is way e =
+pub off_stored : (place here : Place) (k : Kid) {slot : ℕ} {plot : Plot} → Leads place k
+    → kid_at here k ≡ at slot true plot → IsOffTheWay place here
+off_stored place here k {slot} {plot} leads is way e =
     go way (subst (λ (x : Kid). Leads way x) is (leads_at here way k (subst (λ (p : Place). Leads p k) e leads)))
   where
     go : (way : Place) → Leads way (at slot true plot) → ⊥
@@ -79,8 +73,8 @@ marked_off place [] k leads off reach = absurd (off place refl)
 marked_off [] (i ∷ here) (at slot stored (begun_plot tracker kids)) leads off reach =
     marked_at true here (kid_nth i kids) (marked_nth true i kids leads.1)
 marked_off (j ∷ place) (i ∷ here) (at slot stored (begun_plot tracker kids)) leads off reach =
-    go (same_or_other i j) (λ e.
-    marked_off place here (kid_nth i kids) (leads_same i j place kids e leads.1) (off_same i j place here e off) reach.1)
+    go (same_or_other i j)
+    (λ e. marked_off place here (kid_nth i kids) (leads_same place kids e leads.1) (off_same place here e off) reach.1)
   where
     go : (i ≡ j) ⊎ (i ≢ j) → (i ≡ j → AllMarked true (kid_at here (kid_nth i kids)))
         → AllMarked true (kid_at here (kid_nth i kids))
@@ -88,48 +82,42 @@ marked_off (j ∷ place) (i ∷ here) (at slot stored (begun_plot tracker kids))
     go (inr ne) below = marked_at true here (kid_nth i kids) (but_nth i j (λ below. Leads place below) kids leads.1 ne)
 marked_off place (i ∷ here) _ leads off reach = absurd reach
 
--- the way goes on where something else is put off it
-pub leads_off : (place here : Place) (new k : Kid) → Leads place k → IsOffTheWay place here → Reaches here k
-    → AllMarked true new → Leads place (put_at here new k)
-leads_off place [] new k leads off reach is = absurd (off place refl)
-leads_off [] (i ∷ here) new (at slot stored (begun_plot tracker kids)) leads off reach is = (
-  leads.0,
-  marked_put_nth true i (put_at here new (kid_nth i kids)) kids leads.1
-      (marked_put_at true here new (kid_nth i kids) (marked_nth true i kids leads.1) is),
+-- the way goes on where something else is put off it, and through the same slots
+pub way_off : (place here : Place) (new k : Kid) → Leads place k → IsOffTheWay place here → Reaches here k → AllMarked true new
+    → Leads place (put_at here new k) × (slots_along place (put_at here new k) ≡ slots_along place k)
+way_off place [] new k leads off reach is = absurd (off place refl)
+way_off [] (i ∷ here) new (at slot stored (begun_plot tracker kids)) leads off reach is = (
+  (
+    leads.0,
+    marked_put_nth true i (put_at here new (kid_nth i kids)) kids leads.1
+        (marked_put_at true here new (kid_nth i kids) (marked_nth true i kids leads.1) is),
+  ),
+  refl,
 )
-leads_off (j ∷ place) (i ∷ here) new (at slot stored (begun_plot tracker kids)) leads off reach is = (
-  leads.0,
-  go (same_or_other i j) (λ e. leads_off place here new (kid_nth i kids) (leads_same i j place kids e leads.1)
-      (off_same i j place here e off) reach.1 is),
-)
+way_off (j ∷ place) (i ∷ here) new (at slot stored (begun_plot tracker kids)) leads off reach is =
+    let so = go (same_or_other i j)
+    (λ e. way_off place here new (kid_nth i kids) (leads_same place kids e leads.1) (off_same place here e off) reach.1 is) in
+    ((leads.0, so.0), ap (λ (slots : List ℕ). slot ∷ slots) so.1)
   where
-    go : (i ≡ j) ⊎ (i ≢ j) → (i ≡ j → Leads place (put_at here new (kid_nth i kids)))
-        → StoredBut j (λ below. Leads place below) (put_nth i (put_at here new (kid_nth i kids)) kids)
-    go (inl e) on =
-        subst (λ (n : ℕ). StoredBut j (λ below. Leads place below) (put_nth n (put_at here new (kid_nth i kids)) kids)) (sym e)
-        (but_same j (λ below. Leads place below) (put_at here new (kid_nth i kids)) kids leads.1 (on e))
-    go (inr ne) on =
-        but_other i j (λ below. Leads place below) (put_at here new (kid_nth i kids)) kids leads.1 ne
-        (marked_put_at true here new (kid_nth i kids) (but_nth i j (λ below. Leads place below) kids leads.1 ne) is)
-leads_off place (i ∷ here) new _ leads off reach is = absurd reach
+    child : Kid
+    child = put_at here new (kid_nth i kids)
 
--- and through the same slots
-pub along_off : (place here : Place) (new k : Kid) → Leads place k → IsOffTheWay place here → Reaches here k
-    → slots_along place (put_at here new k) ≡ slots_along place k
-along_off place [] new k leads off reach = absurd (off place refl)
-along_off [] (i ∷ here) new (at slot stored (begun_plot tracker kids)) leads off reach = refl
-along_off (j ∷ place) (i ∷ here) new (at slot stored (begun_plot tracker kids)) leads off reach =
-    ap (λ (slots : List ℕ). slot ∷ slots) (go (same_or_other i j) (λ e.
-    along_off place here new (kid_nth i kids) (leads_same i j place kids e leads.1) (off_same i j place here e off) reach.1))
-  where
-    go : (i ≡ j) ⊎ (i ≢ j) → (i ≡ j → slots_along place (put_at here new (kid_nth i kids)) ≡ slots_along place (kid_nth i kids))
-        → slots_along place (kid_nth j (put_nth i (put_at here new (kid_nth i kids)) kids)) ≡ slots_along place (kid_nth j kids)
-    go (inl e) below =
-        ap (λ (n : ℕ). slots_along place (kid_nth n (put_nth i (put_at here new (kid_nth i kids)) kids))) (sym e)
-        ∙ ap (slots_along place) (nth_put i (put_at here new (kid_nth i kids)) kids reach.0)
-        ∙ below e ∙ ap (λ (n : ℕ). slots_along place (kid_nth n kids)) e
-    go (inr ne) below = ap (slots_along place) (nth_other i j (put_at here new (kid_nth i kids)) kids ne)
-along_off place (i ∷ here) new _ leads off reach = absurd reach
+    go : (i ≡ j) ⊎ (i ≢ j) → (i ≡ j → Leads place child × (slots_along place child ≡ slots_along place (kid_nth i kids)))
+        → StoredBut j (λ below. Leads place below) (put_nth i child kids)
+        × (slots_along place (kid_nth j (put_nth i child kids)) ≡ slots_along place (kid_nth j kids))
+    go (inl e) on = (
+      subst (λ (n : ℕ). StoredBut j (λ below. Leads place below) (put_nth n child kids)) (sym e)
+          (but_same j (λ below. Leads place below) child kids leads.1 (on e).0),
+      ap (λ (n : ℕ). slots_along place (kid_nth n (put_nth i child kids))) (sym e)
+          ∙ ap (slots_along place) (nth_put i child kids reach.0)
+          ∙ (on e).1 ∙ ap (λ (n : ℕ). slots_along place (kid_nth n kids)) e,
+    )
+    go (inr ne) on = (
+      but_other i j (λ below. Leads place below) child kids leads.1 ne
+          (marked_put_at true here new (kid_nth i kids) (but_nth i j (λ below. Leads place below) kids leads.1 ne) is),
+      ap (slots_along place) (nth_other i j child kids ne),
+    )
+way_off place (i ∷ here) new _ leads off reach is = absurd reach
 
 -- Places of the tree.
 
@@ -148,36 +136,35 @@ is_none_at : (place : Place) → ((slot : ℕ) (stored : Bool) (plot : Plot) →
 is_none_at [] slot stored plot e = cc
 is_none_at (i ∷ place) slot stored plot e = is_none_at place slot stored plot e
 
-is_none_in : (place : Place) (v : Val) (slot : ℕ) (stored : Bool) (plot : Plot) → kid_at place (there v) ≡ at slot stored plot → ⊥
-is_none_in [] v slot stored plot e = cc
-is_none_in (i ∷ place) v slot stored plot e = is_none_at place slot stored plot e
+is_none_in : (place : Place) (v : Val) {slot : ℕ} {stored : Bool} {plot : Plot} → kid_at place (there v) ≡ at slot stored plot → ⊥
+is_none_in [] v e = cc
+is_none_in (i ∷ place) v {slot} {stored} {plot} e = is_none_at place slot stored plot e
 
-unplaced_nth : (j : ℕ) (way : Place) (ks : Kids) (slot : ℕ) (stored : Bool) (plot : Plot) → AreUnplaced (cells_in ks)
+unplaced_nth : (j : ℕ) (way : Place) (ks : Kids) {slot : ℕ} {stored : Bool} {plot : Plot} → AreUnplaced (cells_in ks)
     → kid_at way (kid_nth j ks) ≡ at slot stored plot → ⊥
-unplaced_nth j way no_kids slot stored plot closed e = is_none_at way slot stored plot e
-unplaced_nth zero way (kid gone ks) slot stored plot closed e = is_none_at way slot stored plot e
-unplaced_nth zero way (kid (there v) ks) slot stored plot closed e = is_none_in way v slot stored plot e
-unplaced_nth zero way (kid (at m mark below) ks) slot stored plot closed e = absurd closed.0
-unplaced_nth (suc j) way (kid k ks) slot stored plot closed e = unplaced_nth j way ks slot stored plot closed.1 e
+unplaced_nth j way no_kids {slot} {stored} {plot} closed e = is_none_at way slot stored plot e
+unplaced_nth zero way (kid gone ks) {slot} {stored} {plot} closed e = is_none_at way slot stored plot e
+unplaced_nth zero way (kid (there v) ks) {slot} {stored} {plot} closed e = is_none_in way v e
+unplaced_nth zero way (kid (at m mark below) ks) closed e = absurd closed.0
+unplaced_nth (suc j) way (kid k ks) {slot} {stored} {plot} closed e = unplaced_nth j way ks closed.1 e
 
 -- beneath a place none of whose children is in a slot, none is
-pub closed_below : (j : ℕ) (way : Place) (own : ℕ) (mark : Bool) (top : Plot) (slot : ℕ) (stored : Bool) (plot : Plot)
+pub closed_below : (j : ℕ) (way : Place) (own : ℕ) (mark : Bool) (top : Plot) {slot : ℕ} {stored : Bool} {plot : Plot}
     → IsClosed (body_in top) → kid_at (j ∷ way) (at own mark top) ≡ at slot stored plot → ⊥
-closed_below j way own mark entered_plot slot stored plot closed e = is_none_at way slot stored plot e
-closed_below j way own mark (whole_plot v) slot stored plot closed e = is_none_at way slot stored plot e
-closed_below j way own mark (begun_plot tracker kids) slot stored plot closed e =
-    unplaced_nth j way kids slot stored plot closed e
+closed_below j way own mark entered_plot {slot} {stored} {plot} closed e = is_none_at way slot stored plot e
+closed_below j way own mark (whole_plot v) {slot} {stored} {plot} closed e = is_none_at way slot stored plot e
+closed_below j way own mark (begun_plot tracker kids) {slot} {stored} {plot} closed e = unplaced_nth j way kids closed e
 
 -- a place is neither this one nor beneath it
 abbrev pub IsNotBeneath : (here other : Place) → Type 0
 IsNotBeneath here other = (way : Place) → other ≡ here ++ way → ⊥
 
 -- a stored place other than a closed one isn't beneath it
-pub stored_beside : (here other : Place) (k : Kid) (n m : ℕ) (plot : Plot) → kid_at here k ≡ at n true plot
+pub stored_beside : (here : Place) {other : Place} {k : Kid} {n : ℕ} {m : ℕ} {plot : Plot} → kid_at here k ≡ at n true plot
     → IsClosed (body_in plot) → IsStoredAt k m other → other ≢ here → IsNotBeneath here other
-stored_beside here other k n m plot is closed stored ne [] e = ne (e ∙ append-nil here)
-stored_beside here other k n m plot is closed stored ne (j ∷ way) e =
-    closed_below j way n true plot m true stored.plot closed
+stored_beside here is closed stored ne [] e = ne (e ∙ append-nil here)
+stored_beside here {k} {n} {m} {plot} is closed stored ne (j ∷ way) e =
+    closed_below j way n true plot closed
     (ap (kid_at (j ∷ way)) (sym is) ∙ sym (kid_at_append here (j ∷ way) k) ∙ ap (λ (p : Place). kid_at p k) (sym e) ∙ stored.is)
 
 -- it is stored there just where it is once a value is put here
@@ -232,20 +219,20 @@ stored_both (i ∷ here) (j ∷ other) (at slot mark (begun_plot tracker kids)) 
 stored_both (i ∷ here) other _ v m reach beside = absurd reach
 
 -- it is stored still where a value is put there
-pub stored_still : (here other : Place) (k : Kid) (v : Val) (m : ℕ) → Reaches here k → IsNotBeneath here other
+pub stored_still : (here : Place) {other : Place} {k : Kid} (v : Val) {m : ℕ} → Reaches here k → IsNotBeneath here other
     → IsStoredAt k m other → IsStoredAt (put_at here (there v) k) m other
-stored_still here other k v m reach beside stored = (stored_both here other k v m reach beside).0 stored
+stored_still here {other} {k} v {m} reach beside stored = (stored_both here other k v m reach beside).0 stored
 
 -- and what is stored then was stored before
-pub stored_before : (here other : Place) (k : Kid) (v : Val) (m : ℕ) → Reaches here k
+pub stored_before : (here : Place) {other : Place} (k : Kid) (v : Val) {m : ℕ} → Reaches here k
     → IsStoredAt (put_at here (there v) k) m other → IsStoredAt k m other
-stored_before here other k v m reach stored =
-    (stored_both here other k v m reach (λ way e. is_none_in way v m true stored.plot
-    (ap (kid_at way) (sym (kid_put_at here (there v) k reach)) ∙ sym (kid_at_append here way (put_at here (there v) k))
+stored_before here {other} k v {m} reach stored =
+    (stored_both here other k v m reach (λ way e. is_none_in
+    way v (ap (kid_at way) (sym (kid_put_at here (there v) k reach)) ∙ sym (kid_at_append here way (put_at here (there v) k))
     ∙ ap (λ (p : Place). kid_at p (put_at here (there v) k)) (sym e) ∙ stored.is))).1 stored
 
 -- what was put there is stored no more
-pub stored_no_more : (here : Place) (k : Kid) (v : Val) (m : ℕ) → Reaches here k → IsStoredAt (put_at here (there v) k) m here → ⊥
-stored_no_more here k v m reach stored =
+pub stored_no_more : {here : Place} (k : Kid) (v : Val) {m : ℕ} → Reaches here k → IsStoredAt (put_at here (there v) k) m here → ⊥
+stored_no_more {here} k v {m} reach stored =
     let both : there v ≡ at m true stored.plot = sym (kid_put_at here (there v) k reach) ∙ stored.is in
     cc

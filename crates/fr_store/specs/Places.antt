@@ -1,12 +1,7 @@
 -- Places in slots, listed by their paths: what the order of the walk is made of.
 use Rattle.std.specs.Prelude.{◌≡◌, ◌⊎◌, ℕ, ◌+◌, ◌-◌, ◌*◌, ◌<◌, ◌≤◌, Bool, true, false, cond, List, [], ◌∷◌, ◌++◌, filter, length, ltb, map, nat_eq, Option, Some, None, IsSomeAnd, if◌then◌else◌}
 use Rattle.std.specs.List.{All, Contains}
-use Rattle.fr_model.specs.Places.{Place, is_key, entry_of}
-use Rattle.fr_model.specs.Trackers.{Tracker, as_fields, as_elements, as_content, as_items, as_entries, EntriesKind}
-use Rattle.fr_frame.specs.declared.places.FrameOwner.{FrameOwner}
-use Rattle.fr_frame.specs.Bodies.{Body, entered_body, whole_body, begun_body}
-use Rattle.fr_frame.specs.Heap.{Node, Heap}
-use Rattle.fr_frame.specs.Kids.{Kid, gone, there, at, Plot, entered_plot, whole_plot, begun_plot, body_in}
+use Rattle.fr_store.specs.Below.{Body, EntriesKind, FrameOwner, Heap, Kid, Node, Place, Plot, Tracker, as_content, as_elements, as_entries, as_fields, as_items, at, begun_body, begun_plot, body_in, entered_body, entered_plot, entry_of, gone, is_key, there, whole_body, whole_plot}
 use Rattle.fr_store.specs.declared.turning.StoredPlace.{StoredPlace}
 use Rattle.fr_store.specs.Numbers.{slot_of, slots_of}
 use Rattle.fr_store.specs.Ways.{counts_if, kid_at, kid_below, Reaches}

@@ -4,17 +4,16 @@ use Rattle.std.specs.Prelude.{if◌then◌else◌}
 use Rattle.fr_shape.specs.declared.error.Operation.{Operation}
 use Rattle.fr_shape.specs.declared.shape.Def.{Def}
 use Rattle.fr_shape.specs.declared.shape.Field.{Field}
-use Rattle.fr_shape.specs.declared.shape.PointerDef.{PointerDef}
 use Rattle.fr_shape.specs.declared.shape.Shape.{Shape}
 use Rattle.fr_shape.specs.declared.shape.ShapeId.{ShapeId}
 use Rattle.fr_shape.specs.declared.shape.VariantDef.{VariantDef}
 use Rattle.fr_shape.specs.Checked.{IsChecked}
 use Rattle.fr_shape.specs.Look.{Table, IsIn, def_of, def_or_other}
-use Rattle.fr_model.specs.Places.{Place, child_shape, entry_shape, is_key, item_shape, pointee_shape, shape_or_zero}
+use Rattle.fr_model.specs.Places.{Place, entry_shape, is_key, item_shape, pointee_shape, shape_or_zero}
 use Rattle.fr_model.specs.Trackers.{Tracker, as_fields, as_elements, as_content, ContentKind, as_items, ItemsKind, as_entries, EntriesKind}
 use Rattle.fr_model.specs.Tree.{Tree, Trees, no_trees, branch, tree_nth, tree_at, child_as, shapes_from, shape_in, count_trees}
 use Rattle.fr_model.specs.Contents.{is_slice, pointee_refusal, pointer_refusal, points_to_slice}
-use Rattle.fr_model.specs.Well.{HasContent, HasElements, HasEntries, HasFields, HasFieldsOf, IsBegunRightly, IsFullAs, TakesItemsAs, MayPoint, PointsTo, Suits, SuitAll}
+use Rattle.fr_model.specs.Well.{HasContent, HasFieldsOf, IsBegunRightly, IsFullAs, MayPoint, PointsTo, Suits, SuitAll}
 use Rattle.fr_plan.specs.declared.nodes.NodeId.{NodeId}
 use Rattle.fr_plan.specs.declared.nodes.TypePlanNode.{TypePlanNode}
 use Rattle.fr_plan.specs.Lookups.{node_at}
@@ -72,76 +71,52 @@ record Leads (plan : Plan) (found : TypePlanNode) (step : Step) (t : ShapeId) : 
   shape : shape_at plan node ≡ Some t
 
 -- what the table has there
-record Has (table : Table) (id : ShapeId) (step : Step) (n : ℕ) : Type 0 where
-  child : ShapeId
-  there : child_in table id step ≡ Some child
-  number : child.0 ≡ n
+abbrev Has : Table → ShapeId → Step → ℕ → Type 0
+Has table id step n = (child : ShapeId) × (child_in table id step ≡ Some child) × (child.0 ≡ n)
 
 field_at : (fields : List Field) (i : ℕ) → i < length fields → (field : Field) × (slice_get fields i ≡ Some field)
 field_at [] i h = absurd (omega arith)
 field_at (field ∷ fields) zero h = (field, refl)
 field_at (field ∷ fields) (suc i) h = field_at fields i (omega arith)
 
--- A child of a place of this definition, by the tracker as which it is begun.
-module _ (table : Table) (id : ShapeId) (shape : Shape) (is : slice_get table id.0 ≡ Some shape) (count i : ℕ) (h : i < count) where
-  struct_child : (def : Def) → shape.def ≡ def → HasFields def None count → Has table id (struct_field_step i) (child_shape table id.0 i)
-  struct_child (Def.Struct struct) e full =
-      let found = field_at struct.fields i (omega (arith, full)) in
-      record { child = found.0.shape; there = rw (is, e, found.1) refl; number = rw (is, e, found.1) refl }
-  struct_child _ e full = absurd full
-
-  array_child : (def : Def) → shape.def ≡ def → HasElements def count → Has table id list_item_step (child_shape table id.0 i)
-  array_child (Def.Array item n) e full = record { child = item; there = rw (is, e) refl; number = rw (is, e) refl }
-  array_child _ e full = absurd full
-
-  variant_child : (k : ℕ) (def : Def) → shape.def ≡ def → HasFields def (Some k) count
-      → Has table id (enum_variant_field_step k i) (child_as table id.0 (as_fields (Some k)) i)
-  variant_child k (Def.Enum enumeration) e full = go (slice_get enumeration.variants k) refl full
-    where
-      go : (variant : Option VariantDef) → slice_get enumeration.variants k ≡ variant → HasFieldsOf variant count
-          → Has table id (enum_variant_field_step k i) (child_as table id.0 (as_fields (Some k)) i)
-      go (Some variant) f full =
-          let found = field_at variant.fields i (omega (arith, full)) in
-          record { child = found.0.shape; there = rw (is, e, f, found.1) refl; number = rw (is, e, f, found.1) refl }
-      go None f full = absurd full
-  variant_child k _ e full = absurd full
-
-  some_child : (def : Def) → shape.def ≡ def → HasContent def ContentKind.Some count
-      → Has table id option_inner_step (child_as table id.0 (as_content ContentKind.Some) i)
-  some_child (Def.Option t) e full = record { child = t; there = rw (is, e) refl; number = rw (is, e) refl }
-  some_child _ e full = absurd full
-
-  ok_child : (def : Def) → shape.def ≡ def → HasContent def ContentKind.Ok count → Has table id result_ok_step (child_as table id.0 (as_content ContentKind.Ok) i)
-  ok_child (Def.Result t other) e full = record { child = t; there = rw (is, e) refl; number = rw (is, e) refl }
-  ok_child _ e full = absurd full
-
-  err_child : (def : Def) → shape.def ≡ def → HasContent def ContentKind.Err count → Has table id result_err_step (child_as table id.0 (as_content ContentKind.Err) i)
-  err_child (Def.Result t other) e full = record { child = other; there = rw (is, e) refl; number = rw (is, e) refl }
-  err_child _ e full = absurd full
-
-  pointee_child : (def : Def) → shape.def ≡ def → HasContent def ContentKind.Pointer count
-      → Has table id pointer_pointee_step (child_as table id.0 (as_content ContentKind.Pointer) i)
-  pointee_child (Def.Pointer pointer) e full = go pointer.pointee refl full
-    where
-      go : (pointee : Option ShapeId) → pointer.pointee ≡ pointee → PointsTo pointee count
-          → Has table id pointer_pointee_step (child_as table id.0 (as_content ContentKind.Pointer) i)
-      go (Some t) f full = record { child = t; there = rw (is, e, f) refl; number = rw (is, e, f) refl }
-      go None f full = absurd full
-  pointee_child _ e full = absurd full
-
-  list_child : (def : Def) → shape.def ≡ def → TakesItemsAs def ItemsKind.List → Has table id list_item_step (child_as table id.0 (as_items ItemsKind.List) i)
-  list_child (Def.List item) e full = record { child = item; there = rw (is, e) refl; number = rw (is, e) refl }
-  list_child _ e full = absurd full
-
-  set_child : (def : Def) → shape.def ≡ def → TakesItemsAs def ItemsKind.Set → Has table id set_item_step (child_as table id.0 (as_items ItemsKind.Set) i)
-  set_child (Def.Set item) e full = record { child = item; there = rw (is, e) refl; number = rw (is, e) refl }
-  set_child _ e full = absurd full
-
-  map_child : (base : ℕ) (of_key : Bool) (def : Def) → shape.def ≡ def → HasEntries def (EntriesKind.Map base) count
-      → Has table id (entry_step of_key) (entry_shape (def_of table id.0) of_key)
-  map_child base true (Def.Map key item) e full = record { child = key; there = rw (is, e) refl; number = rw (is, e) refl }
-  map_child base false (Def.Map key item) e full = record { child = item; there = rw (is, e) refl; number = rw (is, e) refl }
-  map_child base _ _ e full = absurd full
+-- the child of a place of this definition, by the tracker as which it is begun
+child_by : (table : Table) (id : ShapeId) (shape : Shape) → slice_get table id.0 ≡ Some shape → (count i : ℕ) → i < count
+    → (tracker : Tracker) (def : Def) → shape.def ≡ def → IsLookedUp tracker → IsFullAs def tracker count
+    → Has table id (step_of tracker i) (child_as table id.0 tracker i)
+child_by table id shape is count i h (as_fields None) (Def.Struct struct) e one full =
+    let found = field_at struct.fields i (omega (arith, full)) in
+    (found.0.shape, rw (is, e, found.1) refl, rw (is, e, found.1) refl)
+child_by table id shape is count i h (as_fields (Some k)) (Def.Enum enumeration) e one full =
+    go (slice_get enumeration.variants k) refl full
+  where
+    go : (variant : Option VariantDef) → slice_get enumeration.variants k ≡ variant → HasFieldsOf variant count
+        → Has table id (enum_variant_field_step k i) (child_as table id.0 (as_fields (Some k)) i)
+    go (Some variant) f full =
+        let found = field_at variant.fields i (omega (arith, full)) in
+        (found.0.shape, rw (is, e, f, found.1) refl, rw (is, e, f, found.1) refl)
+    go None f full = absurd full
+child_by table id shape is count i h as_elements (Def.Array item n) e one full = (item, rw (is, e) refl, rw (is, e) refl)
+child_by table id shape is count i h (as_content ContentKind.Some) (Def.Option t) e one full = (t, rw (is, e) refl, rw (is, e) refl)
+child_by table id shape is count i h (as_content ContentKind.Ok) (Def.Result t other) e one full = (t, rw (is, e) refl, rw (is, e) refl)
+child_by table id shape is count i h (as_content ContentKind.Err) (Def.Result other t) e one full = (t, rw (is, e) refl, rw (is, e) refl)
+child_by table id shape is count i h (as_content ContentKind.Pointer) (Def.Pointer pointer) e one full = go pointer.pointee refl full
+  where
+    go : (pointee : Option ShapeId) → pointer.pointee ≡ pointee → PointsTo pointee count
+        → Has table id pointer_pointee_step (child_as table id.0 (as_content ContentKind.Pointer) i)
+    go (Some t) f full = (t, rw (is, e, f) refl, rw (is, e, f) refl)
+    go None f full = absurd full
+child_by table id shape is count i h (as_items ItemsKind.List) (Def.List t) e one full = (t, rw (is, e) refl, rw (is, e) refl)
+child_by table id shape is count i h (as_items ItemsKind.Set) (Def.Set t) e one full = (t, rw (is, e) refl, rw (is, e) refl)
+child_by table id shape is count i h (as_entries (EntriesKind.Map base)) (Def.Map key item) e one full = go (is_key i)
+  where
+    go : (of_key : Bool) → Has table id (entry_step of_key) (entry_shape (def_of table id.0) of_key)
+    go true = (key, rw (is, e) refl, rw (is, e) refl)
+    go false = (item, rw (is, e) refl, rw (is, e) refl)
+child_by table id shape is count i h (as_items ItemsKind.Slice) def e one full = absurd one
+child_by table id shape is count i h (as_items ItemsKind.ClosedSlice) def e one full = absurd one
+child_by table id shape is count i h (as_items ItemsKind.Array) def e one full = absurd one
+child_by table id shape is count i h (as_entries (EntriesKind.Object keys)) def e one full = absurd one
+child_by table id shape is count i h _ _ e one full = absurd full
 
 -- a place that is begun as either side of a result may be so as the other
 err_side : (def : Def) (count : ℕ) → HasContent def ContentKind.Ok count → HasContent def ContentKind.Err count
@@ -152,31 +127,18 @@ ok_side : (def : Def) (count : ℕ) → HasContent def ContentKind.Err count →
 ok_side (Def.Result t e) count has = has
 ok_side _ count has = absurd has
 
+no_other : (tracker : Tracker) (count : ℕ) → IsFullAs Def.Other tracker count → ⊥
+no_other as_elements count full = full
+no_other _ count full = full
+
 has_child : (table : Table) (id : ShapeId) (tracker : Tracker) (count i : ℕ) → IsLookedUp tracker
     → IsFullAs (def_of table id.0) tracker count → i < count → Has table id (step_of tracker i) (child_as table id.0 tracker i)
-has_child table id tracker count i one full below = go (slice_get table id.0) refl tracker one full
+has_child table id tracker count i one full below = go (slice_get table id.0) refl full
   where
-    go : (found : Option Shape) → slice_get table id.0 ≡ found → (tracker : Tracker) → IsLookedUp tracker
-        → IsFullAs (def_or_other found) tracker count → Has table id (step_of tracker i) (child_as table id.0 tracker i)
-    go (Some shape) is (as_fields None) one full = struct_child table id shape is count i below shape.def refl full
-    go (Some shape) is as_elements one full = array_child table id shape is count i below shape.def refl full
-    go (Some shape) is (as_fields (Some k)) one full = variant_child table id shape is count i below k shape.def refl full
-    go (Some shape) is (as_content ContentKind.Some) one full = some_child table id shape is count i below shape.def refl full
-    go (Some shape) is (as_content ContentKind.Ok) one full = ok_child table id shape is count i below shape.def refl full
-    go (Some shape) is (as_content ContentKind.Err) one full = err_child table id shape is count i below shape.def refl full
-    go (Some shape) is (as_content ContentKind.Pointer) one full = pointee_child table id shape is count i below shape.def refl full
-    go (Some shape) is (as_items ItemsKind.List) one full = list_child table id shape is count i below shape.def refl full
-    go (Some shape) is (as_items ItemsKind.Slice) one full = absurd one
-    go (Some shape) is (as_items ItemsKind.ClosedSlice) one full = absurd one
-    go (Some shape) is (as_items ItemsKind.Set) one full = set_child table id shape is count i below shape.def refl full
-    go (Some shape) is (as_entries (EntriesKind.Map base)) one full = map_child table id shape is count i below base (is_key i) shape.def refl full
-    go (Some shape) is (as_items ItemsKind.Array) one full = absurd one
-    go (Some shape) is (as_entries (EntriesKind.Object keys)) one full = absurd one
-    go None is as_elements one full = absurd full
-    go None is (as_fields selected) one full = absurd full
-    go None is (as_content kind) one full = absurd full
-    go None is (as_items kind) one full = absurd full
-    go None is (as_entries kind) one full = absurd full
+    go : (found : Option Shape) → slice_get table id.0 ≡ found → IsFullAs (def_or_other found) tracker count
+        → Has table id (step_of tracker i) (child_as table id.0 tracker i)
+    go (Some shape) is full = child_by table id shape is count i below tracker shape.def refl one full
+    go None is full = absurd (no_other tracker count full)
 
 -- What a pointer to a slice points to, and the items of that.
 record SliceAt (table : Table) (id : ShapeId) : Type 0 where
@@ -187,33 +149,30 @@ record SliceAt (table : Table) (id : ShapeId) : Type 0 where
 slice_items : (table : Table) (slice : ShapeId) (found : Option Shape) → slice_get table slice.0 ≡ found → (def : Def)
     → def_or_other found ≡ def → is_slice def ≡ true → Has table slice list_item_step (item_shape (def_of table slice.0))
 slice_items table slice (Some shape) is (Def.Slice item) e h =
-    record { child = item; there = rw (is, e) refl; number = rw (is, e) refl }
+    (item, rw (is, e) refl, rw (is, e) refl)
 slice_items table slice (Some shape) is _ e h = absurd (cc)
 slice_items table slice None is def e h = let wrong : false ≡ true = ap is_slice e ∙ h in absurd (cc)
 
 slice_at : (table : Table) (id : ShapeId) → MayPoint table id.0 true → SliceAt table id
 slice_at table id may = found (slice_get table id.0) refl may.0 may.1
   where
-    pointed : (shape : Shape) → slice_get table id.0 ≡ Some shape → (pointer : PointerDef) → shape.def ≡ Def.Pointer pointer
-        → (constructible : Bool) (pointee : Option ShapeId) → pointer.pointee ≡ pointee
-        → (if constructible then pointee_refusal table pointer.known pointee else Some Operation.PointerNotConstructible) ≡ None
-        → is_slice (def_of table (shape_or_zero pointee)) ≡ true → SliceAt table id
-    pointed shape is pointer e true (Some slice) f may h = record {
-      slice = slice;
-      points = rw (is, e, f) refl;
-      items = rw (is, e, f) (slice_items table slice (slice_get table slice.0) refl (def_of table slice.0) refl h);
-    }
-    pointed shape is pointer e true None f may h = absurd (cc)
-    pointed shape is pointer e false pointee f may h = absurd (cc)
-
-    by_def : (shape : Shape) → slice_get table id.0 ≡ Some shape → (def : Def) → shape.def ≡ def
-        → pointer_refusal table def ≡ None → points_to_slice table def ≡ true → SliceAt table id
-    by_def shape is (Def.Pointer pointer) e may h = pointed shape is pointer e pointer.constructible pointer.pointee refl may h
-    by_def shape is _ e may h = absurd (cc)
-
     found : (shape : Option Shape) → slice_get table id.0 ≡ shape → pointer_refusal table (def_or_other shape) ≡ None
         → points_to_slice table (def_or_other shape) ≡ true → SliceAt table id
-    found (Some shape) is may h = by_def shape is shape.def refl may h
+    found (Some shape) is may h = by_def shape.def refl may h
+      where
+        by_def : (def : Def) → shape.def ≡ def → pointer_refusal table def ≡ None → points_to_slice table def ≡ true → SliceAt table id
+        by_def (Def.Pointer pointer) e may h = pointed pointer.constructible pointer.pointee refl may h
+          where
+            pointed : (constructible : Bool) (pointee : Option ShapeId) → pointer.pointee ≡ pointee
+                → (if constructible then pointee_refusal table pointer.known pointee else Some Operation.PointerNotConstructible)
+                ≡ None → is_slice (def_of table (shape_or_zero pointee)) ≡ true → SliceAt table id
+            pointed true (Some slice) f may h = record {
+              slice = slice;
+              points = rw (is, e, f) refl;
+              items = rw (is, e, f) (slice_items table slice (slice_get table slice.0) refl (def_of table slice.0) refl h);
+            }
+            pointed _ _ f may h = absurd (cc)
+        by_def _ e may h = absurd (cc)
     found None is may h = absurd (cc)
 
 -- a pointer that is begun as one to a slice may be begun so
@@ -263,16 +222,6 @@ module _ (agree : LookupsAgree) (table : Table) (root : ShapeId) (plan : Plan) (
           record { node = id; is = e; shape = shape }
       go None e h = cc
 
-  found_at : (id : NodeId) (t : ShapeId) → shape_at plan id ≡ Some t → IsOfShape plan id t.0
-  found_at id t e = go (node_at plan id) refl e
-    where
-      go : (x : Option TypePlanNode) → node_at plan id ≡ x → option_map (λ (n : TypePlanNode). n.shape) x ≡ Some t
-          → IsOfShape plan id t.0
-      go (Some found) is h =
-          let same : found.shape ≡ t = cc in
-          record { found = found; there = is; shape = ap (λ (x : ShapeId). x.0) same }
-      go None is h = cc
-
   met_at : (id : NodeId) (t : ShapeId) → shape_at plan id ≡ Some t
       → (found : TypePlanNode) × (node_at plan id ≡ Some found) × (found.shape ≡ t)
   met_at id t e = go (node_at plan id) refl e
@@ -281,6 +230,11 @@ module _ (agree : LookupsAgree) (table : Table) (root : ShapeId) (plan : Plan) (
           → (found : TypePlanNode) × (node_at plan id ≡ Some found) × (found.shape ≡ t)
       go (Some found) is h = (found, is, cc)
       go None is h = cc
+
+  found_at : (id : NodeId) (t : ShapeId) → shape_at plan id ≡ Some t → IsOfShape plan id t.0
+  found_at id t e =
+      let met = met_at id t e in
+      record { found = met.0; there = met.1; shape = ap (λ (x : ShapeId). x.0) met.2 }
 
   -- the node of a child
   pub child_shaped : (node : NodeId) (s : ℕ) (tracker : Tracker) (count i : ℕ) → IsOfShape plan node s
@@ -291,10 +245,6 @@ module _ (agree : LookupsAgree) (table : Table) (root : ShapeId) (plan : Plan) (
       (go tracker (subst (λ (n : ℕ). IsFullAs (def_of table n) tracker count) (sym is.shape) full)
       (subst (λ (n : ℕ). PointsRightly table n tracker) (sym is.shape) points))
     where
-      has : (tracker : Tracker) → IsLookedUp tracker → IsFullAs (def_of table is.found.shape.0) tracker count
-          → Has table is.found.shape (step_of tracker i) (child_as table is.found.shape.0 tracker i)
-      has tracker one full = has_child table is.found.shape tracker count i one full below
-
       of_child : (tracker : Tracker) (next : NodeId) (child : ShapeId) → child.0 ≡ child_as table is.found.shape.0 tracker i
           → child_node plan node tracker i ≡ next → shape_at plan next ≡ Some child
           → IsOfShape plan (child_node plan node tracker i) (child_as table is.found.shape.0 tracker i)
@@ -310,74 +260,49 @@ module _ (agree : LookupsAgree) (table : Table) (root : ShapeId) (plan : Plan) (
           let pointed = slice_at table is.found.shape points in
           let first = looked node is.found pointer_pointee_step pointed.slice is.there pointed.points in
           let met = met_at first.node pointed.slice first.shape in
-          let next = looked first.node met.0 list_item_step pointed.items.child met.1
-          (subst (λ (id : ShapeId). child_in table id list_item_step ≡ Some pointed.items.child) (sym met.2)
-          pointed.items.there) in
+          let next = looked first.node met.0 list_item_step pointed.items.0 met.1
+          (subst (λ (id : ShapeId). child_in table id list_item_step ≡ Some pointed.items.0) (sym met.2)
+          pointed.items.1) in
           let same : child_node plan node (as_items ItemsKind.Slice) i ≡ next.node = rw (is.there, first.is, met.1, next.is) refl in
-          of_child tracker next.node pointed.items.child (pointed.items.number ∙ sym number) (node_is ∙ same) next.shape
+          of_child tracker next.node pointed.items.0 (pointed.items.2 ∙ sym number) (node_is ∙ same) next.shape
 
       entry_same : (of_key : Bool) (next : NodeId) → looked_up plan is.found (entry_step of_key) ≡ Some next
           → unwrap_or (entry_found plan node of_key) (record { 0 = 0 }) ≡ next
       entry_same true next e = rw (is.there, e) refl
       entry_same false next e = rw (is.there, e) refl
 
+      -- one lookup
+      one_shaped : (tracker : Tracker) → IsLookedUp tracker → IsFullAs (def_of table is.found.shape.0) tracker count
+          → ((next : NodeId) → looked_up plan is.found (step_of tracker i) ≡ Some next → child_node plan node tracker i ≡ next)
+          → IsOfShape plan (child_node plan node tracker i) (child_as table is.found.shape.0 tracker i)
+      one_shaped tracker one full same =
+          let child = has_child table is.found.shape tracker count i one full below in
+          let next = looked node is.found (step_of tracker i) child.0 is.there child.1 in
+          of_child tracker next.node child.0 child.2 (same next.node next.is) next.shape
+
       go : (tracker : Tracker) → IsFullAs (def_of table is.found.shape.0) tracker count → PointsRightly table is.found.shape.0 tracker
           → IsOfShape plan (child_node plan node tracker i) (child_as table is.found.shape.0 tracker i)
-      go (as_fields None) full points =
-          let child = has (as_fields None) tt full in
-          let next = looked node is.found (struct_field_step i) child.child is.there child.there in
-          let same : child_node plan node (as_fields None) i ≡ next.node = rw (is.there, next.is) refl in
-          of_child (as_fields None) next.node child.child child.number same next.shape
-      go as_elements full points =
-          let child = has as_elements tt full in
-          let next = looked node is.found list_item_step child.child is.there child.there in
-          let same : child_node plan node as_elements i ≡ next.node = rw (is.there, next.is) refl in
-          of_child as_elements next.node child.child child.number same next.shape
-      go (as_fields (Some k)) full points =
-          let child = has (as_fields (Some k)) tt full in
-          let next = looked node is.found (enum_variant_field_step k i) child.child is.there child.there in
-          let same : child_node plan node (as_fields (Some k)) i ≡ next.node = rw (is.there, next.is) refl in
-          of_child (as_fields (Some k)) next.node child.child child.number same next.shape
+      go (as_fields None) full points = one_shaped (as_fields None) tt full (λ next e. rw (is.there, e) refl)
+      go as_elements full points = one_shaped as_elements tt full (λ next e. rw (is.there, e) refl)
+      go (as_fields (Some k)) full points = one_shaped (as_fields (Some k)) tt full (λ next e. rw (is.there, e) refl)
       go (as_content ContentKind.Some) full points =
-          let child = has (as_content ContentKind.Some) tt full in
-          let next = looked node is.found option_inner_step child.child is.there child.there in
-          let same : child_node plan node (as_content ContentKind.Some) i ≡ next.node = rw (is.there, next.is) refl in
-          of_child (as_content ContentKind.Some) next.node child.child child.number same next.shape
+          one_shaped (as_content ContentKind.Some) tt full (λ next e. rw (is.there, e) refl)
       go (as_content ContentKind.Ok) full points =
-          let child = has (as_content ContentKind.Ok) tt full in
-          let next = looked node is.found result_ok_step child.child is.there child.there in
-          let other = has (as_content ContentKind.Err) tt (err_side _ _ full) in
-          let beside = looked node is.found result_err_step other.child is.there other.there in
-          let same : child_node plan node (as_content ContentKind.Ok) i ≡ next.node = rw (is.there, next.is, beside.is) refl in
-          of_child (as_content ContentKind.Ok) next.node child.child child.number same next.shape
+          let other = has_child table is.found.shape (as_content ContentKind.Err) count i tt (err_side _ _ full) below in
+          let beside = looked node is.found result_err_step other.0 is.there other.1 in
+          one_shaped (as_content ContentKind.Ok) tt full (λ next e. rw (is.there, e, beside.is) refl)
       go (as_content ContentKind.Err) full points =
-          let child = has (as_content ContentKind.Err) tt full in
-          let next = looked node is.found result_err_step child.child is.there child.there in
-          let other = has (as_content ContentKind.Ok) tt (ok_side _ _ full) in
-          let beside = looked node is.found result_ok_step other.child is.there other.there in
-          let same : child_node plan node (as_content ContentKind.Err) i ≡ next.node = rw (is.there, next.is, beside.is) refl in
-          of_child (as_content ContentKind.Err) next.node child.child child.number same next.shape
+          let other = has_child table is.found.shape (as_content ContentKind.Ok) count i tt (ok_side _ _ full) below in
+          let beside = looked node is.found result_ok_step other.0 is.there other.1 in
+          one_shaped (as_content ContentKind.Err) tt full (λ next e. rw (is.there, e, beside.is) refl)
       go (as_content ContentKind.Pointer) full points =
-          let child = has (as_content ContentKind.Pointer) tt full in
-          let next = looked node is.found pointer_pointee_step child.child is.there child.there in
-          let same : child_node plan node (as_content ContentKind.Pointer) i ≡ next.node = rw (is.there, next.is) refl in
-          of_child (as_content ContentKind.Pointer) next.node child.child child.number same next.shape
-      go (as_items ItemsKind.List) full points =
-          let child = has (as_items ItemsKind.List) tt full in
-          let next = looked node is.found list_item_step child.child is.there child.there in
-          let same : child_node plan node (as_items ItemsKind.List) i ≡ next.node = rw (is.there, next.is) refl in
-          of_child (as_items ItemsKind.List) next.node child.child child.number same next.shape
+          one_shaped (as_content ContentKind.Pointer) tt full (λ next e. rw (is.there, e) refl)
+      go (as_items ItemsKind.List) full points = one_shaped (as_items ItemsKind.List) tt full (λ next e. rw (is.there, e) refl)
       go (as_items ItemsKind.Slice) full points = slice_shaped (as_items ItemsKind.Slice) refl refl points
       go (as_items ItemsKind.ClosedSlice) full points = slice_shaped (as_items ItemsKind.ClosedSlice) refl refl points
-      go (as_items ItemsKind.Set) full points =
-          let child = has (as_items ItemsKind.Set) tt full in
-          let next = looked node is.found set_item_step child.child is.there child.there in
-          let same : child_node plan node (as_items ItemsKind.Set) i ≡ next.node = rw (is.there, next.is) refl in
-          of_child (as_items ItemsKind.Set) next.node child.child child.number same next.shape
+      go (as_items ItemsKind.Set) full points = one_shaped (as_items ItemsKind.Set) tt full (λ next e. rw (is.there, e) refl)
       go (as_entries (EntriesKind.Map base)) full points =
-          let child = has (as_entries (EntriesKind.Map base)) tt full in
-          let next = looked node is.found (entry_step (is_key i)) child.child is.there child.there in
-          of_child (as_entries (EntriesKind.Map base)) next.node child.child child.number (entry_same (is_key i) next.node next.is) next.shape
+          one_shaped (as_entries (EntriesKind.Map base)) tt full (λ next e. entry_same (is_key i) next e)
       go (as_items ItemsKind.Array) full points = record { found = is.found; there = is.there; shape = refl }
       go (as_entries (EntriesKind.Object keys)) full points = record { found = is.found; there = is.there; shape = refl }
 

@@ -1,12 +1,6 @@
 -- How slots and a stack of them stand for one tree and the place at which a builder works.
 use Rattle.std.specs.Prelude.{◌≡◌, ℕ, ◌<◌, ◌≤◌, List, [], ◌∷◌, ◌++◌, Option, Some, None, IsSome}
-use Rattle.fr_model.specs.Places.{Place}
-use Rattle.fr_model.specs.Tree.{Tree}
-use Rattle.fr_plan.specs.TypePlan.{Plan}
-use Rattle.fr_frame.specs.declared.places.FrameOwner.{FrameOwner}
-use Rattle.fr_frame.specs.declared.places.Slot.{Slot}
-use Rattle.fr_frame.specs.Heap.{Node, Heap, heap_of, slots_occur}
-use Rattle.fr_frame.specs.Kids.{Kid, gone, tree_of, kid_of, Holds, kid_occurs, AreLeftRightly}
+use Rattle.fr_store.specs.Below.{AreLeftRightly, FrameOwner, Heap, Holds, Kid, Node, Place, Plan, Slot, Tree, gone, heap_of, kid_of, tree_of}
 use Rattle.fr_store.specs.Ways.{slots_along, uses, Leads}
 
 -- The heap holds this from the root on, no slot serves twice in it, the way leads to a place and all that is off it is stored,
@@ -46,10 +40,14 @@ abbrev pub cursor_shown : Heap → List ℕ → Place
 cursor_shown heap [] = []
 cursor_shown heap (slot ∷ slots) = number_to (heap slot) ++ cursor_shown heap slots
 
--- Builders that are open, in either mode: slots and stack stand for what they show, the slots hold just the tokens of the tree,
--- and no slot is in use but for a place of it.
+-- Builders that are open, in either mode: slots and stack stand for what they show, and no slot is in use but for a place of it
+-- (so that the slots hold just the tokens of the tree: MoveLaws.slots_tokens).
 pub record IsOpen (plan : Plan) (slots : List Slot) (stack : List ℕ) : Type 0 where
   pub stands : Stands plan (heap_of slots) stack (cursor_shown (heap_of slots) stack) (kid_shown (heap_of slots) stack)
-  pub tokens : (t : ℕ) → slots_occur slots t ≡ kid_occurs (kid_shown (heap_of slots) stack) t
   -- each slot in use is that of a place of the tree
   pub all : (n : ℕ) → IsSome (heap_of slots n) → 0 < uses (kid_shown (heap_of slots) stack) n
+
+-- by some plan the builder of these slots and this stack is open
+pub record IsOpened (slots : List Slot) (stack : List ℕ) : Type 0 where
+  pub plan : Plan
+  pub is_open : IsOpen plan slots stack

@@ -1,10 +1,7 @@
 -- Places that stay in their slots. A slot's number is the index of the place in it: it holds until the place completes into the
 -- one above or is released.
 use Rattle.std.specs.Prelude.{◌≡◌, ◌≢◌}
-use Rattle.fr_model.specs.Finishing.{IsAbove}
-use Rattle.fr_model.specs.Places.{Place}
-use Rattle.fr_frame.specs.Kids.{Kid}
-use Rattle.fr_frame.specs.declared.places.Taker.{Taker}
+use Rattle.fr_store.specs.Below.{IsAbove, Kid, Place, Taker}
 use Rattle.fr_store.specs.Places.{slot_at, IsPlaced}
 
 -- the place, where it lay in a slot, lies in the same slot still

@@ -1,10 +1,8 @@
 -- Places that are stored: left half done, off the way to the place at which a builder works.
 use Rattle.std.specs.Prelude.{◌≡◌, ◌↔◌, ℕ, true, false, List, Some}
 use Rattle.std.specs.List.{Contains}
-use Rattle.fr_frame.specs.declared.places.ChildWay.{ChildWay}
-use Rattle.fr_frame.specs.declared.places.Slot.{Slot}
+use Rattle.fr_store.specs.Below.{ChildWay, Heap, Slot, heap_of, marked}
 pub use Rattle.fr_frame.specs.Heap.{child_slot}
-use Rattle.fr_frame.specs.Heap.{Heap, heap_of, marked}
 
 -- the store lists just the slots of the places that are stored
 abbrev pub IsKept : (store : List ℕ) → List Slot → Type 0

@@ -1,16 +1,7 @@
 -- Laws of tokens, for proofs: where each slot in use is that of one place, all slots together hold the tokens of these places.
 use Rattle.std.proofs.Common.{◌≡◌, ◌≢◌, ◌⊎◌, ℕ, zero, suc, ◌+◌, ◌<◌, List, [], ◌∷◌, length, nat_eq, Option, Some, None, inl, inr, refl, sym, ◌∙◌, ap, subst, arith}
 use Rattle.std.specs.Prelude.{IsSome}
-use Rattle.fr_model.specs.Places.{Place}
-use Rattle.fr_model.specs.Trackers.{Tracker}
-use Rattle.fr_plan.specs.declared.nodes.NodeId.{NodeId}
-use Rattle.fr_plan.specs.TypePlan.{Plan}
-use Rattle.fr_frame.specs.declared.places.FrameOwner.{FrameOwner}
-use Rattle.fr_frame.specs.declared.places.Slot.{Slot}
-use Rattle.fr_frame.specs.Bodies.{body_occurs}
-use Rattle.fr_frame.specs.Cells.{cell_occurs, cells_occur}
-use Rattle.fr_frame.specs.Heap.{Node, Heap, heap_of, node_in, slot_occurs, slots_occur}
-use Rattle.fr_frame.specs.Kids.{Kid, gone, there, at, Plot, entered_plot, whole_plot, begun_plot, Kids, no_kids, kid, cell_of, cells_in, body_in, Holds, HoldsIn, HoldsAll, child_node, child_owner, kid_occurs, plot_occurs, kids_occur}
+use Rattle.fr_store.specs.Below.{FrameOwner, Heap, Holds, HoldsAll, HoldsIn, Kid, Kids, Node, NodeId, Place, Plan, Plot, Slot, Tracker, at, begun_plot, body_in, body_occurs, cell_occurs, cell_of, cells_in, cells_occur, child_node, child_owner, entered_plot, gone, heap_of, kid, kid_occurs, kids_occur, no_kids, node_in, plot_occurs, slot_occurs, slots_occur, there, whole_plot}
 use Rattle.fr_store.specs.StandLaws.{AllServe}
 use Rattle.fr_store.specs.Stands.{Stands}
 use Rattle.fr_store.specs.Ways.{counts_if, uses, uses_in, uses_among, Leads}
@@ -33,8 +24,8 @@ scaled_none : (m : ℕ) → scaled m 0 ≡ 0
 scaled_none zero = refl
 scaled_none (suc m) = omega (arith, scaled_none m)
 
-scaled_one : (m c : ℕ) → m ≡ 1 → scaled m c ≡ c
-scaled_one m c e = ap (λ (n : ℕ). scaled n c) e ∙ more c
+scaled_one : {m : ℕ} (c : ℕ) → m ≡ 1 → scaled m c ≡ c
+scaled_one c e = ap (λ (n : ℕ). scaled n c) e ∙ more c
   where
     more : (c : ℕ) → scaled 1 c ≡ c
     more c = omega arith
@@ -74,7 +65,7 @@ weighed_one : (slot : ℕ) (f : ℕ → ℕ) (count : ℕ) → slot < count → 
 weighed_one slot f zero h = absurd (omega arith)
 weighed_one zero f (suc count) h =
     omega
-    (arith, scaled_one (counts_if (nat_eq 0 0)) (f 0) (counts_same 0), weighed_none (λ n. counts_if (nat_eq 0 (suc n))) (λ n. f (suc n)) count (λ n. counts_other 0 (suc n) (λ e. absurd (omega (arith, e)))))
+    (arith, scaled_one (f 0) (counts_same 0), weighed_none (λ n. counts_if (nat_eq 0 (suc n))) (λ n. f (suc n)) count (λ n. counts_other 0 (suc n) (λ e. absurd (omega (arith, e)))))
 weighed_one (suc slot) f (suc count) h =
     let none : scaled (counts_if (nat_eq (suc slot) 0)) (f 0) ≡ 0
     = ap (λ (n : ℕ). scaled n (f 0)) (counts_other (suc slot) 0 (λ e. absurd (omega (arith, e)))) ∙ none_of (f 0) in
@@ -151,14 +142,13 @@ top_cell (i ∷ place) (there v) t leads = absurd leads
 top_cell (i ∷ place) (at slot stored plot) t leads = refl
 
 -- the slots that stand for something, each in use for one place of it, hold its tokens
-pub tokens_held : (plan : Plan) (slots : List Slot) (stack : List ℕ) (place : Place) (k : Kid)
+pub tokens_held : {plan : Plan} (slots : List Slot) {stack : List ℕ} {place : Place} {k : Kid}
     → Stands plan (heap_of slots) stack place k → AllServe (heap_of slots) k → (t : ℕ) → slots_occur slots t ≡ kid_occurs k t
-tokens_held plan slots stack place k stands all t =
-    omega
+tokens_held {plan} slots {place} {k} stands all t = omega
     (arith, slots_weighed slots (uses k) t (λ n. once n (heap_of slots n) refl), held_tokens plan (heap_of slots) (length slots) (used_within slots) t plan.root FrameOwner.Root 0 k stands.holds, top_cell place k t stands.leads)
   where
     once : (n : ℕ) (found : Option Node) → heap_of slots n ≡ found → scaled (uses k n) (found_occurs found t) ≡ found_occurs found t
     once n (Some found) is =
-        scaled_one (uses k n) (found_occurs (Some found) t)
+        scaled_one {m = uses k n} (found_occurs (Some found) t)
         (omega (arith, stands.once n, all n (subst (λ (x : Option Node). IsSome x) (sym is) refl)))
     once n None is = scaled_none (uses k n)

@@ -3,24 +3,14 @@ use Rattle.std.proofs.Common.{◌≡◌, ◌≢◌, ◌⊎◌, ℕ, suc, ◌+◌
 use Rattle.std.specs.Prelude.{IsSome, is_some, if◌then◌else◌}
 use Rattle.std.proofs.lemmas.Grind.{common_steps}
 use Rattle.std.proofs.lemmas.Bool.Decides.{nat_tests}
-use Rattle.fr_shape.specs.declared.shape.Def.{Def}
-use Rattle.fr_model.specs.Places.{Place}
-use Rattle.fr_model.specs.Trackers.{Tracker}
-use Rattle.fr_model.specs.Tree.{Trees, begun, branch}
-use Rattle.fr_plan.specs.declared.nodes.NodeId.{NodeId}
-use Rattle.fr_plan.specs.TypePlan.{Plan}
-use Rattle.fr_frame.specs.declared.places.FrameOwner.{FrameOwner}
-use Rattle.fr_frame.specs.declared.places.SlotId.{SlotId}
-use Rattle.fr_frame.specs.Bodies.{Body, entered_body, whole_body, begun_body, body_occurs, linked, IsClosed, AreUnplaced, own_tree, trees_of}
-use Rattle.fr_frame.specs.Cells.{cells_occur}
-use Rattle.fr_frame.specs.Heap.{Node, Heap, with_slot, with_body, with_entered, entered_node, links, marked, stored_in, depth_limit}
-use Rattle.fr_frame.specs.Kids.{Kid, gone, there, at, Plot, begun_plot, Kids, no_kids, kid, MayHave, tree_of, tree_in, trees_in, cell_of, cells_in, body_in, plot_occurs, kids_occur, Holds, HoldsIn, HoldsAll, AreLeftRightly, AreLeftIn}
+use Rattle.fr_store.specs.Below.{AreLeftIn, AreLeftRightly, AreUnplaced, Body, Def, FrameOwner, Heap, Holds, HoldsAll, HoldsIn, IsClosed, Kid, Kids, MayHave, Node, NodeId, Place, Plan, Plot, SlotId, Tracker, Trees, at, begun, begun_body, begun_plot, body_in, body_occurs, branch, cell_of, cells_in, cells_occur, entered_body, entered_node, gone, kid, kids_occur, linked, links, marked, no_kids, own_tree, plot_occurs, stored_in, there, tree_in, tree_of, trees_in, trees_of, whole_body, with_body, with_entered, with_slot}
+use Rattle.fr_frame.specs.Heap.{depth_limit}
 use Rattle.fr_store.specs.HoldLaws.{Replaces, holds_at, holds_frame_in, may_have}
 use Rattle.fr_store.specs.LeftLaws.{at_for_at}
 use Rattle.fr_store.specs.StandLaws.{stands_change}
 use Rattle.fr_store.specs.Stands.{Stands}
 use Rattle.fr_store.specs.Ways.{count_kids, kid_at, put_at, slots_along, slots_above, counts_if, uses, uses_in, uses_among, AllMarked, AllMarkedIn, AllMarkedAmong, NoneStored, Leads, node_along, owner_along}
-use Rattle.fr_store.specs.WayLaws.{counts_same, same_or_other, leads_reach, leads_at, along_at, marked_at, uses_at}
+use Rattle.fr_store.specs.WayLaws.{counts_own, counts_same, same_or_other, leads_reach, leads_at, along_at, marked_at, uses_at}
 
 -- Heaps.
 
@@ -34,9 +24,19 @@ slot_other heap n x m ne =
     let e : nat_eq m n ≡ false = grind (arith, common_steps, nat_tests) in
     ap (λ (b : Bool). if b then x else heap m) e
 
-pub body_here : (heap : Heap) (n : ℕ) (change : Body → Body) (found : Node) → heap n ≡ Some found
+-- where what is put in a slot answers a question as what was there did, each slot answers it as before
+pub asked_same : {A : Type 0} (ask : Option Node → A) (heap : Heap) (n : ℕ) (x : Option Node) → ask x ≡ ask (heap n) → (m : ℕ)
+    → ask (with_slot heap n x m) ≡ ask (heap m)
+asked_same ask heap n x same m = go (same_or_other m n)
+  where
+    go : (m ≡ n) ⊎ (m ≢ n) → ask (with_slot heap n x m) ≡ ask (heap m)
+    go (inl e) =
+        ap (λ (y : ℕ). ask (with_slot heap n x y)) e ∙ ap ask (slot_here heap n x) ∙ same ∙ ap (λ (y : ℕ). ask (heap y)) (sym e)
+    go (inr ne) = ap ask (slot_other heap n x m ne)
+
+pub body_here : (heap : Heap) (n : ℕ) (change : Body → Body) {found : Node} → heap n ≡ Some found
     → with_body heap n change n ≡ Some (record found { body = change found.body })
-body_here heap n change found is =
+body_here heap n change is =
     slot_here heap n (option_map (λ (x : Node). record x { body = change x.body }) (heap n))
     ∙ ap (option_map (λ (x : Node). record x { body = change x.body })) is
 
@@ -50,18 +50,11 @@ free_unused heap n free used = let wrong : false ≡ true = sym (ap is_some free
 -- where what stands in a slot was changed, the slots in use are those that were
 pub used_mapped : (heap : Heap) (n : ℕ) (change : Node → Node) (m : ℕ)
     → IsSome (with_slot heap n (option_map change (heap n)) m) → IsSome (heap m)
-used_mapped heap n change m used = go (same_or_other m n)
+used_mapped heap n change m used = sym (asked_same is_some heap n (option_map change (heap n)) (still (heap n)) m) ∙ used
   where
-    was : (found : Option Node) → IsSome (option_map change found) → IsSome found
-    was (Some found) h = refl
-    was None h = h
-
-    go : (m ≡ n) ⊎ (m ≢ n) → IsSome (heap m)
-    go (inl e) =
-        subst (λ (x : ℕ). IsSome (heap x)) (sym e) (was (heap n)
-        (subst (λ (o : Option Node). IsSome o) (slot_here heap n (option_map change (heap n)))
-        (subst (λ (x : ℕ). IsSome (with_slot heap n (option_map change (heap n)) x)) e used)))
-    go (inr ne) = subst (λ (o : Option Node). IsSome o) (slot_other heap n (option_map change (heap n)) m ne) used
+    still : (found : Option Node) → is_some (option_map change found) ≡ is_some found
+    still (Some found) = refl
+    still None = refl
 
 -- where a child of the place in slot p entered slot n, that slot alone came into use
 pub used_entered : (def : Def) (heap : Heap) (node : NodeId) (p : SlotId) (step n m : ℕ)
@@ -81,19 +74,13 @@ used_entered def heap node p step n m used = go (same_or_other m n)
 -- Marks.
 
 pub marked_body : (heap : Heap) (n : ℕ) (change : Body → Body) (m : ℕ) → marked (with_body heap n change) m ≡ marked heap m
-marked_body heap n change m = go (same_or_other m n)
+marked_body heap n change m =
+    asked_same stored_in heap n (option_map (λ (x : Node). record x { body = change x.body }) (heap n)) (still (heap n)) m
   where
-    kept : (found : Option Node)
-        → stored_in (option_map (λ (x : Node). record x { body = change x.body }) found) ≡ stored_in found
-    kept (Some found) = refl
-    kept None = refl
-
-    go : (m ≡ n) ⊎ (m ≢ n) → marked (with_body heap n change) m ≡ marked heap m
-    go (inl e) =
-        ap (λ (x : ℕ). marked (with_body heap n change) x) e
-        ∙ ap stored_in (slot_here heap n (option_map (λ (x : Node). record x { body = change x.body }) (heap n)))
-        ∙ kept (heap n) ∙ ap (marked heap) (sym e)
-    go (inr ne) = ap stored_in (body_other heap n change m ne)
+    still : (found : Option Node) → stored_in (option_map (λ (x : Node). record x { body = change x.body }) found) ≡ stored_in
+        found
+    still (Some found) = refl
+    still None = refl
 
 marked_links : (heap : Heap) (n : ℕ) (owner : FrameOwner) (m : ℕ) → marked (links owner n heap) m ≡ marked heap m
 marked_links heap n FrameOwner.Root m = refl
@@ -102,16 +89,9 @@ marked_links heap n (FrameOwner.Child parent step) m = marked_body heap parent.0
 -- a place that enters a free slot isn't stored
 pub marked_entered : (def : Def) (heap : Heap) (node : NodeId) (owner : FrameOwner) (n m : ℕ) → heap n ≡ None
     → marked (with_entered def heap node owner n) m ≡ marked heap m
-marked_entered def heap node owner n m free = go (same_or_other m n)
-  where
-    go : (m ≡ n) ⊎ (m ≢ n) → marked (with_entered def heap node owner n) m ≡ marked heap m
-    go (inl e) =
-        ap (λ (x : ℕ). marked (with_entered def heap node owner n) x) e
-        ∙ ap stored_in (slot_here (links owner n heap) n (Some (entered_node def heap node owner)))
-        ∙ ap stored_in (sym free) ∙ ap (marked heap) (sym e)
-    go (inr ne) =
-        ap stored_in (slot_other (links owner n heap) n (Some (entered_node def heap node owner)) m ne)
-        ∙ marked_links heap n owner m
+marked_entered def heap node owner n m free =
+    asked_same stored_in (links owner n heap) n (Some (entered_node def heap node owner))
+    (sym (marked_links heap n owner n ∙ ap stored_in free)) m ∙ marked_links heap n owner m
 
 -- Places none of whose children is in a slot.
 
@@ -157,16 +137,17 @@ pub closed_marked : (mark : Bool) (plot : Plot) → IsClosed (body_in plot) → 
 closed_marked mark (begun_plot tracker kids) closed = unplaced_marked mark kids closed
 closed_marked mark _ closed = tt
 
-pub unplaced_holds : (plan : Plan) (heap : Heap) (node : NodeId) (slot : ℕ) (tracker : Tracker) (i depth : ℕ) (ks : Kids) (count : ℕ)
-    → count ≡ i + count_kids ks → MayHave tracker count → AreUnplaced (cells_in ks) → HoldsAll plan heap node slot tracker i depth ks
-unplaced_holds plan heap node slot tracker i depth no_kids count e may closed =
+pub unplaced_holds : (plan : Plan) (heap : Heap) (node : NodeId) (slot : ℕ) (tracker : Tracker) (i depth : ℕ)
+    (ks : Kids) {count : ℕ} → count ≡ i + count_kids ks → MayHave tracker count → AreUnplaced (cells_in ks)
+    → HoldsAll plan heap node slot tracker i depth ks
+unplaced_holds plan heap node slot tracker i depth no_kids {count} e may closed =
     let same : count ≡ i = omega arith in
     subst (λ (n : ℕ). MayHave tracker n) same may
-unplaced_holds plan heap node slot tracker i depth (kid gone ks) count e may closed =
-    (tt, unplaced_holds plan heap node slot tracker (suc i) depth ks count (omega arith) may closed.1)
-unplaced_holds plan heap node slot tracker i depth (kid (there v) ks) count e may closed =
-    (tt, unplaced_holds plan heap node slot tracker (suc i) depth ks count (omega arith) may closed.1)
-unplaced_holds plan heap node slot tracker i depth (kid (at m stored plot) ks) count e may closed = absurd closed.0
+unplaced_holds plan heap node slot tracker i depth (kid gone ks) {count} e may closed =
+    (tt, unplaced_holds plan heap node slot tracker (suc i) depth ks {count = count} (omega arith) may closed.1)
+unplaced_holds plan heap node slot tracker i depth (kid (there v) ks) {count} e may closed =
+    (tt, unplaced_holds plan heap node slot tracker (suc i) depth ks {count = count} (omega arith) may closed.1)
+unplaced_holds plan heap node slot tracker i depth (kid (at m stored plot) ks) e may closed = absurd closed.0
 
 -- it has no more children than it may
 abbrev pub MayHaveIts : Body → Type 0
@@ -181,7 +162,7 @@ cells_count (kid k ks) = ap suc (cells_count ks)
 pub closed_holds : (plan : Plan) (heap : Heap) (node : NodeId) (slot depth : ℕ) (plot : Plot) → MayHaveIts (body_in plot)
     → IsClosed (body_in plot) → HoldsIn plan heap node slot depth plot
 closed_holds plan heap node slot depth (begun_plot tracker kids) may closed =
-    unplaced_holds plan heap node slot tracker 0 depth kids (length (cells_in kids)) (omega (arith, cells_count kids)) may closed
+    unplaced_holds plan heap node slot tracker 0 depth kids {count = length (cells_in kids)} (omega (arith, cells_count kids)) may closed
 closed_holds plan heap node slot depth _ may closed = tt
 
 -- what is held has no more than it may
@@ -227,9 +208,9 @@ pub record Top (plan : Plan) (heap : Heap) (stack : List ℕ) (place : Place) (k
   pub limit : length place < depth_limit
   pub children : HoldsIn plan heap (node_along plan plan.root place k) slot (suc (length place)) plot
 
-pub top_of : (plan : Plan) (heap : Heap) (stack : List ℕ) (place : Place) (k : Kid) → Stands plan heap stack place k
+pub top_of : {plan : Plan} {heap : Heap} {stack : List ℕ} {place : Place} {k : Kid} → Stands plan heap stack place k
     → Top plan heap stack place k
-top_of plan heap stack place k stands =
+top_of {plan} {heap} {stack} {place} {k} stands =
     let leads : Leads (place ++ []) k = subst (λ (p : Place). Leads p k) (sym (append-nil place)) stands.leads in
     let reach = leads_reach place [] k leads in
     let along : stack ≡ slots_above place k ++ slots_along [] (kid_at place k)
@@ -262,9 +243,9 @@ top_of plan heap stack place k stands =
         }
 
 -- where nothing is stored it has no child in a slot
-pub closed_top : (plan : Plan) (heap : Heap) (stack : List ℕ) (place : Place) (k : Kid) (top : Top plan heap stack place k)
+pub closed_top : {plan : Plan} {heap : Heap} {stack : List ℕ} {place : Place} {k : Kid} (top : Top plan heap stack place k)
     → NoneStored k → IsClosed (body_in top.plot)
-closed_top plan heap stack place k top strict =
+closed_top {place} {k} top strict =
     let here : AllMarked false (at top.slot false top.plot)
     = subst (λ (x : Kid). AllMarked false x) top.is (marked_at false place k strict) in
     closed_by_marks top.plot top.stored here.1
@@ -298,7 +279,7 @@ loses_none old new closed n = omega (arith, closed_uses old n closed)
 pub keeps_same : (plot : Plot) → KeepsChildren plot plot
 keeps_same plot = record { marked = λ h. h; once = λ n. omega arith; holds = λ plan heap node slot depth h. h; left = λ h. h }
 
-module _ (plan : Plan) (heap : Heap) (stack : List ℕ) (place : Place) (k : Kid) (stands : Stands plan heap stack place k)
+module _ {plan : Plan} {heap : Heap} {stack : List ℕ} {place : Place} {k : Kid} (stands : Stands plan heap stack place k)
     (top : Top plan heap stack place k) where
   -- the slots of the top: its own, and those beneath it
   pub top_uses : (n : ℕ) → uses (kid_at place k) n ≡ counts_if (nat_eq top.slot n) + uses_in top.plot n
@@ -309,9 +290,7 @@ module _ (plan : Plan) (heap : Heap) (stack : List ℕ) (place : Place) (k : Kid
   top_once = omega (arith, top_uses top.slot, counts_same top.slot, uses_at place k top.slot, stands.once top.slot)
 
   pub not_beside : (n : ℕ) → uses (kid_at place k) n < uses k n → n ≢ top.slot
-  not_beside n h e =
-      let one : counts_if (nat_eq top.slot n) ≡ 1 = ap (λ (m : ℕ). counts_if (nat_eq top.slot m)) e ∙ counts_same top.slot in
-      absurd (omega (arith, top_uses n, stands.once n))
+  not_beside n h e = absurd (omega (arith, counts_own e, top_uses n, stands.once n))
 
   pub not_beneath : (n : ℕ) → 0 < uses_in top.plot n → n ≢ top.slot
   not_beneath n h e =
@@ -327,29 +306,30 @@ module _ (plan : Plan) (heap : Heap) (stack : List ℕ) (place : Place) (k : Kid
       let both = sym was.0 ∙ top.here in
       cc
 
--- Something else is put at the top: all other slots are as they were.
-pub top_replaced : (plan : Plan) (heap other : Heap) (stack : List ℕ) (place : Place) (k : Kid) (new : Plot)
+-- Something else is put at the top: the slots of all that stays are as they were.
+pub top_replaced : {plan : Plan} {heap : Heap} (other : Heap) {stack : List ℕ} {place : Place} {k : Kid} {new : Plot}
     (stands : Stands plan heap stack place k) (top : Top plan heap stack place k) → KeepsChildren top.plot new
-    → other top.slot ≡ Some (open_node plan place k (body_in new)) → ((m : ℕ) → m ≢ top.slot → other m ≡ heap m) → Stands plan other stack place (put_at place (at top.slot false new) k)
-top_replaced plan heap other stack place k new stands top keeps here beside =
+    → other top.slot ≡ Some (open_node plan place k (body_in new))
+    → ((m : ℕ) → m ≢ top.slot → (uses (kid_at place k) m < uses k m) ⊎ (0 < uses_in new m) → other m ≡ heap m)
+    → Stands plan other stack place (put_at place (at top.slot false new) k)
+top_replaced {plan} {heap} other {stack} {place} {k} {new} stands top keeps here beside =
     let longer : Stands plan heap stack (place ++ []) k
     = subst (λ (p : Place). Stands plan heap stack p k) (sym (append-nil place)) stands in
-    subst (λ (p : Place). Stands plan other stack p (put_at place (at top.slot false new) k)) (append-nil place)
-    (stands_change plan heap other stack stack place [] [] (at top.slot false new) k longer
-    (ap cell_of (sym top.is)) (λ n h. beside n (not_beside plan heap stack place k stands top n h)) replaces once
-    (refl, keeps.marked top.stored) (at_for_at (kid_at place k) top.slot top.slot false top.plot new top.is)
-    (λ all. keeps.left (subst AreLeftRightly top.is all)) top.last)
+    subst (λ (p : Place). Stands plan other stack p (put_at place (at top.slot false new) k)) (append-nil place) (stands_change
+    other place [] [] longer (ap cell_of (sym top.is)) (λ n h. beside n (not_beside stands top n h) (inl h)) replaces once (
+      refl,
+      keeps.marked top.stored,
+    ) (at_for_at top.slot new top.is) (λ all. keeps.left (subst AreLeftRightly top.is all)) top.last)
   where
     replaces : Replaces plan heap other (kid_at place k) (at top.slot false new)
     replaces node owner depth holds =
         let was = subst (λ (x : Kid). Holds plan heap node owner depth x) top.is holds in
-        let same = top_held plan heap stack place k stands top node owner depth holds in (
+        let same = top_held stands top node owner depth holds in (
           here ∙ sym (ap (λ (x : Node). Some (record x { body = body_in new })) same),
           was.1,
-          keeps.holds plan other node top.slot (suc depth)
-              (holds_frame_in plan heap other node top.slot (suc depth) top.plot was.2
-              (λ n h. beside n (not_beneath plan heap stack place k stands top n h))),
+          holds_frame_in plan heap other node top.slot (suc depth) new (keeps.holds plan heap node top.slot (suc depth) was.2)
+              (λ n h. beside n (not_beneath stands top n (omega (arith, keeps.once n))) (inr h)),
         )
 
     once : (n : ℕ) → uses k n + uses (at top.slot false new) n ≤ 1 + uses (kid_at place k) n
-    once n = omega (arith, stands.once n, top_uses plan heap stack place k stands top n, keeps.once n)
+    once n = omega (arith, stands.once n, top_uses stands top n, keeps.once n)

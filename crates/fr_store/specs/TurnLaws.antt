@@ -1,23 +1,15 @@
 -- Laws of a turn, for proofs: a stored place that has no child in a slot leaves its slot, and its value goes into the place above.
 use Rattle.std.proofs.Common.{◌≡◌, ◌≢◌, ◌⊎◌, ℕ, suc, ◌+◌, ◌<◌, ◌≤◌, Bool, true, List, [], ◌∷◌, ◌++◌, length, nat_eq, Option, Some, None, inl, inr, refl, sym, ◌∙◌, ap, subst, arith}
-use Rattle.fr_shape.specs.Val.{Val}
-use Rattle.fr_model.specs.Finishing.{IsOffTheWay}
-use Rattle.fr_model.specs.Places.{Place}
-use Rattle.fr_model.specs.Trackers.{Tracker}
-use Rattle.fr_plan.specs.TypePlan.{Plan}
-use Rattle.fr_frame.specs.declared.places.FrameOwner.{FrameOwner}
-use Rattle.fr_frame.specs.Bodies.{Body, begun_body, with_cell, unlinked, IsClosed}
-use Rattle.fr_frame.specs.Cells.{given, placed}
-use Rattle.fr_frame.specs.Heap.{Node, Heap, with_slot, with_body, without}
-use Rattle.fr_frame.specs.Kids.{Kid, gone, there, at, Plot, entered_plot, whole_plot, begun_plot, Kids, MayHave, cell_of, cells_in, body_in, child_owner, Holds}
+use Rattle.fr_store.specs.Below.{Body, FrameOwner, Heap, Holds, IsClosed, IsOffTheWay, Kid, Kids, MayHave, Node, Place, Plan, Plot, Tracker, Val, at, begun_body, begun_plot, body_in, cell_of, cells_in, child_owner, entered_plot, gone, placed, there, unlinked, whole_plot, with_body, with_cell, with_slot, without}
+use Rattle.fr_frame.specs.Cells.{given}
 use Rattle.fr_store.specs.HoldLaws.{AgreeBeside, Replaces, holds_at, holds_put_nth, may_have_all, replaces_at}
 use Rattle.fr_store.specs.LeftLaws.{left_put_at, there_for_any}
 use Rattle.fr_store.specs.LeaveLaws.{below_root, kid_at_append, may_have_put, owner_append, put_append, unlinked_child, with_child, within_put}
-use Rattle.fr_store.specs.OffLaws.{along_off, leads_off, off_stored}
+use Rattle.fr_store.specs.OffLaws.{way_off, off_stored}
 use Rattle.fr_store.specs.Stands.{Stands}
 use Rattle.fr_store.specs.TopLaws.{body_here, body_other, slot_here, slot_other}
 use Rattle.fr_store.specs.Ways.{count_kids, kid_nth, kid_at, put_nth, put_at, counts_if, uses, uses_in, uses_among, Reaches, node_along, owner_along, owner_below}
-use Rattle.fr_store.specs.WayLaws.{counts_same, put_nth_twice, same_or_other, uses_at, uses_nth, uses_put_at}
+use Rattle.fr_store.specs.WayLaws.{counts_own, counts_same, put_nth_twice, same_or_other, uses_at, uses_nth, uses_put_at}
 
 -- One slot after another.
 
@@ -29,11 +21,10 @@ pub record IsHandedUp (heap last : Heap) (n q : ℕ) (above : Node) (body : Body
   pub other : (m : ℕ) → m ≢ q → m ≢ n → last m ≡ heap m
 
 -- a place's slot n is taken out of slot q, of which it is child i, once something else was put at it, and then a value is put there
-module _ (heap first mid last : Heap) (n q i : ℕ) (below above : Node) (body : Body) (tracker : Tracker) (kids : Kids) (v : Val)
-    (apart : n ≢ q) (here : heap n ≡ Some below) (over : heap q ≡ Some above)
-    (begun : above.body ≡ begun_body tracker (cells_in kids)) (may : MayHave tracker (count_kids kids)) (within : i < count_kids kids)
-    (child : cell_of (kid_nth i kids) ≡ placed n) (owner : below.owner ≡ child_owner q i)
-    (puts : (m : ℕ) → first m ≡ with_slot heap n (Some (record below { body = body })) m)
+module _ (heap first mid last : Heap) (n q i : ℕ) {below above : Node} (body : Body) {tracker : Tracker} (kids : Kids) (v : Val)
+    (apart : n ≢ q) (here : heap n ≡ Some below) (over : heap q ≡ Some above) (begun : above.body ≡ begun_body tracker (cells_in
+    kids)) (may : MayHave tracker (count_kids kids)) (within : i < count_kids kids) (child : cell_of (kid_nth i kids) ≡ placed n)
+    (owner : below.owner ≡ child_owner q i) (puts : (m : ℕ) → first m ≡ with_slot heap n (Some (record below { body = body })) m)
     (leaves : (m : ℕ) → mid m ≡ without first n below.owner m) where
   first_over : first q ≡ Some above
   first_over = puts q ∙ slot_other heap n (Some (record below { body = body })) q (λ e. apart (sym e)) ∙ over
@@ -43,8 +34,8 @@ module _ (heap first mid last : Heap) (n q i : ℕ) (below above : Node) (body :
 
   mid_over : mid q ≡ Some (record above { body = begun_body tracker (cells_in (put_nth i gone kids)) })
   mid_over =
-      left q ∙ body_here (with_slot first n None) q (unlinked n i) above
-      (slot_other first n None q (λ e. apart (sym e)) ∙ first_over) ∙ ap (λ (b : Body). Some (record above { body = b }))
+      left q ∙ body_here (with_slot first n None) q (unlinked n i) (slot_other first n None q (λ e. apart (sym e)) ∙ first_over)
+      ∙ ap (λ (b : Body). Some (record above { body = b }))
       (ap (unlinked n i) begun ∙ unlinked_child tracker i n kids may within child)
 
   mid_here : mid n ≡ None
@@ -60,11 +51,9 @@ module _ (heap first mid last : Heap) (n q i : ℕ) (below above : Node) (body :
   handed_up ends = record {
     found = over;
     over =
-        ends q ∙ body_here mid q (λ old. with_cell old i (given v))
-        (record above { body = begun_body tracker (cells_in (put_nth i gone kids)) }) mid_over
-        ∙ ap (λ (b : Body). Some (record above { body = b }))
-        (with_child tracker i (there v) (put_nth i gone kids) (may_have_put tracker i gone kids may)
-        (within_put i gone kids within) ∙ ap (λ (ks : Kids). begun_body tracker (cells_in ks)) (put_nth_twice i gone (there v) kids));
+        ends q ∙ body_here mid q (λ old. with_cell old i (given v)) mid_over ∙ ap (λ (b : Body). Some (record above { body = b }))
+        (with_child tracker i (there v) (put_nth i gone kids) (may_have_put tracker i gone kids may) (within_put i gone kids
+        within) ∙ ap (λ (ks : Kids). begun_body tracker (cells_in ks)) (put_nth_twice i gone (there v) kids));
     free = ends n ∙ body_other mid q (λ old. with_cell old i (given v)) n apart ∙ mid_here;
     other = λ m a b. ends m ∙ body_other mid q (λ old. with_cell old i (given v)) m a ∙ mid_other m a b;
   }
@@ -73,7 +62,7 @@ module _ (heap first mid last : Heap) (n q i : ℕ) (below above : Node) (body :
 pub asked_still : {heap last : Heap} {n q : ℕ} {above : Node} {body : Body} (up : IsHandedUp heap last n q above body)
     (asks : Option Node → Bool) → asks (Some (record above { body = body })) ≡ asks (Some above) → (m : ℕ) → m ≢ n
     → asks (last m) ≡ asks (heap m)
-asked_still {heap} {last} {n} {q} {above} {body} up asks same m ne = go (same_or_other m q)
+asked_still {heap} {last} {q} up asks same m ne = go (same_or_other m q)
   where
     go : (m ≡ q) ⊎ (m ≢ q) → asks (last m) ≡ asks (heap m)
     go (inl e) =
@@ -104,9 +93,9 @@ pub record Over (here : Place) (k : Kid) (n : ℕ) (plot : Plot) : Type 0 where
   pub child : kid_nth i kids ≡ at n true plot
   pub owner : owner_along FrameOwner.Root here k ≡ child_owner slot i
 
-pub over_of : (here : Place) (k : Kid) (n : ℕ) (plot : Plot) → here ≢ [] → Reaches here k → kid_at here k ≡ at n true plot
+pub over_of : (here : Place) (k : Kid) {n : ℕ} {plot : Plot} → here ≢ [] → Reaches here k → kid_at here k ≡ at n true plot
     → Over here k n plot
-over_of here k n plot low reach is = split here refl
+over_of here k {n} {plot} low reach is = split here refl
   where
     find : (above : Place) (i : ℕ) → here ≡ above ++ i ∷ [] → (x : Kid) → kid_at above k ≡ x → Reaches above k
         → Reaches (i ∷ []) x → kid_at (i ∷ []) x ≡ at n true plot → Over here k n plot
@@ -153,8 +142,8 @@ due_node plan here k plot = record {
 }
 
 -- what is in the slot above
-abbrev pub over_node : (plan : Plan) (here : Place) (k : Kid) (n : ℕ) (plot : Plot) → Over here k n plot → Node
-over_node plan here k n plot over = record {
+abbrev pub over_node : (plan : Plan) {here : Place} {k : Kid} {n : ℕ} {plot : Plot} → Over here k n plot → Node
+over_node plan {k} over = record {
   node = node_along plan plan.root over.above k;
   owner = owner_along FrameOwner.Root over.above k;
   stored = over.mark;
@@ -163,15 +152,15 @@ over_node plan here k n plot over = record {
 }
 
 module _ {plan : Plan} {heap : Heap} {stack : List ℕ} {cursor : Place} {k : Kid} (stands : Stands plan heap stack cursor k)
-    (here : Place) (n : ℕ) (plot : Plot) (reach : Reaches here k) (is : kid_at here k ≡ at n true plot) where
+    (here : Place) {n : ℕ} {plot : Plot} (reach : Reaches here k) (is : kid_at here k ≡ at n true plot) where
   pub due_off : IsOffTheWay cursor here
-  due_off = off_stored cursor here k n plot stands.leads is
+  due_off = off_stored cursor here k stands.leads is
 
   pub due_low : here ≢ []
   due_low e = due_off cursor (ap (λ (p : Place). p ++ cursor) (sym e))
 
   pub due_over : Over here k n plot
-  due_over = over_of here k n plot due_low reach is
+  due_over = over_of here k due_low reach is
 
   due_holds : Holds plan heap (node_along plan plan.root here k) (owner_along FrameOwner.Root here k) (0 + length here)
       (at n true plot)
@@ -190,7 +179,7 @@ module _ {plan : Plan} {heap : Heap} {stack : List ℕ} {cursor : Place} {k : Ki
         subst (λ (x : Kid). Holds plan heap (node_along plan plan.root over.above k) (owner_along FrameOwner.Root over.above k)
         (0 + length over.above) x) over.is (holds_at plan heap plan.root FrameOwner.Root 0 over.above k stands.holds over.reach)
 
-    pub over_found : heap over.slot ≡ Some (over_node plan here k n plot over)
+    pub over_found : heap over.slot ≡ Some (over_node plan over)
     over_found = over_holds.0
 
     pub over_may_have : MayHave over.tracker (count_kids over.kids)
@@ -208,23 +197,21 @@ module _ {plan : Plan} {heap : Heap} {stack : List ℕ} {cursor : Place} {k : Ki
     once_above m = omega (arith, over_uses m, uses_at over.above k m, stands.once m)
 
     pub due_apart : n ≢ over.slot
-    due_apart e =
-        let one : counts_if (nat_eq over.slot n) ≡ 1 = ap (λ (x : ℕ). counts_if (nat_eq x n)) (sym e) ∙ counts_same n in
-        absurd (omega (arith, one, counts_same n, child_uses n, uses_nth over.i over.kids n, once_above n))
+    due_apart e = absurd (omega (arith, counts_own e, counts_same n, child_uses n, uses_nth over.i over.kids n, once_above n))
 
     -- a value in the stead of the place
-    pub stands_turned : (other : Heap) (v : Val) → IsClosed (body_in plot) → IsHandedUp heap other n over.slot
-        (over_node plan here k n plot over) (begun_body over.tracker (cells_in (put_nth over.i (there v) over.kids)))
+    pub stands_turned : {other : Heap} (v : Val) → IsClosed (body_in plot) → IsHandedUp
+        heap other n over.slot (over_node plan over) (begun_body over.tracker (cells_in (put_nth over.i (there v) over.kids)))
         → Stands plan other stack cursor (put_at here (there v) k)
-    stands_turned other v closed up = record {
+    stands_turned {other} v closed up = record {
       holds =
           subst (λ (x : Kid). Holds plan other plan.root FrameOwner.Root 0 x) (sym put)
           (replaces_at plan heap other over.above new k (ap cell_of (sym over.is)) agree replaces plan.root
           FrameOwner.Root 0 stands.holds);
       once = λ m. omega (arith, uses_put_at here (there v) k m reach, stands.once m);
-      leads = leads_off cursor here (there v) k stands.leads due_off reach tt;
-      along = stands.along ∙ sym (along_off cursor here (there v) k stands.leads due_off reach);
-      left = left_put_at here (there v) k (there_for_any (kid_at here k) (there v) tt refl) tt stands.left;
+      leads = (way_off cursor here (there v) k stands.leads due_off reach tt).0;
+      along = stands.along ∙ sym (way_off cursor here (there v) k stands.leads due_off reach tt).1;
+      left = left_put_at here k (there_for_any (kid_at here k) (there v) tt refl) tt stands.left;
     }
       where
         new : Kid
@@ -239,13 +226,8 @@ module _ {plan : Plan} {heap : Heap} {stack : List ℕ} {cursor : Place} {k : Ki
         elsewhere m a b = go (same_or_other m over.slot) (same_or_other m n)
           where
             go : (m ≡ over.slot) ⊎ (m ≢ over.slot) → (m ≡ n) ⊎ (m ≢ n) → other m ≡ heap m
-            go (inl e) x =
-                let one : counts_if (nat_eq over.slot m) ≡ 1
-                = ap (λ (y : ℕ). counts_if (nat_eq over.slot y)) e ∙ counts_same over.slot in
-                absurd (omega (arith, one, a))
-            go (inr x) (inl e) =
-                let one : counts_if (nat_eq n m) ≡ 1 = ap (λ (y : ℕ). counts_if (nat_eq n y)) e ∙ counts_same n in
-                absurd (omega (arith, one, b))
+            go (inl e) x = absurd (omega (arith, counts_own e, a))
+            go (inr x) (inl e) = absurd (omega (arith, counts_own e, b))
             go (inr x) (inr y) = up.other m x y
 
         agree : AgreeBeside heap other k (kid_at over.above k)
@@ -264,7 +246,7 @@ module _ {plan : Plan} {heap : Heap} {stack : List ℕ} {cursor : Place} {k : Ki
               stored = over.mark;
               depth = depth;
               body = begun_body over.tracker (cells_in over.kids);
-            }) ≡ Some (over_node plan here k n plot over) = sym was.0 ∙ over_found in (
+            }) ≡ Some (over_node plan over) = sym was.0 ∙ over_found in (
               up.over ∙ sym (ap (λ (x : Option Node). with_kids x) same),
               was.1,
               holds_put_nth plan heap other node over.slot over.tracker 0 (suc depth) over.kids over.i over.i (there v) (omega arith)

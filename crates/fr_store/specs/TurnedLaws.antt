@@ -1,61 +1,36 @@
 -- Laws of a turn in slots, for proofs: from what its calls say to what it owes.
-use Rattle.std.proofs.Common.{◌≡◌, ◌≢◌, ◌⊎◌, ℕ, zero, suc, ◌<◌, true, false, List, [], ◌∷◌, append-nil, length, slice_get, Option, Some, option_map, unwrap_or, inl, inr, refl, sym, ◌∙◌, ap, subst, arith}
+use Rattle.std.proofs.Common.{◌≡◌, ◌≢◌, ◌⊎◌, ℕ, zero, suc, ◌<◌, true, false, List, [], ◌∷◌, length, slice_get, Option, Some, option_map, unwrap_or, inl, inr, refl, sym, ◌∙◌, ap, subst, arith}
 use Rattle.std.specs.Option.{option_and_then}
 use Rattle.std.specs.Prelude.{is_some, IsSome, IsSomeAnd}
-use Rattle.fr_shape.specs.declared.error.ReflectErrorKind.{ReflectErrorKind}
-use Rattle.fr_shape.specs.Checked.{IsChecked}
-use Rattle.fr_shape.specs.Hooks.{Meanings}
-use Rattle.fr_shape.specs.Look.{Table, def_of}
-use Rattle.fr_shape.specs.Val.{Val}
-use Rattle.fr_model.specs.Complete.{complete}
-use Rattle.fr_model.specs.Failing.{own_lack}
-use Rattle.fr_model.specs.Finish.{finished, failures_off}
-use Rattle.fr_model.specs.FinishLaws.{Closes, closed_at, ClosingKeepsCompletion, ClosingKeepsFailures, ClosingKeepsFailuresOff, ClosingKeepsFinish}
-use Rattle.fr_model.specs.Finishing.{IsOffTheWay}
-use Rattle.fr_model.specs.Places.{Place, deferred_column}
-use Rattle.fr_model.specs.Relation.{HasPlace}
-use Rattle.fr_model.specs.Tree.{Tree, count_trees, shape_in, tree_at}
-use Rattle.fr_model.specs.Well.{IsFullAs, Suits}
-use Rattle.fr_plan.specs.declared.nodes.NodeId.{NodeId}
-use Rattle.fr_plan.specs.declared.nodes.TypePlanNode.{TypePlanNode}
-use Rattle.fr_plan.specs.LookupLaws.{LookupsAgree, LookupPathsAgree}
-use Rattle.fr_plan.specs.TypePlan.{Plan}
-use Rattle.fr_frame.specs.declared.places.FrameOwner.{FrameOwner}
-use Rattle.fr_frame.specs.declared.places.Slot.{Slot}
-use Rattle.fr_frame.specs.Bodies.{Body, entered_body, whole_body, begun_body, cell_at, own_tree, trees_of, value_of, with_cell, IsClosed}
-use Rattle.fr_frame.specs.Cells.{Cell, given, placed}
-use Rattle.fr_frame.specs.Changes.{IfInUse, IsInUse, Shows}
-use Rattle.fr_frame.specs.Completing.{shape_of, FillsAt, IsFull, IsPlanFor, MayComplete}
-use Rattle.fr_frame.specs.Defaults.{WhyNotDefault}
-use Rattle.fr_frame.specs.Heap.{Node, Heap, gives, held_by, heap_of, slots_occur, stored_in, with_body, without}
-use Rattle.fr_frame.specs.Kids.{Kid, there, MayHave, tree_of, cell_of, cells_in, kid_occurs, child_owner}
+use Rattle.fr_store.specs.Below.{Body, Cell, Closes, ClosingKeepsCompletion, ClosingKeepsFailures, ClosingKeepsFailuresOff, ClosingKeepsFinish, FillsAt, FrameOwner, HasPlace, Heap, IfInUse, IsChecked, IsClosed, IsFull, IsFullAs, IsInUse, IsOffTheWay, IsPlanFor, Kid, LookupPathsAgree, LookupsAgree, MayComplete, MayHave, Meanings, Node, NodeId, Place, Plan, ReflectErrorKind, Shows, Slot, Suits, Table, Tree, TypePlanNode, Val, WhyNotDefault, begun_body, cell_at, cell_of, cells_in, child_owner, closed_at, complete, count_trees, def_of, deferred_column, entered_body, failures_off, finished, gives, heap_of, held_by, own_lack, own_tree, placed, shape_in, shape_of, stored_in, there, tree_at, tree_of, trees_of, value_of, whole_body, with_body, with_cell, without}
+use Rattle.fr_frame.specs.Cells.{given}
 use Rattle.fr_store.specs.ClosingLaws.{closes_with, completes_still}
 use Rattle.fr_store.specs.LeaveLaws.{cell_of_child}
+use Rattle.fr_store.specs.MoveLaws.{open_at_from, open_reach}
 use Rattle.fr_store.specs.Moves.{IsOpenAt, cursor_in, tree_in_slots}
 use Rattle.fr_store.specs.OffLaws.{reach_place}
 use Rattle.fr_store.specs.ShapeLaws.{IsOfShape, Along, along, root_shaped}
-use Rattle.fr_store.specs.StandLaws.{cursor_is, kid_is, open_from, tree_is}
+use Rattle.fr_store.specs.StandLaws.{kid_is}
 use Rattle.fr_store.specs.Stands.{IsOpen, Stands}
-use Rattle.fr_store.specs.TokenLaws.{tokens_held}
 use Rattle.fr_store.specs.TopLaws.{closed_tree, closed_uses, slot_here, slot_other}
 use Rattle.fr_store.specs.TurnLaws.{IsHandedUp, Over, asked_still, due_apart, due_found, due_node, due_off, due_over, handed_up, over_found, over_may_have, over_node, stands_turned}
 use Rattle.fr_store.specs.Turning.{HasTurned, IsLackingAt, KeepsTheRest, MayTurn, kid_here}
 use Rattle.fr_store.specs.Turns.{CompletesAsBefore, root_shape}
 use Rattle.fr_store.specs.Walks.{IsStoredAt}
-use Rattle.fr_store.specs.Ways.{count_kids, kid_nth, put_at, put_nth, uses, Leads, Reaches, node_along}
-use Rattle.fr_store.specs.WayLaws.{counts_other, leads_reach, same_or_other, tree_of_at, tree_put_at, uses_put_at}
+use Rattle.fr_store.specs.Ways.{count_kids, kid_nth, put_at, put_nth, uses, Reaches, node_along}
+use Rattle.fr_store.specs.WayLaws.{counts_other, same_or_other, tree_of_at, tree_put_at, uses_put_at}
 
 -- A place of a plan.
 
-pub shape_found : (plan : Plan) (node : NodeId) (s : ℕ) → IsOfShape plan node s → shape_of plan node ≡ s
-shape_found plan node s is =
+pub shape_found : {plan : Plan} {node : NodeId} {s : ℕ} → IsOfShape plan node s → shape_of plan node ≡ s
+shape_found is =
     ap (λ (found : Option TypePlanNode). (unwrap_or (option_map (λ (x : TypePlanNode). x.shape) found) (record { 0 = 0 })).0)
     is.there ∙ is.shape
 
-pub is_there : {A : Type 0} (xs : List A) (i : ℕ) (x : A) → slice_get xs i ≡ Some x → i < length xs
-is_there [] i x e = cc
-is_there (y ∷ ys) zero x e = omega arith
-is_there (y ∷ ys) (suc i) x e = let rest = is_there ys i x e in omega arith
+pub is_there : {A : Type 0} (xs : List A) (i : ℕ) {x : A} → slice_get xs i ≡ Some x → i < length xs
+is_there [] i e = cc
+is_there (y ∷ ys) zero e = omega arith
+is_there (y ∷ ys) (suc i) {x} e = let rest = is_there ys i e in omega arith
 
 pub count_of : (cells : List Cell) → count_trees (trees_of cells) ≡ length cells
 count_of [] = refl
@@ -69,55 +44,45 @@ full_by table s (begun_body tracker cells) suits =
     subst (λ (count : ℕ). IsFullAs (def_of table s) tracker count) (count_of cells) suits.0.0
 
 -- the plan's node of a place that is reached has the shape that the table has there, which the tree there suits
-pub along_open : LookupsAgree → LookupPathsAgree → (table : Table) (plan : Plan) → IsChecked table → IsPlanFor table plan
-    → (k : Kid) → Suits table (root_shape plan) (tree_of k) → (place : Place) → Reaches place k
-    → Along table plan (node_along plan plan.root place k) (shape_in table (root_shape plan) place (tree_of k))
-    (tree_at place (tree_of k))
-along_open agree paths table plan checked by k suits place reach =
+pub along_open : LookupsAgree → LookupPathsAgree → {table : Table} {plan : Plan} → IsChecked table → IsPlanFor table plan
+    → (k : Kid) → Suits table (root_shape plan) (tree_of k) → (place : Place) → Reaches place k → Along table
+    plan (node_along plan plan.root place k) (shape_in table (root_shape plan) place (tree_of k)) (tree_at place (tree_of k))
+along_open agree paths {table} {plan} checked by k suits place reach =
     let first = root_shaped agree table by.root plan checked by.inside by.planned paths in
     let root : IsOfShape plan plan.root (root_shape plan)
-    = subst (λ (s : ℕ). IsOfShape plan plan.root s) (sym (shape_found plan plan.root by.root.0 first)) first in
+    = subst (λ (s : ℕ). IsOfShape plan plan.root s) (sym (shape_found first)) first in
     along agree table by.root plan checked by.inside by.planned place k plan.root (root_shape plan) root suits reach
 
 -- so a place may be completed where none of its children is in a slot
-pub may_complete : (table : Table) (plan : Plan) (s : ℕ) (found : Node) (tree : Tree) → Along table plan found.node s tree
+pub may_complete : {table : Table} {plan : Plan} {s : ℕ} (found : Node) {tree : Tree} → Along table plan found.node s tree
     → own_tree found.body ≡ tree → IsClosed found.body → MayComplete table plan found
-may_complete table plan s found tree shaped own closed = record {
-  planned = is_there plan.nodes found.node.0 shaped.node_is.found shaped.node_is.there;
+may_complete {table} {plan} {s} found shaped own closed = record {
+  planned = is_there plan.nodes found.node.0 shaped.node_is.there;
   full =
-      subst (λ (n : ℕ). IsFull table n found.body) (sym (shape_found plan found.node s shaped.node_is))
+      subst (λ (n : ℕ). IsFull table n found.body) (sym (shape_found shaped.node_is))
       (full_by table s found.body (subst (λ (t : Tree). Suits table s t) (sym own) shaped.suits));
   closed = closed;
 }
 
-pub shape_along : (table : Table) (plan : Plan) (node : NodeId) (s : ℕ) (tree : Tree) → Along table plan node s tree
+pub shape_along : {table : Table} {plan : Plan} {node : NodeId} {s : ℕ} {tree : Tree} → Along table plan node s tree
     → shape_of plan node ≡ s
-shape_along table plan node s tree shaped = shape_found plan node s shaped.node_is
-
--- A builder that is open, from what stands.
-pub open_shown : (plan : Plan) (slots : List Slot) (stack : List ℕ) (place : Place) (k : Kid) (tree : Tree)
-    → Stands plan (heap_of slots) stack place k → ((t : ℕ) → slots_occur slots t ≡ kid_occurs k t)
-    → ((n : ℕ) → IsSome (heap_of slots n) → 0 < uses k n) → tree_of k ≡ tree → IsOpenAt plan slots stack place tree
-open_shown plan slots stack place k tree stands tokens all is = record {
-  open_still = open_from plan slots stack place k stands tokens all;
-  cursor = cursor_is plan (heap_of slots) stack place k stands;
-  built = tree_is plan (heap_of slots) stack place k stands ∙ is;
-}
+shape_along {plan} {node} {s} shaped = shape_found shaped.node_is
 
 -- The slot of a place whose turn it is.
-module _ (plan : Plan) (before : List Slot) (stack : List ℕ) (n : ℕ) (open_now : IsOpen plan before stack) (due : MayTurn before stack n) where
+module _ {plan : Plan} {before : List Slot} {stack : List ℕ} {n : ℕ} (open_now : IsOpen plan before stack)
+    (due : MayTurn before stack n) where
   pub below : Node
   below = due_node plan due.place (kid_here before stack) due.plot
 
   pub found : heap_of before n ≡ Some below
   unfolding below
-  found = due_found open_now.stands due.place n due.plot due.reaches due.is
+  found = due_found open_now.stands due.place due.reaches due.is
 
   pub due_in_use : IsInUse before n
   due_in_use = ap is_some found
 
   pub over : Over due.place (kid_here before stack) n due.plot
-  over = due_over open_now.stands due.place n due.plot due.reaches due.is
+  over = due_over open_now.stands due.place due.reaches due.is
 
   -- what is said of the place in it
   said : (So : Node → Type 0) → IfInUse before n So → So below
@@ -138,23 +103,18 @@ module _ (plan : Plan) (before : List Slot) (stack : List ℕ) (n : ℕ) (open_n
   unfolding below
   shut = due.closed
 
-  module _ (agree : LookupsAgree) (paths : LookupPathsAgree) (table : Table) (checked : IsChecked table) (by : IsPlanFor table plan)
-      (suits : Suits table (root_shape plan) (tree_in_slots before stack)) where
+  module _ (agree : LookupsAgree) (paths : LookupPathsAgree) {table : Table} (checked : IsChecked table)
+      (by : IsPlanFor table plan) (suits : Suits table (root_shape plan) (tree_in_slots before stack)) where
     pub here : Along table plan below.node (shape_in table (root_shape plan) due.place (tree_in_slots before stack))
         (tree_at due.place (tree_in_slots before stack))
     unfolding below
-    here = along_open agree paths table plan checked by (kid_here before stack) suits due.place due.reaches
+    here = along_open agree paths checked by (kid_here before stack) suits due.place due.reaches
 
     pub may_be_completed : IfInUse before n (MayComplete table plan)
-    may_be_completed =
-        so_said (λ (x : Node). MayComplete table plan x)
-        (may_complete table plan (shape_in table (root_shape plan) due.place (tree_in_slots before stack)) below
-        (tree_at due.place (tree_in_slots before stack)) here own shut)
+    may_be_completed = so_said (λ (x : Node). MayComplete table plan x) (may_complete below here own shut)
 
     shape : shape_of plan below.node ≡ shape_in table (root_shape plan) due.place (tree_in_slots before stack)
-    shape =
-        shape_along table plan below.node (shape_in table (root_shape plan) due.place (tree_in_slots before stack))
-        (tree_at due.place (tree_in_slots before stack)) here
+    shape = shape_along here
 
     stored : IsStoredAt (kid_here before stack) n due.place
     stored = record { plot = due.plot; reaches = due.reaches; is = due.is }
@@ -186,21 +146,21 @@ module _ (plan : Plan) (before : List Slot) (stack : List ℕ) (n : ℕ) (open_n
       fills = said (λ (x : Node). FillsAt deferred_column means table plan before first n x) filled
 
       apart : n ≢ over.slot
-      apart = due_apart open_now.stands due.place n due.plot due.reaches due.is over
+      apart = due_apart open_now.stands due.place due.reaches due.is over
 
       above : Node
-      above = over_node plan due.place (kid_here before stack) n due.plot over
+      above = over_node plan over
 
       above_found : heap_of before over.slot ≡ Some above
       unfolding above
-      above_found = over_found open_now.stands due.place n due.plot due.reaches due.is over
+      above_found = over_found open_now.stands due.place due.reaches due.is over
 
       above_begun : above.body ≡ begun_body over.tracker (cells_in over.kids)
       unfolding above
       above_begun = refl
 
       may : MayHave over.tracker (count_kids over.kids)
-      may = over_may_have open_now.stands due.place n due.plot due.reaches due.is over
+      may = over_may_have open_now.stands due.place due.reaches due.is over
 
       child : cell_of (kid_nth over.i over.kids) ≡ placed n
       child = ap cell_of over.child
@@ -249,16 +209,15 @@ module _ (plan : Plan) (before : List Slot) (stack : List ℕ) (n : ℕ) (open_n
         handed_over : IsHandedUp (heap_of before) (heap_of last) n over.slot above
             (begun_body over.tracker (cells_in (put_nth over.i (there v) over.kids)))
         handed_over =
-            handed_up (heap_of before) (heap_of first) mid (heap_of last) n over.slot over.i below above fills.body over.tracker
-            over.kids v apart found above_found above_begun may over.within child owner fills.becomes (λ m. refl) ends
+            handed_up (heap_of before) (heap_of first) mid (heap_of last) n over.slot over.i fills.body over.kids v apart found
+            above_found above_begun may over.within child owner fills.becomes (λ m. refl) ends
 
         kid_after : Kid
         kid_after = put_at due.place (there v) (kid_here before stack)
 
         stands_after : Stands plan (heap_of last) stack (cursor_in before stack) kid_after
         unfolding kid_after above
-        stands_after =
-            stands_turned open_now.stands due.place n due.plot due.reaches due.is over (heap_of last) v due.closed handed_over
+        stands_after = stands_turned open_now.stands due.place due.reaches due.is over v due.closed handed_over
 
         -- each slot in use is that of a place
         all_after : (m : ℕ) → IsSome (heap_of last m) → 0 < uses kid_after m
@@ -282,13 +241,10 @@ module _ (plan : Plan) (before : List Slot) (stack : List ℕ) (n : ℕ) (open_n
 
         kid_is_after : kid_here last stack ≡ put_at due.place (there v) (kid_here before stack)
         unfolding kid_after
-        kid_is_after = kid_is plan (heap_of last) stack (cursor_in before stack) kid_after stands_after
+        kid_is_after = kid_is stands_after
 
         open_after : IsOpenAt plan last stack (cursor_in before stack) (closed_at due.place v (tree_in_slots before stack))
-        open_after =
-            open_shown plan last stack (cursor_in before stack) kid_after
-            (closed_at due.place v (tree_in_slots before stack)) stands_after
-            (tokens_held plan last stack (cursor_in before stack) kid_after stands_after all_after) all_after tree_after
+        open_after = open_at_from last stands_after all_after tree_after
 
         pub has_turned : HasTurned means table plan before stack last n
         has_turned = record {
@@ -305,7 +261,7 @@ module _ (plan : Plan) (before : List Slot) (stack : List ℕ) (n : ℕ) (open_n
 
         closing : Closes means table (root_shape plan) due.place v (tree_in_slots before stack)
         closing =
-            closes_with means table (root_shape plan) due.place v (tree_in_slots before stack)
+            closes_with means table (root_shape plan) due.place (tree_in_slots before stack)
             (reach_place due.place (kid_here before stack) due.reaches) makes
 
         pub keeps_the_rest : ClosingKeepsCompletion → ClosingKeepsFailures → ClosingKeepsFinish → ClosingKeepsFailuresOff
@@ -313,8 +269,8 @@ module _ (plan : Plan) (before : List Slot) (stack : List ℕ) (n : ℕ) (open_n
         keeps_the_rest completion failing finish failing_off = record {
           still = λ slot place lies. as_before place lies.reaches;
           cursor =
-              as_before (cursor_in before stack) (leads_reach (cursor_in before stack) [] (kid_here last stack)
-              (subst (λ (p : Place). Leads p (kid_here last stack)) (sym (append-nil (cursor_in before stack))) on_the_way));
+              as_before (cursor_in before stack) (subst (λ (p : Place). Reaches p (kid_here last stack)) open_after.cursor
+              (open_reach open_after.open_still));
           finish =
               ap (finished means table (root_shape plan) (cursor_in before stack)) open_after.built
               ∙ finish means table (root_shape plan) (cursor_in before stack) due.place v (tree_in_slots before stack) closing
@@ -324,9 +280,6 @@ module _ (plan : Plan) (before : List Slot) (stack : List ℕ) (n : ℕ) (open_n
               (tree_in_slots before stack) closing off;
         }
           where
-            on_the_way : Leads (cursor_in before stack) (kid_here last stack)
-            on_the_way = subst (λ (p : Place). Leads p (kid_here last stack)) open_after.cursor open_after.open_still.stands.leads
-
             as_before : (place : Place) → Reaches place (kid_here last stack)
                 → CompletesAsBefore means table (root_shape plan) (tree_in_slots before stack) (tree_in_slots last stack) place
             as_before place lies =
@@ -336,8 +289,7 @@ module _ (plan : Plan) (before : List Slot) (stack : List ℕ) (n : ℕ) (open_n
                 = subst (λ (t : Tree). HasPlace place t) (tree_put_at due.place (there v) (kid_here before stack))
                 (reach_place place (put_at due.place (there v) (kid_here before stack)) reaches) in
                 subst (λ (t : Tree). CompletesAsBefore means table (root_shape plan) (tree_in_slots before stack) t place)
-                (sym open_after.built) (completes_still completion failing means table (root_shape plan) due.place place v
-                (tree_in_slots before stack) closing has)
+                (sym open_after.built) (completes_still completion failing place closing has)
 
             off : IsOffTheWay (cursor_in before stack) due.place
-            off = due_off open_now.stands due.place n due.plot due.reaches due.is
+            off = due_off open_now.stands due.place due.reaches due.is

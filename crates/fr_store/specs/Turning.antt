@@ -1,23 +1,7 @@
 -- One turn of the walk over stored places: what it asks for and what it owes. And all turns of it, one after another.
 use Rattle.std.specs.Prelude.{◌≡◌, ◌≢◌, ℕ, Bool, true, false, List, [], ◌∷◌, ◌++◌, is_some, Some, None}
 use Rattle.std.specs.List.{Contains}
-use Rattle.fr_shape.specs.declared.error.ReflectErrorKind.{ReflectErrorKind}
-use Rattle.fr_shape.specs.Hooks.{Meanings}
-use Rattle.fr_shape.specs.Look.{Table}
-use Rattle.fr_shape.specs.Val.{Val}
-use Rattle.fr_path.specs.declared.path_steps.PathStep.{PathStep}
-use Rattle.fr_model.specs.Complete.{complete}
-use Rattle.fr_model.specs.Failing.{own_lack}
-use Rattle.fr_model.specs.Finish.{finished, finished_here, failures_off, is_closed_slice}
-use Rattle.fr_model.specs.Paths.{steps_in}
-use Rattle.fr_model.specs.Places.{Place, deferred_column}
-use Rattle.fr_model.specs.Tree.{Tree, whole, tree_at, change_at, shape_in}
-use Rattle.fr_model.specs.Well.{Suits}
-use Rattle.fr_plan.specs.TypePlan.{Plan}
-use Rattle.fr_frame.specs.declared.places.Slot.{Slot}
-use Rattle.fr_frame.specs.Bodies.{Body, entered_body, whole_body, begun_body, IsClosed}
-use Rattle.fr_frame.specs.Heap.{heap_of, marked}
-use Rattle.fr_frame.specs.Kids.{Kid, at, Plot, there, body_in}
+use Rattle.fr_store.specs.Below.{Body, IsClosed, Kid, Meanings, PathStep, Place, Plan, Plot, ReflectErrorKind, Slot, Suits, Table, Tree, Val, at, begun_body, body_in, change_at, complete, deferred_column, entered_body, failures_off, finished, finished_here, heap_of, is_closed_slice, marked, own_lack, shape_in, steps_in, there, tree_at, whole, whole_body}
 use Rattle.fr_store.specs.Moves.{IsOpenAt, cursor_in, tree_in_slots}
 pub use Rattle.fr_store.specs.Stands.{kid_here}
 use Rattle.fr_store.specs.Stands.{IsOpen}

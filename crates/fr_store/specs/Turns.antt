@@ -1,19 +1,7 @@
 -- The walk over stored places at the end of deferred mode, turn by turn, and what comes of it.
 use Rattle.std.specs.Prelude.{◌≡◌, ℕ, List, [], ◌∷◌, ◌++◌, Some, None}
 use Rattle.std.specs.List.{All}
-use Rattle.fr_shape.specs.declared.error.ReflectErrorKind.{ReflectErrorKind}
-use Rattle.fr_shape.specs.Hooks.{Meanings}
-use Rattle.fr_shape.specs.Look.{Table}
-use Rattle.fr_shape.specs.Val.{Val}
-use Rattle.fr_path.specs.declared.path_steps.PathStep.{PathStep}
-use Rattle.fr_model.specs.Complete.{complete}
-use Rattle.fr_model.specs.Failing.{failures}
-use Rattle.fr_model.specs.Finish.{finished, finish_cause}
-use Rattle.fr_model.specs.Places.{Place, deferred_column}
-use Rattle.fr_model.specs.Tree.{Tree, whole, tree_at, change_at, shape_in}
-use Rattle.fr_plan.specs.TypePlan.{Plan}
-use Rattle.fr_frame.specs.declared.places.Slot.{Slot}
-use Rattle.fr_frame.specs.Completing.{shape_of}
+use Rattle.fr_store.specs.Below.{Meanings, PathStep, Place, Plan, ReflectErrorKind, Slot, Table, Tree, Val, change_at, complete, deferred_column, failures, finish_cause, finished, shape_in, shape_of, tree_at, whole}
 use Rattle.fr_store.specs.Moves.{IsOpenAt, cursor_in, tree_in_slots}
 
 -- The places that had their turn: each, at its own turn, made a value by the rules of the end of deferred mode, and became whole

@@ -2,11 +2,7 @@
 use Rattle.std.specs.Prelude.{◌≡◌, ℕ, true, List, [], ◌∷◌}
 use Rattle.std.specs.List.{Contains}
 use Rattle.std.specs.declared.cmp.Ordering.{Ordering}
-use Rattle.fr_path.specs.Order.{walk_order}
-use Rattle.fr_model.specs.Paths.{steps_in}
-use Rattle.fr_model.specs.Places.{Place}
-use Rattle.fr_model.specs.Tree.{Tree}
-use Rattle.fr_frame.specs.Kids.{Kid, at, Plot, tree_of}
+use Rattle.fr_store.specs.Below.{Kid, Place, Plot, Tree, at, steps_in, tree_of, walk_order}
 use Rattle.fr_store.specs.Places.{Pairs}
 use Rattle.fr_store.specs.Ways.{kid_at, Reaches}
 

@@ -2,15 +2,16 @@
 use Rattle.std.proofs.Common.{◌≡◌, ◌≢◌, ◌⊎◌, ℕ, zero, suc, ◌+◌, ◌<◌, ◌≤◌, Bool, true, false, List, [], ◌∷◌, ◌++◌, nat_eq, refl, sym, ◌∙◌, ap, arith}
 use Rattle.std.proofs.lemmas.Grind.{common_steps}
 use Rattle.std.proofs.lemmas.Bool.Decides.{nat_tests}
-use Rattle.fr_model.specs.Places.{Place}
-use Rattle.fr_model.specs.Tree.{Tree, begun, Trees, branch, tree_nth, change_nth, child_tree, tree_at, change_at, tree_occurs, trees_occur, count_trees}
-use Rattle.fr_frame.specs.Kids.{Kid, gone, there, at, Plot, entered_plot, whole_plot, begun_plot, Kids, no_kids, kid, tree_of, tree_in, trees_in, kid_occurs, plot_occurs, kids_occur}
+use Rattle.fr_store.specs.Below.{Kid, Kids, Place, Plot, Tree, Trees, at, begun, begun_plot, branch, change_at, change_nth, child_tree, count_trees, entered_plot, gone, kid, kid_occurs, kids_occur, no_kids, plot_occurs, there, tree_at, tree_in, tree_nth, tree_occurs, tree_of, trees_in, trees_occur, whole_plot}
 use Rattle.fr_store.specs.Ways.{count_kids, kid_nth, kid_below, kid_at, put_nth, put_below, put_at, slots_along, slots_above, counts_if, uses, uses_among, AllMarked, AllMarkedAmong, StoredBut, Leads, Reaches}
 
 -- Numbers of slots.
 
 pub counts_same : (n : ℕ) → counts_if (nat_eq n n) ≡ 1
 counts_same n = let e : nat_eq n n ≡ true = grind (arith, common_steps, nat_tests) in ap counts_if e
+
+pub counts_own : {m n : ℕ} → m ≡ n → counts_if (nat_eq n m) ≡ 1
+counts_own {n} e = ap (λ (x : ℕ). counts_if (nat_eq n x)) e ∙ counts_same n
 
 pub counts_other : (m n : ℕ) → m ≢ n → counts_if (nat_eq m n) ≡ 0
 counts_other m n ne = let e : nat_eq m n ≡ false = grind (arith, common_steps, nat_tests) in ap counts_if e

@@ -1,10 +1,6 @@
 -- Ways through places in slots: what lies at the end of a way of child numbers, what lies along it and beside it.
 use Rattle.std.specs.Prelude.{◌≡◌, ℕ, zero, suc, ◌+◌, ◌<◌, Bool, true, false, List, [], ◌∷◌, nat_eq, if◌then◌else◌}
-use Rattle.fr_model.specs.Places.{Place}
-use Rattle.fr_plan.specs.declared.nodes.NodeId.{NodeId}
-use Rattle.fr_plan.specs.TypePlan.{Plan}
-use Rattle.fr_frame.specs.declared.places.FrameOwner.{FrameOwner}
-use Rattle.fr_frame.specs.Kids.{Kid, gone, there, at, Plot, entered_plot, whole_plot, begun_plot, Kids, no_kids, kid, child_node, child_owner}
+use Rattle.fr_store.specs.Below.{FrameOwner, Kid, Kids, NodeId, Place, Plan, Plot, at, begun_plot, child_node, child_owner, entered_plot, gone, kid, no_kids, there, whole_plot}
 
 -- The end of a way.
 

@@ -5,18 +5,17 @@ ghost use Rattle.fr_shape.specs.declared.error.ReflectErrorKind.{ReflectErrorKin
 ghost use Rattle.fr_frame.specs.Completing.{IsPlanFor};
 ghost use Rattle.fr_store.specs.Beneath.{IsCompleteBeneath};
 
-use crate::finishing::turn;
 use crate::listing::walk_beneath;
 use crate::{FrameStore, Stack};
 use fr_frame::{SlotId, Slots};
 use fr_model::{law_closing, law_completes, law_failing};
 use fr_plan::TypePlanCore;
-use fr_shape::{Hooks, Ledger, OutOfMemory, ReflectErrorKind, ShapeTable};
+use fr_shape::{Hooks, Ledger, ReflectErrorKind, ShapeTable};
 
 impl FrameStore {
     /// The turns of all places of a walk over what lies beneath the place on top of the stack. Each
     /// is taken out of the store.
-    fn take_turns_beneath<H: Hooks>(
+    fn complete_in_order_beneath<H: Hooks>(
         &mut self,
         slots: &mut Slots,
         stack: &Stack,
@@ -48,8 +47,9 @@ impl FrameStore {
         law_completes();
         law_failing();
         for place in walk {
-            match turn(slots, stack, SlotId(*place), table, plan, hooks, ledger) {
-                Ok(()) => self.remove(SlotId(*place)),
+            let place = SlotId(*place);
+            match stack.complete_in_turn(slots, place, table, plan, hooks, ledger) {
+                Ok(()) => self.remove(place),
                 Err(kind) => return Err(kind),
             }
         }
@@ -87,12 +87,9 @@ impl FrameStore {
         ensures conserved { Conserved (slots_occur slots.old) ledger.old
             (slots_occur slots.new) ledger.new }
     {
-        let Some(top) = stack.top() else {
-            unreachable!()
-        };
-        let Ok(walk) = walk_beneath(slots, stack, plan, top, self.alloc()) else {
+        let Ok(walk) = walk_beneath(slots, stack, self.alloc()) else {
             return Err(ReflectErrorKind::OutOfMemory);
         };
-        self.take_turns_beneath(slots, stack, &walk, table, plan, hooks, ledger)
+        self.complete_in_order_beneath(slots, stack, &walk, table, plan, hooks, ledger)
     }
 }

@@ -1,6 +1,6 @@
 //! What becomes of the place at which a builder works as it ends: its value is handed over, or it
 //! is left as it is.
-ghost use Rattle.fr_store.specs.Common.{AllStayPut, AtTop, Conserved, IsKept, IsOpen, IsOpenAt, IsSome, OnErr, OnOk, Room, SameMarks, SameTokens, Shows, Some, Val, [], cursor_in, false, heap_of, is_root, kid_here, slots_occur, tokens_here, tree_at, tree_in_slots, up, value_of};
+ghost use Rattle.fr_store.specs.Common.{AllStayPut, AtTop, Conserved, IsKept, IsOpen, IsOpenAt, IsOpened, Plan, IsSome, OnErr, OnOk, Room, SameMarks, SameTokens, Shows, Some, Val, [], cursor_in, false, heap_of, is_root, kid_here, slots_occur, tokens_here, tree_at, tree_in_slots, up, value_of};
 ghost use Rattle.std.specs.Prelude.{IfSome, IsNone, IsOk, ◌≡◌};
 ghost use Rattle.fr_frame.specs.Bodies.{takes_memory};
 ghost use Rattle.fr_store.specs.Moves.{place_then, takes_at_end, tree_then, IsLeftBy, MayHandOver};
@@ -9,7 +9,6 @@ ghost use Rattle.fr_frame.specs.declared.places.Taker.{Taker as By};
 
 use crate::{FrameStore, Stack};
 use fr_frame::{SlotId, Slots, Taker};
-use fr_plan::TypePlanCore;
 use fr_shape::{Ledger, OutOfMemory};
 
 impl Stack {
@@ -34,17 +33,16 @@ impl Stack {
     pub fn hand_over(
         &mut self,
         slots: &mut Slots,
-        plan: &TypePlanCore,
         taker: Taker,
         ledger: &mut Ledger,
     ) -> Result<(), OutOfMemory>
-        requires is_open { IsOpen plan.now slots.old self.old }
+        requires is_open { IsOpened slots.old self.old }
         requires may { MayHandOver taker slots.old self.old }
         requires complete { AtTop slots.old self.old (λ at. IsSome (value_of at.body)) }
         requires room { Room (tokens_here slots.old self.old) ledger.old }
-        ensures handed { OnOk result (AtTop slots.old self.old (λ at.
-            (v : Val) → value_of at.body ≡ Some v
-            → IsOpenAt plan.now slots.new self.new (place_then taker (cursor_in slots.old self.old))
+        ensures handed { OnOk result ((plan : Plan) → IsOpen plan slots.old self.old
+            → AtTop slots.old self.old (λ at. (v : Val) → value_of at.body ≡ Some v
+            → IsOpenAt plan slots.new self.new (place_then taker (cursor_in slots.old self.old))
             (tree_then taker (cursor_in slots.old self.old) v
             (tree_in_slots slots.old self.old)))) }
         ensures places { OnOk result (StayPutAs taker (cursor_in slots.old self.old)
@@ -59,7 +57,6 @@ impl Stack {
         ensures conserved { Conserved (slots_occur slots.old) ledger.old
             (slots_occur slots.new) ledger.new }
     {
-        let _plan = plan;
         let Some(place) = self.top_for(taker) else {
             unreachable!()
         };
@@ -68,19 +65,15 @@ impl Stack {
 
     /// Deferred mode: the place on top, which is no item of a set and no part of a dynamic value,
     /// is stored as it is, and the builder works at the place above.
-    pub fn leave(
-        &mut self,
-        slots: &mut Slots,
-        store: &mut FrameStore,
-        plan: &TypePlanCore,
-    ) -> Result<(), OutOfMemory>
-        requires is_open { IsOpen plan.now slots.old self.old }
+    pub fn leave(&mut self, slots: &mut Slots, store: &mut FrameStore) -> Result<(), OutOfMemory>
+        requires is_open { IsOpened slots.old self.old }
         requires kept { IsKept store.old slots.old }
         requires below { is_root (cursor_in slots.old self.old) ≡ false }
         requires not_item { takes_at_end (tree_at (up (cursor_in slots.old self.old))
             (tree_in_slots slots.old self.old)) ≡ false }
-        ensures left { OnOk result (IsOpenAt plan.now slots.new self.new
-            (up (cursor_in slots.old self.old)) (tree_in_slots slots.old self.old)) }
+        ensures left { OnOk result ((plan : Plan) → IsOpen plan slots.old self.old
+            → IsOpenAt plan slots.new self.new (up (cursor_in slots.old self.old))
+            (tree_in_slots slots.old self.old)) }
         ensures places { AllStayPut (kid_here slots.old self.old) (kid_here slots.new self.new) }
         ensures kept { IsKept store.new slots.new }
         ensures tokens { SameTokens slots.old slots.new }
@@ -88,7 +81,6 @@ impl Stack {
         ensures store_kept { OnErr result (store.new ≡ store.old) }
         ensures refused { OnErr result (self.new ≡ self.old) }
     {
-        let _plan = plan;
         let Some(place) = self.top() else {
             unreachable!()
         };

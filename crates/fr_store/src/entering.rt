@@ -1,5 +1,5 @@
 //! Going on to a child of the place at which a builder works.
-ghost use Rattle.fr_store.specs.Common.{AllStayPut, AtTop, IsKept, IsOpen, IsOpenAt, OnErr, OnOk, SameMarks, SameTokens, Shows, MayHave, StoresNoMore, [], as_tracker, base_of_tracker, changed_here, cursor_in, def_of, false, heap_of, kid_here, length, opened_as, shape_of, tree_here, ℕ};
+ghost use Rattle.fr_store.specs.Common.{AllStayPut, AtTop, IsKept, IsOpen, IsOpenAt, IsOpened, Plan, OnErr, OnOk, SameMarks, SameTokens, Shows, MayHave, StoresNoMore, [], as_tracker, base_of_tracker, changed_here, cursor_in, def_of, false, heap_of, kid_here, length, opened_as, shape_of, tree_here, ℕ};
 ghost use Rattle.fr_frame.specs.Bodies.{MayOpen};
 ghost use Rattle.std.specs.Prelude.{IfSome, IsNone, ◌++◌, ◌<◌, ◌∷◌, ◌≡◌};
 ghost use Rattle.fr_frame.specs.Heap.{with_mark};
@@ -47,15 +47,15 @@ impl Stack {
     pub fn begin(
         &self,
         slots: &mut Slots,
-        plan: &TypePlanCore,
         tracker: Tracker,
         count: usize,
     ) -> Result<(), OutOfMemory>
-        requires is_open { IsOpen plan.now slots.old self.now }
+        requires is_open { IsOpened slots.old self.now }
         requires may_open { AtTop slots.old self.now (λ at. MayOpen (as_tracker tracker) at.body) }
         requires may_have { MayHave (as_tracker tracker) count }
         requires base { base_of_tracker (as_tracker tracker) ≡ 0 }
-        ensures begun { OnOk result (IsOpenAt plan.now slots.new self.now
+        ensures begun { OnOk result ((plan : Plan) → IsOpen plan slots.old self.now
+            → IsOpenAt plan slots.new self.now
             (cursor_in slots.old self.now)
             (changed_here (opened_as (as_tracker tracker) count) slots.old self.now)) }
         ensures places { AllStayPut (kid_here slots.old self.now) (kid_here slots.new self.now) }
@@ -63,7 +63,6 @@ impl Stack {
         ensures tokens { SameTokens slots.old slots.new }
         ensures marks { SameMarks slots.old slots.new }
     {
-        let _plan = plan;
         match self.top() {
             Some(place) => place.begin(slots, tracker, count),
             None => unreachable!(),

@@ -7,52 +7,53 @@ ghost use Rattle.fr_store.specs.Turning.{becomes_whole, kid_here, CameByTurns, F
 ghost use Rattle.fr_store.specs.Turns.{IsFinished};
 
 use crate::{FrameStore, Stack};
-use fr_frame::{ItemsKind, Piece, SlotId, Slots, Taker, Tracker};
+use fr_frame::{ItemsKind, PartialValue, SlotId, Slots, Taker, Tracker};
 use fr_model::{law_closing, law_completes, law_failing};
 use fr_plan::{TypePlanCore, law_plan_lookups};
 use fr_shape::{Hooks, Ledger, OutOfMemory, ReflectErrorKind, ShapeTable};
 
-/// The turn of a stored place that has no child in a slot: it is completed, and its value goes into
-/// the place above. What a set or a map has twice is released. Where there is no memory for the box
-/// that a begun option, result or pointer takes, also one to a slice, or for putting a set, a map
-/// or a dynamic value together, what was put at the place is released.
-pub(crate) fn turn<H: Hooks>(
-    slots: &mut Slots,
-    stack: &Stack,
-    place: SlotId,
-    table: &ShapeTable,
-    plan: &TypePlanCore,
-    hooks: &H,
-    ledger: &mut Ledger,
-) -> Result<(), ReflectErrorKind>
-    requires checked { IsChecked table.now }
-    requires plan { IsPlanFor table.now plan.now }
-    requires is_open { IsOpen plan.now slots.old stack.now }
-    requires suits { Suits table.now (root_shape plan.now) (tree_in_slots slots.old stack.now) }
-    requires due { MayTurn slots.old stack.now place.0 }
-    requires room { Room (tokens_in slots.old stack.now) ledger.old }
-    ensures turned { OnOk result (HasTurned (H.means hooks.now) table.now plan.now
-        slots.old stack.now slots.new place.0) }
-    ensures rest { OnOk result (KeepsTheRest (H.means hooks.now) table.now plan.now
-        slots.old stack.now slots.new) }
-    ensures why { IfErr result (λ kind. (kind ≡ Kind.OutOfMemory)
-        ⊎ IsLackingAt (H.means hooks.now) table.now plan.now slots.old stack.now place.0 kind) }
-    ensures conserved { Conserved (slots_occur slots.old) ledger.old
-        (slots_occur slots.new) ledger.new }
-{
-    law_closing();
-    law_completes();
-    law_plan_lookups();
-    let _stack = stack;
-    place.complete_by_defaults(slots, table, plan, hooks)?;
-    match place.hand_over(slots, Taker::Above, ledger) {
-        Ok(()) => Ok(()),
-        Err(OutOfMemory) => Err(ReflectErrorKind::OutOfMemory),
+impl Stack {
+    /// The turn of a stored place that has no child in a slot: it is completed, and its value goes
+    /// into the place above. What a set or a map has twice is released. Where there is no memory
+    /// for the box that a begun option, result or pointer takes, also one to a slice, or for
+    /// putting a set, a map or a dynamic value together, what was put at the place is released.
+    pub(crate) fn complete_in_turn<H: Hooks>(
+        &self,
+        slots: &mut Slots,
+        place: SlotId,
+        table: &ShapeTable,
+        plan: &TypePlanCore,
+        hooks: &H,
+        ledger: &mut Ledger,
+    ) -> Result<(), ReflectErrorKind>
+        requires checked { IsChecked table.now }
+        requires plan { IsPlanFor table.now plan.now }
+        requires is_open { IsOpen plan.now slots.old self.now }
+        requires suits { Suits table.now (root_shape plan.now) (tree_in_slots slots.old self.now) }
+        requires due { MayTurn slots.old self.now place.0 }
+        requires room { Room (tokens_in slots.old self.now) ledger.old }
+        ensures turned { OnOk result (HasTurned (H.means hooks.now) table.now plan.now
+            slots.old self.now slots.new place.0) }
+        ensures rest { OnOk result (KeepsTheRest (H.means hooks.now) table.now plan.now
+            slots.old self.now slots.new) }
+        ensures why { IfErr result (λ kind. (kind ≡ Kind.OutOfMemory)
+            ⊎ IsLackingAt (H.means hooks.now) table.now plan.now slots.old self.now place.0 kind) }
+        ensures conserved { Conserved (slots_occur slots.old) ledger.old
+            (slots_occur slots.new) ledger.new }
+    {
+        law_closing();
+        law_completes();
+        law_plan_lookups();
+        place.complete_by_defaults(slots, table, plan, hooks)?;
+        match place.hand_over(slots, Taker::Above, ledger) {
+            Ok(()) => Ok(()),
+            Err(OutOfMemory) => Err(ReflectErrorKind::OutOfMemory),
+        }
     }
 }
 
 /// The turns of all places of a walk.
-fn take_turns<H: Hooks>(
+fn complete_in_order<H: Hooks>(
     slots: &mut Slots,
     stack: &Stack,
     walk: &[u32],
@@ -79,7 +80,8 @@ fn take_turns<H: Hooks>(
     law_completes();
     law_failing();
     for place in walk {
-        match turn(slots, stack, SlotId(*place), table, plan, hooks, ledger) {
+        let place = SlotId(*place);
+        match stack.complete_in_turn(slots, place, table, plan, hooks, ledger) {
             Ok(()) => {}
             Err(kind) => return Err(kind),
         }
@@ -90,11 +92,12 @@ fn take_turns<H: Hooks>(
 /// Whether a place becomes whole where the builder works, by what was put at it: it was only
 /// entered, or is a closed pointer to a slice. A dynamic value that is begun stays so, as a list
 /// does.
-fn becomes_whole_by(piece: &Piece) -> bool
-    ensures { result ≡ becomes_whole (body_of piece.now) }
+fn becomes_whole_by(partial: &PartialValue) -> bool
+    ensures { result ≡ becomes_whole (body_of partial.now) }
 {
-    match piece {
-        Piece::Entered | Piece::Begun(Tracker::Items(ItemsKind::ClosedSlice), _) => true,
+    match partial {
+        PartialValue::Entered | PartialValue::Begun(Tracker::Items(ItemsKind::ClosedSlice), _) =>
+            true,
         _ => false,
     }
 }
@@ -105,7 +108,7 @@ fn becomes_whole(slots: &Slots, place: SlotId) -> bool
     ensures { IfInUse slots.now place.0 (λ at. result ≡ becomes_whole at.body) }
 {
     match slots.place(place) {
-        Some(found) => becomes_whole_by(&found.piece),
+        Some(found) => becomes_whole_by(&found.partial),
         None => unreachable!(),
     }
 }
@@ -183,8 +186,8 @@ impl FrameStore {
             (slots_occur slots.new) ledger.new }
     {
         law_failing();
-        let walk = self.take_walk(slots, stack, plan);
-        match take_turns(slots, stack, &walk, table, plan, hooks, ledger) {
+        let walk = self.take_walk(slots, stack);
+        match complete_in_order(slots, stack, &walk, table, plan, hooks, ledger) {
             Ok(()) => {}
             Err(kind) => return Err(kind),
         }

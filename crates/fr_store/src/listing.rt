@@ -1,12 +1,11 @@
 //! All places that lie in slots beneath one.
-ghost use Rattle.fr_store.specs.Common.{IsLast, IsOpen, IsWalk, OnOk, body_of, cells_found, entry_of, from_last, heap_of, is_map_found, kid_on_top, length, slotted};
+ghost use Rattle.fr_store.specs.Common.{IsOpened, IsWalk, OnOk, body_of, cells_found, entry_of, from_last, heap_of, is_map_found, kid_on_top, length, slotted};
 ghost use Rattle.std.specs.Prelude.{IfOk, ◌++◌, ◌<◌, ◌≡◌};
 ghost use Rattle.fr_store.specs.Beneath.{is_map_body};
 
 use crate::Stack;
 use crate::pruning::{count_children, slot_of_child};
-use fr_frame::{EntriesKind, Piece, SlotId, Slots, Tracker};
-use fr_plan::TypePlanCore;
+use fr_frame::{EntriesKind, PartialValue, SlotId, Slots, Tracker};
 use fr_shape::OutOfMemory;
 use std::alloc::Global;
 
@@ -37,11 +36,11 @@ fn child_from_last(of_map: bool, count: usize, i: usize) -> usize
 
 /// Whether a place is begun as a map, by what was put at it. An object, whose entries have their
 /// values alone as children, is none.
-fn is_map_piece(piece: &Piece) -> bool
-    ensures { result ≡ is_map_body (body_of piece.now) }
+fn is_map_partial(partial: &PartialValue) -> bool
+    ensures { result ≡ is_map_body (body_of partial.now) }
 {
-    match piece {
-        Piece::Begun(Tracker::Entries(EntriesKind::Map(_)), _) => true,
+    match partial {
+        PartialValue::Begun(Tracker::Entries(EntriesKind::Map(_)), _) => true,
         _ => false,
     }
 }
@@ -51,7 +50,7 @@ fn is_map(slots: &Slots, place: SlotId) -> bool
     ensures { result ≡ is_map_found (heap_of slots.now place.0) }
 {
     match slots.place(place) {
-        Some(found) => is_map_piece(&found.piece),
+        Some(found) => is_map_partial(&found.partial),
         None => false,
     }
 }
@@ -81,16 +80,14 @@ fn add_children(slots: &Slots, place: SlotId, queue: &mut Vec<u32>) -> Result<()
 pub(crate) fn walk_beneath(
     slots: &Slots,
     stack: &Stack,
-    plan: &TypePlanCore,
-    top: SlotId,
     alloc: Global,
 ) -> Result<Vec<u32>, OutOfMemory>
-    requires is_open { IsOpen plan.now slots.now stack.now }
-    requires last { IsLast stack.now top.0 }
+    requires is_open { IsOpened slots.now stack.now }
     ensures walk { IfOk result (λ walk. IsWalk (kid_on_top slots.now stack.now) walk.items) }
 {
-    let _plan = plan;
-    let _stack = stack;
+    let Some(top) = stack.top() else {
+        unreachable!()
+    };
     let mut queue = Vec::new(alloc);
     add_children(slots, top, &mut queue)?;
     let mut head = 0;

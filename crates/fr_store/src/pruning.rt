@@ -5,16 +5,16 @@ ghost use Rattle.fr_frame.specs.Cells.{slot_at};
 ghost use Rattle.fr_frame.specs.declared.places.SlotId.{SlotId as Number};
 
 use crate::FrameStore;
-use fr_frame::{Piece, SlotId, Slots};
+use fr_frame::{PartialValue, SlotId, Slots};
 use fr_shape::Ledger;
 
 /// How many children a place has, by what was put at it.
-fn count_among(piece: &Piece) -> usize
-    ensures { result ≡ length (cells_in_body (body_of piece.now)) }
+fn count_among(partial: &PartialValue) -> usize
+    ensures { result ≡ length (cells_in_body (body_of partial.now)) }
 {
-    match piece {
-        Piece::Begun(_, children) => children.len(),
-        Piece::Entered | Piece::Whole(_) => 0,
+    match partial {
+        PartialValue::Begun(_, children) => children.len(),
+        PartialValue::Entered | PartialValue::Whole(_) => 0,
     }
 }
 
@@ -23,7 +23,7 @@ pub(crate) fn count_children(slots: &Slots, place: SlotId) -> usize
     ensures { result ≡ length (cells_found (heap_of slots.now place.0)) }
 {
     match slots.place(place) {
-        Some(found) => count_among(&found.piece),
+        Some(found) => count_among(&found.partial),
         None => 0,
     }
 }

@@ -1,11 +1,10 @@
 //! All stored places, the shortest path first.
-ghost use Rattle.fr_store.specs.Common.{AreAllStored, HasOwner, IfInUse, IsKeyOf, IsNonDecreasingBy, IsOpen, IsSpread, Some, heap_of, is_between, key_of, kid_shown, length, numbers, slots_between, ℕ};
+ghost use Rattle.fr_store.specs.Common.{AreAllStored, HasOwner, IfInUse, IsKeyOf, IsNonDecreasingBy, IsOpened, IsSpread, Some, heap_of, is_between, key_of, kid_shown, length, numbers, slots_between, ℕ};
 ghost use Rattle.std.specs.Prelude.{◌+◌, ◌≤◌, filter, slice_get, take, ◌++◌, ◌≡◌, ◌⊎◌};
 
 use crate::Stack;
 use crate::turning::{StoredPlace, key, noted};
 use fr_frame::{SlotId, Slots};
-use fr_plan::TypePlanCore;
 
 /// How far apart the keys of the children of neighbouring slots are. What comes after the last of
 /// them needs one bit more than they.
@@ -57,14 +56,8 @@ fn key_at(slots: &Slots, on_stack: &[SlotId], i: usize, last: u128) -> u128
 /// The slots of all stored places: the shortest path first, and among paths of one length step by
 /// step from the last to the first. Open places aren't among them, but their children come where
 /// theirs do: `at` is how many slots come before the next open place.
-pub(crate) fn spread(
-    places: &[StoredPlace],
-    slots: &Slots,
-    stack: &Stack,
-    plan: &TypePlanCore,
-    order: &mut [u32],
-)
-    requires is_open { IsOpen plan.now slots.now stack.now }
+pub(crate) fn spread(places: &[StoredPlace], slots: &Slots, stack: &Stack, order: &mut [u32])
+    requires is_open { IsOpened slots.now stack.now }
     requires stored { AreAllStored (kid_shown (heap_of slots.now) stack.now) places.now }
     requires sorted { IsNonDecreasingBy key_of places.now }
     requires room { length places.now ≤ length order.old }
@@ -72,7 +65,6 @@ pub(crate) fn spread(
         (take (length places.now) order.new) }
     ensures long { length order.new ≡ length order.old }
 {
-    let _plan = plan;
     let on_stack = stack.places();
     let mut opened = 0;
     let mut at = 0;

@@ -1,6 +1,6 @@
 //! The places that were left half done, to be entered again or completed at the end of deferred
 //! mode.
-ghost use Rattle.fr_store.specs.Common.{Contains, IsInUse, IsKept, IsOpen, IsStoredChild, IsWalk, OnErr, OnOk, SameTokens, Shows, Some, [], false, heap_of, kid_shown, length, marked, true, with_mark, ℕ};
+ghost use Rattle.fr_store.specs.Common.{Contains, IsInUse, IsKept, IsOpened, IsStoredChild, IsWalk, OnErr, OnOk, SameTokens, Shows, Some, [], false, heap_of, kid_shown, length, marked, true, with_mark, ℕ};
 ghost use Rattle.std.specs.Prelude.{◌≢◌, slice_get, IfSome, IsNone, IsTrue, ◌++◌, ◌<◌, ◌↔◌, ◌∷◌, ◌≡◌};
 ghost use Rattle.fr_store.specs.Stored.{child_slot};
 
@@ -8,7 +8,6 @@ use crate::Stack;
 use crate::turning::StoredPlace;
 use crate::walking::order_walk;
 use fr_frame::{SlotId, Slots};
-use fr_plan::TypePlanCore;
 use fr_shape::OutOfMemory;
 use std::alloc::Global;
 use std::marker::Model;
@@ -119,20 +118,15 @@ impl FrameStore {
 
     /// Takes all places out: the numbers of their slots come in the order of the walk. Takes no
     /// memory.
-    pub(crate) fn take_walk(
-        &mut self,
-        slots: &Slots,
-        stack: &Stack,
-        plan: &TypePlanCore,
-    ) -> Vec<u32>
-        requires is_open { IsOpen plan.now slots.now stack.now }
+    pub(crate) fn take_walk(&mut self, slots: &Slots, stack: &Stack) -> Vec<u32>
+        requires is_open { IsOpened slots.now stack.now }
         requires kept { IsKept self.old slots.now }
         ensures walk { IsWalk (kid_shown (heap_of slots.now) stack.now) result.items }
         ensures empty { self.new ≡ [] }
     {
         let mut places = std::mem::replace(&mut self.places, Vec::new(self.alloc));
         let mut order = std::mem::replace(&mut self.positions, Vec::new(self.alloc));
-        order_walk(&mut places, &mut order, slots, stack, plan);
+        order_walk(&mut places, &mut order, slots, stack);
         order
     }
 

@@ -4,7 +4,7 @@ ghost use Rattle.std.specs.Prelude.{All, IsPermutation, ◌≡◌};
 ghost use Rattle.fr_model.specs.Trackers.{EntriesKind as TreeEntriesKind};
 ghost use Rattle.fr_store.specs.Places.{order_at, order_in};
 
-use fr_frame::{EntriesKind, FrameOwner, Piece, SlotId, Slots, Tracker};
+use fr_frame::{EntriesKind, FrameOwner, PartialValue, SlotId, Slots, Tracker};
 
 /// A place that is stored, by its slot. For the walk alone there is beside it the number of the
 /// slot of the place above, which child of that it is, and where it comes among the children there:
@@ -40,12 +40,12 @@ fn order_of(tracker: &Tracker, i: u32) -> u32
 }
 
 /// Where child `i` of a place comes among its children, by what was put at it.
-fn order_among(piece: &Piece, i: u32) -> u32
-    ensures { result ≡ order_in (body_of piece.now) i }
+fn order_among(partial: &PartialValue, i: u32) -> u32
+    ensures { result ≡ order_in (body_of partial.now) i }
 {
-    match piece {
-        Piece::Begun(tracker, _) => order_of(tracker, i),
-        Piece::Entered | Piece::Whole(_) => i,
+    match partial {
+        PartialValue::Begun(tracker, _) => order_of(tracker, i),
+        PartialValue::Entered | PartialValue::Whole(_) => i,
     }
 }
 
@@ -54,7 +54,7 @@ fn order_below(slots: &Slots, parent: SlotId, i: u32) -> u32
     ensures { result ≡ order_at (heap_of slots.now parent.0) i }
 {
     match slots.place(parent) {
-        Some(above) => order_among(&above.piece, i),
+        Some(above) => order_among(&above.partial, i),
         None => i,
     }
 }

@@ -1,12 +1,11 @@
 //! The order in which stored places are completed.
-ghost use Rattle.fr_store.specs.Common.{AreOnce, Contains, IsOpen, IsWalk, heap_of, kid_shown, length, marked, slots_of, true, ℕ};
-ghost use Rattle.std.specs.Prelude.{◌≤◌, take, ◌↔◌, ◌≡◌};
+ghost use Rattle.fr_store.specs.Common.{AreOnce, Contains, IsOpened, IsWalk, heap_of, kid_shown, length, marked, slots_of, true, ℕ};
+ghost use Rattle.std.specs.Prelude.{◌≤◌, ◌↔◌, ◌≡◌};
 
 use crate::Stack;
 use crate::spreading::spread;
 use crate::turning::{StoredPlace, note_all, sort};
 use fr_frame::Slots;
-use fr_plan::TypePlanCore;
 
 /// The numbers of the slots of stored places in the order of the walk: the longest path first, then
 /// step by step. They are written where there is room for one each. Takes no memory, in time that
@@ -17,9 +16,8 @@ pub(crate) fn order_walk(
     order: &mut Vec<u32>,
     slots: &Slots,
     stack: &Stack,
-    plan: &TypePlanCore,
 )
-    requires is_open { IsOpen plan.now slots.now stack.now }
+    requires is_open { IsOpened slots.now stack.now }
     requires kept { (n : ℕ) → (marked (heap_of slots.now) n ≡ true)
         ↔ Contains (slots_of places.old) n }
     requires once { AreOnce (slots_of places.old) }
@@ -29,7 +27,7 @@ pub(crate) fn order_walk(
     let count = places.len();
     note_all(slots, places);
     sort(places);
-    spread(places, slots, stack, plan, order);
+    spread(places, slots, stack, order);
     order.truncate(count);
     order.reverse();
 }

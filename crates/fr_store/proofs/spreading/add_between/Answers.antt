@@ -46,8 +46,7 @@ none_left c =
 pub returns-then-key-to-clause-count : goal.returns-then-key-to-clause-count
 returns-then-key-to-clause-count c =
     let none = none_left c in
-    let counted = c.loop-place.invariant.counted in
-    omega (arith, ap (λ (l : List ℕ). length l) none)
+    omega (arith, c.loop-place.invariant.counted, ap (λ (l : List ℕ). length l) none)
 
 pub returns-then-key-to-clause-added : goal.returns-then-key-to-clause-added
 returns-then-key-to-clause-added c =
@@ -92,8 +91,7 @@ loop-place-preserved c =
     let later : List ℕ = slots_between c.args.from c.args.to (drop (c.loop-place.place-index + 1) rest) in
     record {
       counted =
-          let more = ap (λ (l : List ℕ). length l) (now_one c) in
-          omega (arith, c.loop-place.invariant.counted);
+          omega (arith, ap (λ (l : List ℕ). length l) (now_one c), c.loop-place.invariant.counted);
       added =
           ap (λ (l : List ℕ). l ++ later) (take_more_set c.loop-place.order c.loop-place.count n (room c))
           ∙ append_assoc (take c.loop-place.count c.loop-place.order) (n ∷ []) later

@@ -1,8 +1,8 @@
 use Rattle.std.proofs.Common.{rules, ◌≡◌, ◌≢◌, ◌⊎◌, ◌+◌, ◌*◌, ◌<◌, ◌∙◌, Fits, w32, ℕ, List, ap, get_or, inl, inr, length, sym, arith}
 use Rattle.std.specs.Int.{w128}
-use Rattle.std.proofs.lemmas.List.{length-map}
+use Rattle.std.proofs.lemmas.List.{get_or-map, length-map}
 use Rattle.fr_store.specs.Numbers.{number_of}
-use Rattle.fr_store.proofs.SpreadSteps.{number_read, open_owned, open_room, open_step, spread_ends, spread_starts, stored_room, stored_step, stored_within}
+use Rattle.fr_store.proofs.SpreadSteps.{open_owned, open_room, open_step, spread_ends, spread_starts, stored_room, stored_step, stored_within}
 use Rattle.fr_store.proofs.spreading.spread.Goals as goal
 use Rattle.fr_store.proofs.spreading.spread.Goals.{then-opened-on_stack, else-opened-on_stack+then-head-count, else-opened-on_stack-2-via-then-opened-on_stack-2+else-head-at, else-opened-on_stack-2-via-else-opened-on_stack-2, Joined-else-opened-on_stack-2, After-row_known-1}
 
@@ -11,8 +11,7 @@ fits_key n fits = record { fits = let small = fits.fits in omega arith }
 
 pub loop-opened-init : goal.loop-opened-init
 loop-opened-init c =
-    spread_starts c.args.plan.now c.args.slots.now c.args.stack.now c.requires.is_open c.args.places.now c.requires.stored
-    c.requires.sorted c.args.order.now c.requires.room
+    spread_starts c.requires.is_open c.requires.stored c.requires.sorted c.args.order.now c.requires.room
 
 -- A stored place.
 
@@ -61,9 +60,7 @@ overflow_add-head c =
 
 pub loop-opened-smaller : goal.loop-opened-smaller
 loop-opened-smaller c =
-    let inside = less (goal.at.loop-opened-smaller c).Joined-else-opened-on_stack-2 in
-    let room = c.loop-opened.invariant.room in
-    omega arith
+    omega (arith, less (goal.at.loop-opened-smaller c).Joined-else-opened-on_stack-2, c.loop-opened.invariant.room)
 
 pub loop-opened-preserved : goal.loop-opened-preserved
 loop-opened-preserved c =
@@ -87,16 +84,14 @@ key_at-middle-requires c = record {
 read_then : (c : After-row_known-1)
     → (get_or c.places-on_stack.result.now c.loop-opened.opened (record { 0 = 0 })).0 ≡ get_or c.args.stack.now c.loop-opened.opened 0
 read_then c =
-    number_read c.places-on_stack.result.now c.loop-opened.opened 0 (record { 0 = 0 }) c.if-opened-on_stack-2.true
+    sym (get_or-map number_of c.places-on_stack.result.now c.loop-opened.opened (record { 0 = 0 }) 0 c.if-opened-on_stack-2.true)
     ∙ ap (λ (l : List ℕ). get_or l c.loop-opened.opened 0) c.places-on_stack.ensures.places
 
 pub add_between-at-requires-clause-room : goal.add_between-at-requires-clause-room
 add_between-at-requires-clause-room c =
     let before = (goal.at.add_between-at-requires-clause-room c).After-row_known-1 in
     let room = open_room c.loop-opened.invariant c.places-on_stack.result.now c.places-on_stack.ensures.places
-    c.if-opened-on_stack-2.true c.if-head-at.true
-    (get_or c.places-on_stack.result.now c.loop-opened.opened (record { 0 = 0 })).0 c.key_at-middle.result (read_then before)
-    c.key_at-middle.ensures.key c.key_at-middle.ensures.none in
+    c.if-opened-on_stack-2.true c.if-head-at.true (read_then before) c.key_at-middle.ensures.key c.key_at-middle.ensures.none in
     omega (arith, c.loop-opened.invariant.long)
 
 pub overflow_add-from-then-head-at : goal.overflow_add-from-then-head-at
@@ -107,19 +102,15 @@ pub add_between-count-requires-clause-room : goal.add_between-count-requires-cla
 add_between-count-requires-clause-room c =
     let before = (goal.at.add_between-count-requires-clause-room c).After-row_known-1 in
     let room = open_room c.loop-opened.invariant c.places-on_stack.result.now c.places-on_stack.ensures.places
-    c.if-opened-on_stack-2.true c.if-head-at.true
-    (get_or c.places-on_stack.result.now c.loop-opened.opened (record { 0 = 0 })).0 c.key_at-middle.result (read_then before)
-    c.key_at-middle.ensures.key c.key_at-middle.ensures.none in
+    c.if-opened-on_stack-2.true c.if-head-at.true (read_then before) c.key_at-middle.ensures.key c.key_at-middle.ensures.none in
     omega (arith, c.loop-opened.invariant.long, c.add_between-at.ensures.count, c.add_between-at.ensures.long)
 
 pub loop-opened-preserved-then-head-at : goal.loop-opened-preserved-then-head-at
 loop-opened-preserved-then-head-at c =
     let before = (goal.at.loop-opened-preserved-then-head-at c).After-row_known-1 in
     open_step c.loop-opened.invariant c.places-on_stack.result.now c.places-on_stack.ensures.places
-    c.if-opened-on_stack-2.true c.if-head-at.true
-    (get_or c.places-on_stack.result.now c.loop-opened.opened (record { 0 = 0 })).0 c.key_at-middle.result (read_then before)
-    c.key_at-middle.ensures.key c.key_at-middle.ensures.none c.add_between-at.new.order c.add_between-count.new.order
-    c.add_between-at.result c.add_between-count.result c.add_between-at.ensures.count c.add_between-at.ensures.added
+    c.if-opened-on_stack-2.true c.if-head-at.true (read_then before) c.key_at-middle.ensures.key c.key_at-middle.ensures.none
+    c.add_between-at.new.order c.add_between-count.new.order c.add_between-at.ensures.count c.add_between-at.ensures.added
     c.add_between-count.ensures.count c.add_between-count.ensures.added
     (c.add_between-count.ensures.long ∙ c.add_between-at.ensures.long)
 

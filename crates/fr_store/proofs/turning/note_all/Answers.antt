@@ -8,7 +8,8 @@ pub noted-requires : goal.noted-requires
 noted-requires c = record {
   owned =
       subst (λ (n : ℕ). IfInUse c.args.slots.now n (λ (at : Node). HasOwner at.owner))
-      (sym (slot_read c.loop-i.places c.args.places.now c.loop-i.i _ c.loop-i.invariant.slots))
+      (sym (slot_read c.loop-i.places c.args.places.now c.loop-i.i _
+      (omega (arith, c.loop-i.auto.places, c.loop-i-test.true)) c.loop-i.invariant.slots))
       (c.requires.owned c.loop-i.i (record { slot = record { 0 = 0 }; parent = 0; number = 0; order = 0 }) c.loop-i-test.true);
 }
 

@@ -9,18 +9,14 @@ use Rattle.fr_store.proofs.walking.order_walk.Goals as goal
 
 pub note_all-requires : goal.note_all-requires
 note_all-requires c = record {
-  owned = λ i d h. stored_owned c.args.plan.now (heap_of c.args.slots.now) c.args.stack.now
-      (cursor_shown (heap_of c.args.slots.now) c.args.stack.now) (kid_shown (heap_of c.args.slots.now) c.args.stack.now)
-      c.requires.is_open.stands c.requires.is_open.all (get_or c.args.places.now i d).slot.0
+  owned = λ i d h. stored_owned c.requires.is_open.is_open.stands c.requires.is_open.is_open.all (get_or c.args.places.now i d).slot.0
       ((c.requires.kept (get_or c.args.places.now i d).slot.0).1
       (in_map slot_of c.args.places.now (get_or c.args.places.now i d) (Contains-get_or c.args.places.now i d h)));
 }
 
 pub spread-requires-clause-stored : goal.spread-requires-clause-stored
 spread-requires-clause-stored c =
-    are_all_stored c.args.plan.now (heap_of c.args.slots.now) c.args.stack.now
-    (cursor_shown (heap_of c.args.slots.now) c.args.stack.now) (kid_shown (heap_of c.args.slots.now) c.args.stack.now)
-    c.requires.is_open.stands c.requires.is_open.all c.args.places.now c.note_all.new.places c.sort.new.places
+    are_all_stored c.requires.is_open.is_open.stands c.requires.is_open.is_open.all c.args.places.now c.note_all.new.places c.sort.new.places
     c.note_all.ensures.slots c.requires.kept c.requires.once c.note_all.ensures.noted c.note_all.ensures.narrow
     c.sort.ensures.same
 
@@ -36,8 +32,7 @@ returns c =
     record {
       walk =
           subst (IsWalk k) (sym (c.reverse.ensures.items ∙ ap (λ (l : List ℕ). reverse l) items))
-          (walk_of c.args.plan.now (heap_of c.args.slots.now) c.args.plan.now.root FrameOwner.Root 0 k
-          c.requires.is_open.stands.holds c.requires.is_open.stands.left
-          (inl (cursor_shown (heap_of c.args.slots.now) c.args.stack.now, c.requires.is_open.stands.leads))
-          (take (length c.args.places.now) c.spread.new.order) spread);
+          (walk_of c.requires.is_open.plan (heap_of c.args.slots.now)
+          c.requires.is_open.plan.root FrameOwner.Root 0 c.requires.is_open.is_open.stands.holds c.requires.is_open.is_open.stands.left
+          (inl (cursor_shown (heap_of c.args.slots.now) c.args.stack.now, c.requires.is_open.is_open.stands.leads)) spread);
     }

@@ -1,6 +1,6 @@
 use Rattle.std.proofs.Common.{drop}
 use Rattle.fr_store.specs.Common.{Conserved, Walked, slots_occur}
-use Rattle.fr_store.proofs.finishing.take_turns.Given as goal
+use Rattle.fr_store.proofs.finishing.complete_in_order.Given as goal
 
 abbrev pub invariant-loop-place : goal.invariant-loop-place
 invariant-loop-place g l = record {

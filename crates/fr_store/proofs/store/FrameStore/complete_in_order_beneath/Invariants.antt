@@ -1,7 +1,7 @@
 use Rattle.std.proofs.Common.{drop}
 use Rattle.fr_store.specs.Common.{Conserved, IsKept, slots_occur}
 use Rattle.fr_store.proofs.BeneathTurns.{WalkedBeneath}
-use Rattle.fr_store.proofs.store.FrameStore.take_turns_beneath.Given as goal
+use Rattle.fr_store.proofs.store.FrameStore.complete_in_order_beneath.Given as goal
 
 abbrev pub invariant-loop-place : goal.invariant-loop-place
 invariant-loop-place g l = record {
