@@ -107,13 +107,13 @@ module _ {plan : Plan} {slots : List Slot} {stack : List ℕ} (shown : IsOpen pl
       pub never_free : None ≡ option_map outlined (heap_of slots parent.0) → ⊥
       never_free none = let no : None ≡ Some above.node = sym (no_outline (heap_of slots parent.0) none) ∙ parent_found in cc
 
-      -- what that place tells, by its outline and by the form in which it is begun
+      -- what that place tells, by its outline and by the tracker with which it is begun
       pub told : (tells : Tree → Bool) → ((body : Body) → tells (own_tree (outline body)) ≡ tells (own_tree body))
           → ((tracker : Tracker) (ts us : Trees) → tells (begun tracker ts) ≡ tells (begun tracker us)) → (found : Entry)
           → Tells slots parent.0 found
-          → tells (own_tree (body_of found.piece)) ≡ tells (tree_at (up (cursor_in slots stack)) (tree_in_slots slots stack))
+          → tells (own_tree (body_of found.partial)) ≡ tells (tree_at (up (cursor_in slots stack)) (tree_in_slots slots stack))
       told tells outlined_so formed found is_told =
-          sym (outlined_so (body_of found.piece)) ∙ ap (λ (x : Node). tells (own_tree x.body))
+          sym (outlined_so (body_of found.partial)) ∙ ap (λ (x : Node). tells (own_tree x.body))
           (found_outline (node_of found) (heap_of slots parent.0) above.node is_told parent_found) ∙ outlined_so above.node.body
           ∙ ap (λ (b : Body). tells (own_tree b)) above.body ∙ formed above.tracker (trees_of above.cells) above.trees
           ∙ sym (ap tells above.stands)

@@ -29,7 +29,7 @@ takes (begun_body tracker cells) h = go (boxes tracker || gathers tracker) refl
     go true e = rw e refl
     go false e = rw e (has_hole cells h)
 
--- What becomes of a place that keeps its form.
+-- What becomes of a place that keeps its tracker.
 
 -- where it took no memory to complete it, it takes none now
 pub unboxed : (rules : Rules) (was now : Body) → KeepsTracker was now → needs_none_by rules (own_tree was) ≡ true
@@ -52,7 +52,7 @@ many_may (as_items ItemsKind.Slice) count h = cc
 many_may (as_items ItemsKind.ClosedSlice) count h = cc
 many_may _ count h = tt
 
--- so it is of one that keeps its form
+-- so it is of one that keeps its tracker
 pub keeps_may : (was now : Body) → KeepsTracker was now → MayHaveIts was → MayHaveIts now
 keeps_may entered_body (begun_body tracker cells) keeps may = many_may tracker (length cells) keeps
 keeps_may entered_body _ keeps may = tt

@@ -38,7 +38,7 @@ has_default table s tree i v e = by_name (named_refusal (def_of table s) tree) r
 enterable : (def : Def) (tree : Tree) (i : ℕ) (field : Field) (chosen : Option ℕ) → selected tree ≡ chosen
     → field_in def chosen i ≡ Some field → field_refusal def tree i ≡ None
 enterable (Def.Struct struct) tree i field None is at =
-    let test : nat_lt i (length struct.fields) ≡ true = lt-ltb i (length struct.fields) (is_there struct.fields i field at) in
+    let test : nat_lt i (length struct.fields) ≡ true = lt-ltb i (length struct.fields) (is_there struct.fields i at) in
     rw test refl
 enterable (Def.Struct struct) tree i field (Some k) is at = cc
 enterable (Def.Enum enumeration) tree i field None is at = cc
@@ -48,7 +48,7 @@ enterable (Def.Enum enumeration) tree i field (Some k) is at = go (slice_get enu
         → field_refusal (Def.Enum enumeration) tree i ≡ None
     go (Some variant) there at =
         let test : nat_lt i (length variant.fields) ≡ true
-        = lt-ltb i (length variant.fields) (is_there variant.fields i field at) in
+        = lt-ltb i (length variant.fields) (is_there variant.fields i at) in
         rw (is, there, test) refl
     go None there at = cc
 enterable _ tree i field chosen is at = cc

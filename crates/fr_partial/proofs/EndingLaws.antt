@@ -6,7 +6,7 @@ use Rattle.fr_frame.specs.Changes.{IfInUse, IsInUse}
 use Rattle.fr_frame.specs.Completing.{FillsAt, MayComplete, WhyNot as WhyNotAt}
 use Rattle.fr_frame.specs.Heap.{slots_occur, stored_in, with_body, with_slot}
 use Rattle.fr_store.specs.HereLaws.{body_back, closed_plot, tree_back, value_closed}
-use Rattle.fr_store.specs.MoveLaws.{closed_open, same_last, so_top, top_changed_held, top_node, top_so, top_tokens}
+use Rattle.fr_store.specs.MoveLaws.{closed_open, same_last, so_top, top_changed, top_node, top_so, top_tokens}
 use Rattle.fr_store.specs.Moves.{node_here as node_on_top}
 use Rattle.fr_store.specs.TopLaws.{closed_tree, held_may_have, keeps_closed, loses_none, marked_body, slot_here}
 use Rattle.fr_store.specs.TurnedLaws.{may_complete as node_may_complete, shape_along}
@@ -41,7 +41,7 @@ on_top slots {stack} {n} last So so m other =
 pub record IsTop (plan : Plan) (frames : Frames) (n : ℕ) : Type 0 where
   pub at_work : IsAtWork plan frames
   pub last : IsLast frames.stack n
-  pub shut : IsClosed (body_in (open_top plan frames.slots frames.stack at_work.ready.shown).plot)
+  pub shut : IsClosed (body_in (open_top at_work.ready.shown).plot)
   pub along : Along frames.table.now plan (node_on_top plan frames.slots frames.stack) (top_shape frames) (top_tree frames)
 
 -- so it is in strict mode
@@ -51,7 +51,7 @@ strict_top agree paths {plan} {frames} {n} at_work mode last = record {
   at_work = at_work;
   last = last;
   shut =
-      closed_open plan frames.slots frames.stack at_work.ready.shown
+      closed_open at_work.ready.shown
       (strict_stores (mode_of frames.mode) frames.store frames.slots mode at_work.stores at_work.kept);
   along = here_along agree paths frames.table.now frames.root plan frames.slots frames.stack at_work.ready;
 }
@@ -70,11 +70,11 @@ module _ {plan : Plan} {frames : Frames} {n : ℕ} (top : IsTop plan frames n) w
   -- what was put there is what stands there, and its node has the shape of the place
   pub own_is : own_tree here.body ≡ top_tree frames
   own_is =
-      sym (closed_tree (open_top plan frames.slots frames.stack top.at_work.ready.shown).plot top.shut)
+      sym (closed_tree (open_top top.at_work.ready.shown).plot top.shut)
       ∙ plot_here plan frames.slots frames.stack top.at_work.ready.shown
 
   pub shape_is : shape_of plan here.node ≡ top_shape frames
-  shape_is = shape_along frames.table.now plan here.node (top_shape frames) (top_tree frames) top.along
+  shape_is = shape_along top.along
 
   -- the slot is in use, and the place may be completed
   pub in_use : IsInUse frames.slots n
@@ -83,7 +83,7 @@ module _ {plan : Plan} {frames : Frames} {n : ℕ} (top : IsTop plan frames n) w
   pub may_complete : IfInUse frames.slots n (MayComplete frames.table.now plan)
   may_complete =
       subst (λ (node : Option Node). IsSomeAnd node (MayComplete frames.table.now plan)) (sym found)
-      (node_may_complete frames.table.now plan (top_shape frames) here (top_tree frames) top.along own_is top.shut)
+      (node_may_complete here top.along own_is top.shut)
 
   -- why it makes no value
   pub why_here : (means : Meanings) (kind : ReflectErrorKind)
@@ -124,16 +124,15 @@ module _ {plan : Plan} {frames : Frames} {n : ℕ} (top : IsTop plan frames n) w
     stands : IsOpenAt plan after frames.stack (top_place frames)
         (change_at (top_place frames) (λ old. own_tree fills.body) (whole_tree frames))
     stands =
-        let above = open_top plan frames.slots frames.stack top.at_work.ready.shown in
+        let above = open_top top.at_work.ready.shown in
         let new : Plot = closed_plot fills.body in
-        let closed : IsClosed fills.body = value_closed fills.body fills.filled.value fills.filled.held in
+        let closed : IsClosed fills.body = value_closed fills.body fills.filled.held in
         let is : body_in new ≡ fills.body = body_back fills.body closed in
         let may : MayHaveIts fills.body = keeps_may here.body fills.body keeps
         (held_may_have plan (heap_of frames.slots) _ above.slot _ above.plot above.children) in
-        subst (λ (t : Tree). IsOpenAt plan after frames.stack (top_place frames)
-        (change_at (top_place frames) (λ old. t) (whole_tree frames))) (tree_back fills.body)
-        (top_changed_held plan frames.slots after frames.stack top.at_work.ready.shown n top.last (λ old. fills.body) new is
-        (keeps_closed above.plot new (subst MayHaveIts (sym is) may) (subst IsClosed (sym is) closed)
+        subst (λ (t : Tree). IsOpenAt plan after frames.stack (top_place frames) (change_at (top_place frames)
+        (λ old. t) (whole_tree frames))) (tree_back fills.body) (top_changed after top.at_work.ready.shown top.last
+        (λ old. fills.body) is (keeps_closed above.plot new (subst MayHaveIts (sym is) may) (subst IsClosed (sym is) closed)
         (held_left above.plot fills.body fills.filled.value keeps fills.filled.held)) (loses_none above.plot new top.shut) shows)
 
     -- it holds its value then
@@ -153,28 +152,27 @@ module _ {plan : Plan} {frames : Frames} {n : ℕ} (top : IsTop plan frames n) w
 -- The value of the root is held on top.
 module _ {plan : Plan} (frames : Frames) (shown : IsOpen plan frames.slots frames.stack) (at_root : top_place frames ≡ [])
     (held : AtTop frames.slots frames.stack (λ at. IsSome (value_of at.body))) (n : ℕ) (last : IsLast frames.stack n) where
-  root_so : (So : Node → Type 0) → IfInUse frames.slots n So → So (top_node plan frames.slots frames.stack shown n last)
-  root_so So so = top_so plan frames.slots frames.stack shown n last So so
+  root_so : (So : Node → Type 0) → IfInUse frames.slots n So → So (top_node shown last)
+  root_so So so = top_so shown last So so
 
   -- it holds all that is held
-  all_there : (t : ℕ) → body_occurs (top_node plan frames.slots frames.stack shown n last).body t ≡ held_in frames t
+  all_there : (t : ℕ) → body_occurs (top_node shown last).body t ≡ held_in frames t
   all_there t =
-      let body = (open_top plan frames.slots frames.stack shown).plot in
-      top_tokens plan frames.slots frames.stack shown n last (go (value_of (body_in body)) refl
-      (top_body plan frames.slots frames.stack shown (λ (b : Body). IsSome (value_of b)) held)) t
-      ∙ ap (λ (p : Place). tree_occurs (tree_at p (whole_tree frames)) t) at_root
-      ∙ sym (slots_tokens plan frames.slots frames.stack shown t)
+      let body = (open_top shown).plot in
+      top_tokens shown last
+      (go (value_of (body_in body)) refl (top_body plan frames.slots frames.stack shown (λ (b : Body). IsSome (value_of b)) held))
+      t ∙ ap (λ (p : Place). tree_occurs (tree_at p (whole_tree frames)) t) at_root ∙ sym (slots_tokens shown t)
     where
-      go : (value : Option Val) → value_of (body_in (open_top plan frames.slots frames.stack shown).plot) ≡ value → IsSome value
-          → IsClosed (body_in (open_top plan frames.slots frames.stack shown).plot)
-      go (Some v) is some = value_closed _ v is
+      go : (value : Option Val) → value_of (body_in (open_top shown).plot) ≡ value → IsSome value
+          → IsClosed (body_in (open_top shown).plot)
+      go (Some v) is some = value_closed _ is
       go None is some = cc
 
   -- so there is room for it
   pub room_there : (ledger : List ℕ) → Room (held_in frames) ledger
       → IfInUse frames.slots n (λ (at : Node). Room (body_occurs at.body) ledger)
   room_there ledger room =
-      so_top plan frames.slots frames.stack shown n last (λ (at : Node). Room (body_occurs at.body) ledger)
+      so_top shown last (λ (at : Node). Room (body_occurs at.body) ledger)
       (Room_same (held_in frames) _ ledger (λ t. sym (all_there t)) room)
 
   -- and what released it released all

@@ -6,7 +6,7 @@ use Rattle.fr_shape.specs.Val.{product}
 use Rattle.fr_frame.specs.Heap.{entered_node, with_entered, depth_limit, stored_in}
 use Rattle.fr_frame.specs.Kids.{AreLeftIn}
 use Rattle.fr_store.specs.EnterLaws.{fresh_closed, fresh_plot, fresh_same, fresh_tree}
-use Rattle.fr_store.specs.MoveLaws.{open_at_held}
+use Rattle.fr_store.specs.MoveLaws.{open_at_from}
 use Rattle.fr_store.specs.TopLaws.{free_unused, slot_here, slot_other, closed_uses, closed_holds, closed_marked}
 use Rattle.fr_store.specs.Ways.{counts_if}
 use Rattle.fr_store.specs.WayLaws.{counts_same, same_or_other}
@@ -47,7 +47,7 @@ module _ (plan : Plan) (def : Def) (before after : List Slot) (n : ℕ) (free : 
   pub first_open : 0 < depth_limit → {stack : List ℕ} → stack ≡ n ∷ [] → IsOpenAt plan after stack [] (fresh def)
   first_open limit {stack} alone =
       let plot : Plot = fresh_plot def in
-      open_at_held plan after stack [] (at n false plot) (fresh def)
+      open_at_from {plan = plan} after {stack = stack} {place = []} {k = at n false plot} {tree = fresh def}
       (record {
         holds = (
           shows n ∙ slot_here (heap_of before) n (Some (entered_node def (heap_of before) plan.root FrameOwner.Root)) ∙ ap

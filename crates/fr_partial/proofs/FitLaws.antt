@@ -21,7 +21,7 @@ pub fits_in : (table : Table) (id : ℕ) (v : Val) → fits table id v ≡ true 
 fits_in table id v h = go (slice_get table id) refl
   where
     go : (found : Option Shape) → slice_get table id ≡ found → IsIn table id
-    go (Some shape) e = is_there table id shape e
+    go (Some shape) e = is_there table id e
     go None e =
         let no : false ≡ true = sym (none_fits table id v (settled_none table id e)) ∙ h in
         cc

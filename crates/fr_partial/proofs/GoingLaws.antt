@@ -162,7 +162,7 @@ module _ {plan : Plan} {frames : Frames} {met way : Way} (goes : Goes plan frame
 
     -- it is one of the plan's
     pub is_planned : node.0 < length plan.nodes
-    is_planned = is_there plan.nodes node.0 shaped.found shaped.there
+    is_planned = is_there plan.nodes node.0 shaped.there
 
     -- the place has become what the way means
     pub went : {after : Frames} → Became plan (top_place frames ++ number_on (onward way (top_tree frames)) (top_tree frames) ∷ [])
@@ -205,7 +205,7 @@ module _ {plan : Plan} {frames : Frames} {met : Way} {key : Bor (List ℕ)} (goe
 
 -- a field or an element: the place may be begun for it, and has it then
 module _ {plan : Plan} {frames : Frames} {met : Way} {i : ℕ} {opening : Opening} (goes : Goes plan frames met (Way.Child i opening)) where
-  -- so it is of the form
+  -- so it is of the tracker
   pub of_opening : (So : Tracker → Type 0) → So (as_fields None) → So as_elements → ((k : ℕ) → So (as_fields (Some k))) → So (as_tracker opening.tracker)
   of_opening So of_struct of_array of_variant =
       of_fields So of_struct of_array of_variant (def_of frames.table.now (top_shape frames)) (top_tree frames)

@@ -1,6 +1,6 @@
 -- Handing over the value that the place on top holds: whether it may be, what comes of it, and the path and the state then.
 use Rattle.std.proofs.Common.{◌≡◌, ℕ, Bool, true, false, List, [], ◌∷◌, ◌++◌, Result, Ok, Err, OnOk, Some, None, Option, IsErr, IsSome, IsOk, inl, inr, refl, sym, ◌∙◌, ap, subst}
-use Rattle.fr_partial.specs.Common.{AreOpen, AtTop, Became, Body, Frames, HoldsItsValue, IsOpenAt, IsServed, IsSomeAnd, MayReceive, Meanings, Node, PathStep, Place, Plan, ReflectErrorKind, Rules, SameMarks, Slot, State, Table, Tree, Val, body_in, change_at, complete, cursor_tree, heap_of, is_root, is_set, is_some, needs_none_by, one_more_call, open_top, path_of, strict_column, takes_memory, takes_no_memory, top_place, top_shape, top_tree, tree_at, up, value_of, whole, whole_tree}
+use Rattle.fr_partial.specs.Common.{AreOpen, AtTop, Became, Body, Frames, HoldsItsValue, IsOpen, IsOpenAt, IsServed, IsSomeAnd, MayReceive, Meanings, Node, PathStep, Place, Plan, ReflectErrorKind, Rules, SameMarks, Slot, State, Table, Tree, Val, body_in, change_at, complete, cursor_tree, heap_of, is_root, is_set, is_some, needs_none_by, one_more_call, open_top, path_of, strict_column, takes_memory, takes_no_memory, top_place, top_shape, top_tree, tree_at, up, value_of, whole, whole_tree}
 use Rattle.fr_model.specs.Collections.{number_in, with_ended_item}
 use Rattle.fr_model.specs.PathLaws.{ChangingKeepsThePath, LeadAbove, LeavingDropsAStep, PathIsAsDeep}
 use Rattle.fr_model.specs.Paths.{steps_in}
@@ -21,14 +21,14 @@ some_then (Some a) then holds = then a holds
 some_then None then holds = holds
 
 -- a value was handed over, by slots in which the same places are stored
-pub handed_over : {A E : Type 0} (result : Result A E) (taker : Taker) {plan : Plan} {frames : Frames} (slots : List Slot)
-    (stack : List ℕ) → AreOpen plan frames → SameMarks frames.slots slots
-    → OnOk result (AtTop frames.slots frames.stack (λ at. (v : Val) → value_of at.body ≡ Some v
+pub handed_over : {A E : Type 0} (result : Result A E) (taker : Taker) (frames : Frames) (slots : List Slot) (stack : List ℕ)
+    → SameMarks frames.slots slots → OnOk result ((plan : Plan) → IsOpen plan frames.slots frames.stack → AtTop frames.slots frames.stack (λ at. (v : Val) → value_of at.body ≡ Some v
     → IsOpenAt plan slots stack (place_then taker (top_place frames)) (tree_then taker (top_place frames) v (whole_tree frames))))
-    → OnOk result (IsHandedOver taker plan frames (record frames { slots = slots; stack = stack }))
-handed_over (Err e) taker slots stack shown marks over = over
-handed_over (Ok done) taker {plan} {frames} slots stack shown marks over =
-    λ n last. some_then (heap_of frames.slots n) (λ (at : Node) ended v held. became_marked shown marks (ended v held)) (over n last)
+    → OnOk result ((plan : Plan) → AreOpen plan frames → IsHandedOver taker plan frames (record frames { slots = slots; stack = stack }))
+handed_over (Err e) taker frames slots stack marks over = over
+handed_over (Ok done) taker frames slots stack marks over = λ plan open_now n last.
+    some_then (heap_of frames.slots n) (λ (at : Node) ended v held. became_marked open_now marks (ended v held))
+    (over plan open_now.shown n last)
 
 -- what stood there before doesn't matter
 handed_twice : (taker : Taker) (now : Tree) (v : Val) (frames : Frames) → MayReceive taker frames
@@ -55,7 +55,7 @@ module _ {rules : Rules} {means : Meanings} {plan : Plan} {before between : Fram
   may_receive Taker.Itself may = tt
 
   at_top : (So : Body → Type 0) → AtTop between.slots between.stack (λ at. So at.body)
-      → So (body_in (open_top plan between.slots between.stack holds.changed.stands.open_still).plot)
+      → So (body_in (open_top holds.changed.stands.open_still).plot)
   at_top So so = top_body plan between.slots between.stack holds.changed.stands.open_still So so
 
   -- what is said of each value that is held on top is said of this one

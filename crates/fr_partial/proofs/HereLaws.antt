@@ -18,23 +18,22 @@ may_plot def tracker count _ may = tt
 
 -- the body on top, of which this holds
 pub top_body : (plan : Plan) (slots : List Slot) (stack : List ℕ) (shown : IsOpen plan slots stack) (So : Body → Type 0)
-    → AtTop slots stack (λ (at : Node). So at.body) → So (body_in (open_top plan slots stack shown).plot)
+    → AtTop slots stack (λ (at : Node). So at.body) → So (body_in (open_top shown).plot)
 top_body plan slots stack shown So so =
-    let top = open_top plan slots stack shown in
+    let top = open_top shown in
     subst (λ (found : Option Node). IsSomeAnd found (λ (at : Node). So at.body)) top.here (so top.slot (_, top.last))
 
 module _ {plan : Plan} {slots : List Slot} {stack : List ℕ} (shown : IsOpen plan slots stack) where
   -- what holds of each plot holds of what stands there
   pub by_plot : (So : Tree → Type 0) → ((plot : Plot) → So (tree_in plot)) → So (tree_here slots stack)
-  by_plot So each = subst So (plot_here plan slots stack shown) (each (open_top plan slots stack shown).plot)
+  by_plot So each = subst So (plot_here plan slots stack shown) (each (open_top shown).plot)
 
   -- where this holds of what stands there, so it is of the body on top
   pub body_here : (So : Tree → Type 0) (Of : Body → Type 0) → ((plot : Plot) → So (tree_in plot) → Of (body_in plot))
       → So (tree_here slots stack) → AtTop slots stack (λ (at : Node). Of at.body)
   body_here So Of each so n last =
-      subst (λ (found : Option Node). IsSomeAnd found (λ (at : Node). Of at.body))
-      (sym (here_found plan slots stack shown n last))
-      (each (open_top plan slots stack shown).plot (subst So (sym (plot_here plan slots stack shown)) so))
+      subst (λ (found : Option Node). IsSomeAnd found (λ (at : Node). Of at.body)) (sym (here_found plan slots stack shown n
+      last)) (each (open_top shown).plot (subst So (sym (plot_here plan slots stack shown)) so))
 
   pub may_open_with : (tracker : Tracker) → IsWholeWith tracker (tree_here slots stack) → AtTop slots stack (λ (at : Node). MayOpen tracker at.body)
   may_open_with tracker = body_here (IsWholeWith tracker) (MayOpen tracker) (parts_plot tracker)
@@ -44,8 +43,8 @@ module _ {plan : Plan} {slots : List Slot} {stack : List ℕ} (shown : IsOpen pl
   may_open_here def tracker count = body_here (MayOpenAs def tracker count) (MayOpen tracker) (may_plot def tracker count)
 
   module _ (v : Val) (is : tree_here slots stack ≡ whole v) where
-    whole_top : (open_top plan slots stack shown).plot ≡ whole_plot v
-    whole_top = value_plot (open_top plan slots stack shown).plot v (plot_here plan slots stack shown ∙ is)
+    whole_top : (open_top shown).plot ≡ whole_plot v
+    whole_top = value_plot (open_top shown).plot v (plot_here plan slots stack shown ∙ is)
 
     -- so it is of that value
     pub of_value : (So : Val → Type 0) → AtTop slots stack (λ (at : Node). (w : Val) → value_of at.body ≡ Some w → So w) → So v

@@ -41,8 +41,8 @@ module _ {plan : Plan} {before after : List Slot} {stack next : List ℕ} (shown
   kept_changed brought brings = record {
     same_length = rose.same_length;
     kept_or_released = λ t.
-        let was : slots_occur before t ≡ tree_occurs (tree_in_slots before stack) t = slots_tokens plan before stack shown t in
-        let is : slots_occur after t ≡ tree_occurs (tree_in_slots after next) t = slots_tokens plan after next then.open_still t in
+        let was : slots_occur before t ≡ tree_occurs (tree_in_slots before stack) t = slots_tokens shown t in
+        let is : slots_occur after t ≡ tree_occurs (tree_in_slots after next) t = slots_tokens then.open_still t in
         let built : tree_occurs (tree_in_slots after next) t ≡ tree_occurs (changed_here change before stack) t
         = ap (λ (tree : Tree). tree_occurs tree t) then.built in
         let moved = changed_occur (deferred 0) (cursor_in before stack) change (tree_in_slots before stack) t
@@ -63,7 +63,7 @@ pub room_here : (plan : Plan) (slots : List Slot) (stack ledger : List ℕ) → 
     → Room (slots_occur slots) ledger → Room (tokens_here slots stack) ledger
 room_here plan slots stack ledger shown room =
     Room_fewer (tokens_here slots stack) (slots_occur slots) ledger (λ t.
-    let was : slots_occur slots t ≡ tree_occurs (tree_in_slots slots stack) t = slots_tokens plan slots stack shown t in
+    let was : slots_occur slots t ≡ tree_occurs (tree_in_slots slots stack) t = slots_tokens shown t in
     let moved = changed_occur (deferred 0) (cursor_in slots stack) (λ old. hole) (tree_in_slots slots stack) t
     (tree_leads 0 (cursor_in slots stack) (kid_shown (heap_of slots) stack) shown.stands.leads) in
     omega (arith, was, moved)) room

@@ -13,7 +13,7 @@ use Rattle.fr_partial.specs.Beginnings.{kept_by, MayBegin}
 use Rattle.fr_partial.proofs.BelowLaws.{of_content}
 use Rattle.fr_partial.proofs.TrackerLaws.{IsFullTree}
 
--- Around one child a number is one form.
+-- Around one child a number is one tracker.
 
 content_numbered : (kind : ContentKind) (base : ℕ) (keys : List (List ℕ)) → tracker_numbered (tracker_number (as_content kind)) base keys ≡ as_content kind
 content_numbered ContentKind.Some base keys = refl

@@ -17,7 +17,7 @@ all_given tracker i [] vs m many past e =
     let same : m ≡ i = omega (arith, many) in
     subst (λ (n : ℕ). base_of_tracker tracker ≤ entry_of n) same past
 all_given tracker i (given v ∷ cells) vs m many past e =
-    let rest = more_is v (values_of cells) vs e in
+    let rest = more_is v (values_of cells) e in
     (left_value tracker i v, tt, all_given tracker (suc i) cells rest.0 m (omega (arith, many)) past rest.1)
 all_given tracker i _ vs m many past e = absurd (cc)
 
@@ -28,10 +28,10 @@ no_base_of _ h = refl
 begun_left : (tracker : Tracker) (cells : List Cell) (v : Val) → base_of_tracker tracker ≤ entry_of (length cells)
     → value_of (begun_body tracker cells) ≡ Some v → AreLeftIn (closed_plot (begun_body tracker cells))
 begun_left tracker cells v past held =
-    let values = made_of tracker (values_of cells) v (made_value tracker cells v held) in
+    let values = made_of tracker (values_of cells) (made_value tracker cells held) in
     all_given tracker 0 cells values.0 (length cells) (omega arith) past values.1
 
--- what holds its value, and kept its form, keeps what it had
+-- what holds its value, and kept its tracker, keeps what it had
 pub held_left : (plot : Plot) (now : Body) (v : Val) → KeepsTracker (body_in plot) now → value_of now ≡ Some v → AreLeftIn plot
     → AreLeftIn (closed_plot now)
 held_left entered_plot (begun_body tracker cells) v keeps held left =

@@ -2,7 +2,7 @@
 use Rattle.std.proofs.Common.{◌≡◌, ℕ, zero, suc, List, length, is_some, refl, sym, ◌∙◌, ap, subst}
 use Rattle.fr_partial.specs.Common.{Cell, Def, HasItems, ItemsKind, LooksLike, Mode, Tracker, Tree, Trees, as_items, as_tracker, beginning_in, beginning_of_some, beginning_so, begun, body_of, count_trees, deferred, field_refusal, holes, init_array_refusal, is_begun, kept_slice, named_refusal, own_tree, set_item_refusal, strict}
 use Rattle.fr_frame.specs.declared.places.Tracker.{Tracker as Started}
-use Rattle.fr_frame.specs.declared.places.Piece.{Piece}
+use Rattle.fr_frame.specs.declared.places.PartialValue.{PartialValue}
 use Rattle.fr_partial.specs.Looks.{bare}
 use Rattle.fr_partial.proofs.BodyLaws.{count_of}
 
@@ -74,8 +74,8 @@ module _ (one other : Tree) (alike : LooksLike one other) where
       items_there tracker count other (subst (HasItems tracker count) alike (items_told tracker count one has))
 
 -- what is begun has as many items as it has children
-pub begun_items : (piece : Piece) (made : Started) (children : List Cell) (count : ℕ) → piece ≡ Piece.Begun made children
-    → count ≡ length children → HasItems (as_tracker made) count (own_tree (body_of piece))
-begun_items piece made children count is counted =
-    subst (λ (p : Piece). HasItems (as_tracker made) count (own_tree (body_of p))) (sym is)
+pub begun_items : (partial : PartialValue) (made : Started) (children : List Cell) (count : ℕ) → partial ≡ PartialValue.Begun made children
+    → count ≡ length children → HasItems (as_tracker made) count (own_tree (body_of partial))
+begun_items partial made children count is counted =
+    subst (λ (p : PartialValue). HasItems (as_tracker made) count (own_tree (body_of p))) (sym is)
     (refl, count_of children ∙ sym counted)

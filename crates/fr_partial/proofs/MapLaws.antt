@@ -9,7 +9,7 @@ use Rattle.fr_store.specs.Moves.{with_key_of}
 use Rattle.fr_partial.specs.Looks.{is_absent}
 use Rattle.fr_partial.proofs.ListLaws.{by_items}
 
--- A form.
+-- A tracker.
 
 pub map_tracker : (tracker : Tracker) → is_map_tracker tracker ≡ true → (base : ℕ) × (tracker ≡ as_entries (EntriesKind.Map base))
 map_tracker (as_entries (EntriesKind.Map base)) h = (base, refl)

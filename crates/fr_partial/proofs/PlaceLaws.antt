@@ -30,13 +30,13 @@ node_here plan slots stack shown = record {
   owner = owner_along FrameOwner.Root (cursor_in slots stack) (kid_shown (heap_of slots) stack);
   stored = false;
   depth = length (cursor_in slots stack);
-  body = body_in (open_top plan slots stack shown).plot;
+  body = body_in (open_top shown).plot;
 }
 
 module _ (plan : Plan) (slots : List Slot) (stack : List ℕ) (shown : IsOpen plan slots stack) (n : ℕ)
     (last : IsLast stack n) where
   pub here_found : heap_of slots n ≡ Some (node_here plan slots stack shown)
-  here_found = ap (heap_of slots) (sym (top_slot plan slots stack shown n last)) ∙ (open_top plan slots stack shown).here
+  here_found = ap (heap_of slots) (sym (top_slot shown last)) ∙ (open_top shown).here
 
   -- the place that is found there
   pub found_is : (place : Entry) → Tells slots n place → outlined (node_of place) ≡ outlined (node_here plan slots stack shown)
@@ -79,9 +79,9 @@ own_looks _ = refl
 
 -- the plot on top stands there
 pub plot_here : (plan : Plan) (slots : List Slot) (stack : List ℕ) (shown : IsOpen plan slots stack)
-    → tree_in (open_top plan slots stack shown).plot ≡ tree_here slots stack
+    → tree_in (open_top shown).plot ≡ tree_here slots stack
 plot_here plan slots stack shown =
-    ap tree_of (sym (open_top plan slots stack shown).is) ∙ tree_of_at (cursor_in slots stack) (kid_shown (heap_of slots) stack)
+    ap tree_of (sym (open_top shown).is) ∙ tree_of_at (cursor_in slots stack) (kid_shown (heap_of slots) stack)
 
 -- Its last child is there, or isn't, as in the tree.
 
@@ -102,19 +102,19 @@ plot_told _ = refl
 module _ {plan : Plan} {slots : List Slot} {stack : List ℕ} (shown : IsOpen plan slots stack) {n : ℕ} (last : IsLast stack n)
     (place : Entry) (is : Tells slots n place) where
   -- what was put there looks like what stands at the place at which the builder works
-  pub looks_found : LooksLike (own_tree (body_of place.piece)) (tree_here slots stack)
+  pub looks_found : LooksLike (own_tree (body_of place.partial)) (tree_here slots stack)
   looks_found =
-      let top = open_top plan slots stack shown in
-      sym (bare_outline (body_of place.piece))
+      let top = open_top shown in
+      sym (bare_outline (body_of place.partial))
       ∙ ap (λ (found : Node). bare (own_tree found.body)) (found_is plan slots stack shown n last place is)
       ∙ bare_outline (body_in top.plot) ∙ own_looks top.plot ∙ ap bare (plot_here plan slots stack shown)
 
   -- and of a map its last child is there, or isn't, as in the tree
-  pub lacks_found : is_map (tree_here slots stack) ≡ true → lacks_last (body_of place.piece) ≡ lacks_value (tree_here slots stack)
+  pub lacks_found : is_map (tree_here slots stack) ≡ true → lacks_last (body_of place.partial) ≡ lacks_value (tree_here slots stack)
   lacks_found of_map =
-      let top = open_top plan slots stack shown in
+      let top = open_top shown in
       let here : tree_in top.plot ≡ tree_here slots stack = plot_here plan slots stack shown in
-      let same : body_of place.piece ≡ body_in top.plot = same_plain (body_of place.piece) (body_in top.plot)
+      let same : body_of place.partial ≡ body_in top.plot = same_plain (body_of place.partial) (body_in top.plot)
       (ap (λ (found : Node). found.body) (found_is plan slots stack shown n last place is))
       (map_lists_not top.plot (ap is_map here ∙ of_map)) in
       ap lacks_last same ∙ plot_told top.plot ∙ ap lacks_value here
@@ -125,10 +125,9 @@ module _ (agree : LookupsAgree) (paths : LookupPathsAgree) (table : Table) (root
   pub here_along : Along table plan (node_along plan plan.root (cursor_in slots stack) (kid_shown (heap_of slots) stack))
       (shape_here table root.0 slots stack) (tree_here slots stack)
   here_along =
-      along agree table root plan ready.checked ready.inside ready.planned (cursor_in slots stack)
-      (kid_shown (heap_of slots) stack) plan.root root.0
-      (root_shaped agree table root plan ready.checked ready.inside ready.planned paths) ready.suits
-      (open_reach plan slots stack ready.shown)
+      along agree table root
+      plan ready.checked ready.inside ready.planned (cursor_in slots stack) (kid_shown (heap_of slots) stack) plan.root root.0
+      (root_shaped agree table root plan ready.checked ready.inside ready.planned paths) ready.suits (open_reach ready.shown)
 
   -- so is that of the place that is found there
   module _ {n : ℕ} (last : IsLast stack n) (place : Entry) (is : Tells slots n place) where
@@ -138,7 +137,7 @@ module _ (agree : LookupsAgree) (paths : LookupPathsAgree) (table : Table) (root
         (sym (found_is plan slots stack ready.shown n last place is)) here_along.node_is
 
     pub found_inside : place.node.0 < length plan.nodes
-    found_inside = is_there plan.nodes place.node.0 found_shaped.found found_shaped.there
+    found_inside = is_there plan.nodes place.node.0 found_shaped.there
 
     pub found_shape : (found : TypePlanNode) → node_at plan place.node ≡ Some found
         → found.shape.0 ≡ shape_here table root.0 slots stack

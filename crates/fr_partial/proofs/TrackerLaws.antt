@@ -127,7 +127,7 @@ pub full_tree : (table : Table) (s : ℕ) (tree : Tree) → Suits table s tree �
 full_tree table s (begun made ts) suits = suits.0.0
 full_tree table s _ suits = tt
 
--- and its form is the one by which its children are told
+-- and its tracker is the one by which its children are told
 pub tracker_is_at : (def : Def) (tree : Tree) (tracker : Tracker) (n i : ℕ) → IsFullAs def tracker n
     → ((k : ℕ) → tracker ≡ as_fields (Some k) → selected tree ≡ Some k) → IsFullTree def tree → field_refusal def tree i ≡ None
     → tracker ≡ tracker_at def tree

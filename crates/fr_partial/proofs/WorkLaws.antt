@@ -6,15 +6,13 @@ use Rattle.fr_partial.proofs.StateLaws.{stack_length}
 -- as contracts see it
 pub held_seen : {parts : Parts} → IsSound parts → {seen : Site} → site parts ≡ seen → (t : ℕ)
     → held_in parts.frames t ≡ held_at seen t
-held_seen {parts} sound view_is t =
-    slots_tokens (plan_in parts.plan) parts.frames.slots parts.frames.stack sound.at_work.ready.shown t
-    ∙ ap (λ (seen : Site). held_at seen t) view_is
+held_seen {parts} sound view_is t = slots_tokens sound.at_work.ready.shown t ∙ ap (λ (seen : Site). held_at seen t) view_is
 
 -- what stands in its tree has room in the ledger
 pub room_tree : {plan : Plan} (frames : Frames) → IsOpen plan frames.slots frames.stack → (ledger : List ℕ)
     → Room (held_in frames) ledger → Room (tree_occurs (whole_tree frames)) ledger
 room_tree {plan} frames shown ledger room =
-    Room_same (held_in frames) (tree_occurs (whole_tree frames)) ledger (slots_tokens plan frames.slots frames.stack shown) room
+    Room_same (held_in frames) (tree_occurs (whole_tree frames)) ledger (slots_tokens shown) room
 
 -- a slot is open for the root, and one for each step
 pub open_count : {parts : Parts} → IsSound parts → {seen : Site} → site parts ≡ seen

@@ -40,7 +40,7 @@ pub use Rattle.fr_partial.specs.Openings.{HasItems, MayOpenAs, is_begun}
 pub use Rattle.fr_partial.specs.Setting.{converts}
 pub use Rattle.fr_partial.specs.Sites.{Site, held_at, shape_at}
 pub use Rattle.fr_partial.specs.Starting.{IsPlanFrom}
-pub use Rattle.fr_partial.specs.Underway.{AreOpen, Became, Changed, IsAtWork, StoresNothing, held_in, top_place, top_shape, top_tree, whole_tree}
+pub use Rattle.fr_partial.specs.Underway.{AreOpen, AreOpened, Became, Changed, IsAtWork, StoresNothing, held_in, top_place, top_shape, top_tree, whole_tree}
 pub use Rattle.fr_partial.specs.Works.{IsSound, site}
 pub use Rattle.fr_partial.specs.declared.admitting.Opening.{Opening}
 pub use Rattle.fr_partial.specs.declared.beginning.Beginning.{Beginning}

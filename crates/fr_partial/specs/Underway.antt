@@ -72,6 +72,11 @@ pub record IsAtWork (plan : Plan) (frames : Frames) : Type 0 where
   pub kept : IsKept frames.store frames.slots
   pub stores : StoresNothing (mode_of frames.mode) frames.store
 
+-- there is a plan by which the open places stand for a tree and a place in it
+pub record AreOpened (frames : Frames) : Type 0 where
+  pub plan : Plan
+  pub are_open : AreOpen plan frames
+
 -- This place is on top then, and this is the tree; what is stored is listed, and in strict mode nothing is; and nothing else changed.
 pub record Became (plan : Plan) (place : Place) (tree : Tree) (before after : Frames) : Type 0 where
   pub stands : IsOpenAt plan after.slots after.stack place tree

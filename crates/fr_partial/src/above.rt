@@ -7,7 +7,7 @@ ghost use Rattle.fr_model.specs.Step.{is_dynamic_part, is_set_item};
 
 use crate::sets::is_set;
 use crate::work::Work;
-use fr_frame::{EntriesKind, FrameOwner, ItemsKind, Piece, Tracker};
+use fr_frame::{EntriesKind, FrameOwner, ItemsKind, PartialValue, Tracker};
 
 /// Whether a place that is begun so is a dynamic value.
 fn is_dynamic(tracker: &Tracker) -> bool
@@ -22,7 +22,7 @@ fn is_dynamic(tracker: &Tracker) -> bool
 impl<'t> Work<'t> {
     /// What was put at the place above the one at which the builder works: whether it is a set or a
     /// dynamic value can be told by it.
-    fn piece_above(&self) -> &Piece
+    fn partial_above(&self) -> &PartialValue
         requires below { is_root self.now.state.cursor ≡ false }
         ensures set { is_set (own_tree (body_of result.now)) ≡ is_set_item self.now.state }
         ensures dynamic { is_begun_dynamic (own_tree (body_of result.now))
@@ -39,7 +39,7 @@ impl<'t> Work<'t> {
             unreachable!()
         };
         match frames.slots.place(*parent) {
-            Some(above) => &above.piece,
+            Some(above) => &above.partial,
             None => unreachable!(),
         }
     }
@@ -49,9 +49,9 @@ impl<'t> Work<'t> {
         requires below { is_root self.now.state.cursor ≡ false }
         ensures { result ≡ is_set_item self.now.state }
     {
-        match self.piece_above() {
-            Piece::Begun(tracker, _) => is_set(tracker),
-            Piece::Entered | Piece::Whole(_) => false,
+        match self.partial_above() {
+            PartialValue::Begun(tracker, _) => is_set(tracker),
+            PartialValue::Entered | PartialValue::Whole(_) => false,
         }
     }
 
@@ -60,9 +60,9 @@ impl<'t> Work<'t> {
         requires below { is_root self.now.state.cursor ≡ false }
         ensures { result ≡ is_dynamic_part self.now.state }
     {
-        match self.piece_above() {
-            Piece::Begun(tracker, _) => is_dynamic(tracker),
-            Piece::Entered | Piece::Whole(_) => false,
+        match self.partial_above() {
+            PartialValue::Begun(tracker, _) => is_dynamic(tracker),
+            PartialValue::Entered | PartialValue::Whole(_) => false,
         }
     }
 }

@@ -5,7 +5,7 @@ ghost use Rattle.std.specs.Option.{option_copied};
 ghost use Rattle.fr_shape.specs.declared.shape.Def.{Def as TheDef};
 ghost use Rattle.fr_model.specs.Step.{variant_field_refusal};
 
-use fr_frame::{Piece, Tracker};
+use fr_frame::{PartialValue, Tracker};
 use fr_shape::{Def, EnumDef, Field, Operation, ShapeId, ShapeTable};
 
 /// As what a place is begun whose children may be entered, and how many it has then.
@@ -19,11 +19,11 @@ pub struct Opening {
 pub const MOST_ELEMENTS: u32 = 4096;
 
 /// The variant as which the place is begun, if it is begun as one.
-pub fn selected(piece: &Piece) -> Option<u32>
-    ensures { result ≡ selected (own_tree (body_of piece.now)) }
+pub fn selected(partial: &PartialValue) -> Option<u32>
+    ensures { result ≡ selected (own_tree (body_of partial.now)) }
 {
-    match piece {
-        Piece::Begun(Tracker::Fields(Some(k)), _) => Some(*k),
+    match partial {
+        PartialValue::Begun(Tracker::Fields(Some(k)), _) => Some(*k),
         _ => None,
     }
 }
@@ -33,13 +33,13 @@ pub fn selected(piece: &Piece) -> Option<u32>
 pub fn nth_opening(
     table: &ShapeTable,
     shape: ShapeId,
-    piece: &Piece,
+    partial: &PartialValue,
     i: usize,
 ) -> Result<Opening, Operation>
     ensures opening { IfOk result (λ opening.
-        Describes table.now shape.0 (own_tree (body_of piece.now)) opening) }
+        Describes table.now shape.0 (own_tree (body_of partial.now)) opening) }
     ensures refused { result_err result
-        ≡ field_refusal (def_of table.now shape.0) (own_tree (body_of piece.now)) i }
+        ≡ field_refusal (def_of table.now shape.0) (own_tree (body_of partial.now)) i }
 {
     let Some(entry) = table.get(shape) else {
         return Err(Operation::FieldOfOther);
@@ -53,11 +53,11 @@ pub fn nth_opening(
             return Err(Operation::ArrayIndexOutOfBounds);
         }
         Def::Array(_, count) if *count > MOST_ELEMENTS => return Err(Operation::ArrayTooLarge),
-        Def::Array(_, _) if matches!(piece, Piece::Whole(_)) => {
+        Def::Array(_, _) if matches!(partial, PartialValue::Whole(_)) => {
             return Err(Operation::ElementOfWholeArray);
         }
         Def::Array(_, count) => (Tracker::Elements, *count as usize),
-        Def::Enum(described) => return variant_opening(described, selected(piece), i),
+        Def::Enum(described) => return variant_opening(described, selected(partial), i),
         Def::Slice(_) => return Err(Operation::FieldOfSlice),
         Def::Opaque => return Err(Operation::FieldOfOpaque),
         Def::Scalar(_) | Def::Str | Def::Option(_) | Def::Result(_, _) | Def::List(_) => {
@@ -98,27 +98,31 @@ fn variant_opening(
 }
 
 /// The same of a child that may be entered.
-pub fn opening_at(table: &ShapeTable, shape: ShapeId, piece: &Piece, i: usize) -> Opening
-    requires admitted { field_refusal (def_of table.now shape.0) (own_tree (body_of piece.now)) i
+pub fn opening_at(table: &ShapeTable, shape: ShapeId, partial: &PartialValue, i: usize) -> Opening
+    requires admitted { field_refusal (def_of table.now shape.0) (own_tree (body_of partial.now)) i
         ≡ None }
-    ensures opening { Describes table.now shape.0 (own_tree (body_of piece.now)) result }
+    ensures opening { Describes table.now shape.0 (own_tree (body_of partial.now)) result }
 {
-    match nth_opening(table, shape, piece, i) {
+    match nth_opening(table, shape, partial, i) {
         Ok(opening) => opening,
         Err(_) => unreachable!(),
     }
 }
 
 /// Why no field of a place of this shape is entered by its name, if none is.
-pub fn named_refusal(table: &ShapeTable, shape: ShapeId, piece: &Piece) -> Option<Operation>
-    ensures { result ≡ named_refusal (def_of table.now shape.0) (own_tree (body_of piece.now)) }
+pub fn named_refusal(
+    table: &ShapeTable,
+    shape: ShapeId,
+    partial: &PartialValue,
+) -> Option<Operation>
+    ensures { result ≡ named_refusal (def_of table.now shape.0) (own_tree (body_of partial.now)) }
 {
     let Some(entry) = table.get(shape) else {
         return Some(Operation::FieldOfOther);
     };
     match &entry.def {
         Def::Struct(_) => None,
-        Def::Enum(_) if selected(piece).is_some() => None,
+        Def::Enum(_) if selected(partial).is_some() => None,
         Def::Enum(_) => Some(Operation::NamedFieldOfUnselectedVariant),
         Def::Undefined => Some(Operation::NamedFieldOfUndefined),
         Def::Scalar(_) | Def::Str => Some(Operation::NamedFieldOfPrimitive),

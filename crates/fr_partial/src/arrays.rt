@@ -7,14 +7,18 @@ use crate::admitting::{MOST_ELEMENTS, Opening};
 use crate::moves::{Change, Move};
 use crate::work::Work;
 use crate::{Partial, ReflectError};
-use fr_frame::{Piece, Tracker};
+use fr_frame::{PartialValue, Tracker};
 use fr_shape::{Def, Hooks, Ledger, Operation, ReflectErrorKind, Shape, ShapeId, ShapeTable};
 
 /// How many elements the array of this shape has, or why it can't be begun.
-fn array_opening(table: &ShapeTable, shape: ShapeId, piece: &Piece) -> Result<usize, Operation>
+fn array_opening(
+    table: &ShapeTable,
+    shape: ShapeId,
+    partial: &PartialValue,
+) -> Result<usize, Operation>
     ensures elements { IfOk result (λ count. HasElements (def_of table.now shape.0) count) }
     ensures refused { result_err result
-        ≡ init_array_refusal (def_of table.now shape.0) (own_tree (body_of piece.now)) }
+        ≡ init_array_refusal (def_of table.now shape.0) (own_tree (body_of partial.now)) }
 {
     match table.get(shape) {
         Some(
@@ -22,10 +26,10 @@ fn array_opening(table: &ShapeTable, shape: ShapeId, piece: &Piece) -> Result<us
                 def: Def::Array(_, count),
                 ..
             },
-        ) => match piece {
+        ) => match partial {
             _ if *count > MOST_ELEMENTS => Err(Operation::ArrayTooLarge),
-            Piece::Whole(_) => Err(Operation::InitArrayOfBegun),
-            Piece::Entered | Piece::Begun(..) => Ok(*count as usize),
+            PartialValue::Whole(_) => Err(Operation::InitArrayOfBegun),
+            PartialValue::Entered | PartialValue::Begun(..) => Ok(*count as usize),
         },
         _ => Err(Operation::InitArrayOfOther),
     }
@@ -38,8 +42,8 @@ impl<'t> Work<'t> {
         ensures memory { is_begun (cursor_tree self.now.state) ≡ true
             → NeedsNone (cursor_tree self.now.state) result }
     {
-        let (table, shape, piece) = self.place();
-        match array_opening(table, shape, piece) {
+        let (table, shape, partial) = self.place();
+        match array_opening(table, shape, partial) {
             Ok(count) => {
                 let tracker = Tracker::Elements;
                 Ok(Move::Stay(Change::Open(Opening { tracker, count })))

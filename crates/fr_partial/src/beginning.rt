@@ -1,6 +1,6 @@
 //! How the place at which the builder works comes to be begun: what of it is kept.
 ghost use Rattle.std.specs.Prelude.{[], ◌≡◌};
-ghost use Rattle.fr_partial.specs.Common.{Changed, Conserved, IsAtWork, IsFullAs, IsOk, IsWholeWith, MayHave, OnOk, Room, as_fields, as_tracker, base_of_tracker, beginning_in, beginning_of_some, beginning_so, begun_by, body_of, def_of, held_in, is_begun, keys_of_tracker, kept_so, mode_of, own_tree, top_shape, top_tree, true, unwrap_or, variant_anew};
+ghost use Rattle.fr_partial.specs.Common.{AreOpen, AreOpened, Plan, Changed, Conserved, IsAtWork, IsFullAs, IsOk, IsWholeWith, MayHave, OnOk, Room, as_fields, as_tracker, base_of_tracker, beginning_in, beginning_of_some, beginning_so, begun_by, body_of, def_of, held_in, is_begun, keys_of_tracker, kept_so, mode_of, own_tree, top_shape, top_tree, true, unwrap_or, variant_anew};
 ghost use Rattle.fr_model.specs.Contents.{is_entered_in_place};
 ghost use Rattle.fr_partial.specs.declared.beginning.Beginning.{Beginning as Onset};
 
@@ -8,7 +8,7 @@ use crate::choosing::Chosen;
 use crate::mode::Mode;
 use crate::placing::place_here;
 use crate::work::Frames;
-use fr_frame::{ContentKind, Piece, Tracker};
+use fr_frame::{ContentKind, PartialValue, Tracker};
 use fr_plan::TypePlanCore;
 use fr_shape::{Def, Ledger, OutOfMemory, ShapeId, ShapeTable, Value};
 
@@ -22,31 +22,31 @@ pub enum Beginning {
 }
 
 /// A place stays as it is where it is begun just so, whatever the mode.
-pub fn beginning_so(tracker: &Tracker, piece: &Piece) -> Beginning
+pub fn beginning_so(tracker: &Tracker, partial: &PartialValue) -> Beginning
     requires keyless { keys_of_tracker (as_tracker tracker.now) ≡ [] }
-    ensures { result ≡ beginning_so (as_tracker tracker.now) (own_tree (body_of piece.now)) }
+    ensures { result ≡ beginning_so (as_tracker tracker.now) (own_tree (body_of partial.now)) }
 {
-    match piece {
-        Piece::Begun(made, _) => {
+    match partial {
+        PartialValue::Begun(made, _) => {
             if made.is(tracker) {
                 Beginning::AsItIs
             } else {
                 Beginning::Anew
             }
         }
-        Piece::Entered | Piece::Whole(_) => Beginning::Anew,
+        PartialValue::Entered | PartialValue::Whole(_) => Beginning::Anew,
     }
 }
 
 /// The same in deferred mode. In strict mode nothing is kept.
-pub fn beginning_in(mode: Mode, tracker: &Tracker, piece: &Piece) -> Beginning
+pub fn beginning_in(mode: Mode, tracker: &Tracker, partial: &PartialValue) -> Beginning
     requires keyless { keys_of_tracker (as_tracker tracker.now) ≡ [] }
     ensures { result ≡ beginning_in (mode_of mode) (as_tracker tracker.now)
-        (own_tree (body_of piece.now)) }
+        (own_tree (body_of partial.now)) }
 {
     match mode {
         Mode::Strict => Beginning::Anew,
-        Mode::Deferred(_) => beginning_so(tracker, piece),
+        Mode::Deferred(_) => beginning_so(tracker, partial),
     }
 }
 
@@ -78,21 +78,25 @@ pub fn beginning_of_some(
     table: &ShapeTable,
     content: ShapeId,
     mode: Mode,
-    piece: &Piece,
+    partial: &PartialValue,
 ) -> Beginning
     ensures { result ≡ beginning_of_some (mode_of mode) (def_of table.now content.0)
-        (own_tree (body_of piece.now)) }
+        (own_tree (body_of partial.now)) }
 {
-    match piece {
-        Piece::Whole(Value::Some(_)) => {
+    match partial {
+        PartialValue::Whole(Value::Some(_)) => {
             if is_entered_in_place(table, content, mode) {
                 Beginning::InPlace
             } else {
                 Beginning::Anew
             }
         }
-        Piece::Entered | Piece::Whole(_) => Beginning::Anew,
-        Piece::Begun(_, _) => beginning_in(mode, &Tracker::Content(ContentKind::Some), piece),
+        PartialValue::Entered | PartialValue::Whole(_) => Beginning::Anew,
+        PartialValue::Begun(_, _) => beginning_in(
+            mode,
+            &Tracker::Content(ContentKind::Some),
+            partial,
+        ),
     }
 }
 
@@ -100,29 +104,28 @@ pub fn beginning_of_some(
 /// all that was put there or is stored beneath it is released. A begun place that gets no children
 /// takes no memory.
 pub fn begin_so(
-    plan: &TypePlanCore,
     frames: &mut Frames,
     beginning: Beginning,
     tracker: Tracker,
     count: usize,
     ledger: &mut Ledger,
 ) -> Result<(), OutOfMemory>
-    requires at_work { IsAtWork plan.now frames.old }
+    requires are_open { AreOpened frames.old }
     requires may_have { MayHave (as_tracker tracker) count }
     requires base { base_of_tracker (as_tracker tracker) ≡ 0 }
     requires parts { beginning ≡ Onset.InPlace
         → IsWholeWith (as_tracker tracker) (top_tree frames.old) }
     requires room { Room (held_in frames.old) ledger.old }
-    ensures changed { OnOk result (Changed plan.now (begun_by beginning (as_tracker tracker) count)
-        frames.old frames.new) }
+    ensures changed { OnOk result ((plan : Plan) → AreOpen plan frames.old → Changed plan
+        (begun_by beginning (as_tracker tracker) count) frames.old frames.new) }
     ensures memory { count ≡ 0 → is_begun (top_tree frames.old) ≡ true → IsOk result }
     ensures tokens { Conserved (held_in frames.old) ledger.old (held_in frames.new) ledger.new }
 {
     let (slots, stack, store) = (&mut frames.slots, &frames.stack, &mut frames.store);
     match beginning {
         Beginning::AsItIs => Ok(()),
-        Beginning::InPlace => stack.begin(slots, plan, tracker, count),
-        Beginning::Anew => stack.restart(slots, store, plan, tracker, count, ledger),
+        Beginning::InPlace => stack.begin(slots, tracker, count),
+        Beginning::Anew => stack.restart(slots, store, tracker, count, ledger),
     }
 }
 
@@ -146,5 +149,5 @@ pub fn begin_variant(
 {
     let tracker = Tracker::Fields(Some(chosen.variant));
     let beginning = beginning_so(&tracker, place_here(plan, frames).1);
-    begin_so(plan, frames, beginning, tracker, chosen.count, ledger)
+    begin_so(frames, beginning, tracker, chosen.count, ledger)
 }

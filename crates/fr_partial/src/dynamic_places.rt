@@ -7,7 +7,7 @@ ghost use Rattle.fr_partial.specs.DynamicBeginnings.{beginning_as, tracker_with}
 use crate::beginning::{Beginning, begin_so};
 use crate::placing::place_here;
 use crate::work::Frames;
-use fr_frame::{EntriesKind, ItemsKind, Keys, Piece, Tracker};
+use fr_frame::{EntriesKind, ItemsKind, Keys, PartialValue, Tracker};
 use fr_plan::TypePlanCore;
 use fr_shape::{Def, Dyn, Ledger, OutOfMemory, ShapeId, ShapeTable, Value};
 
@@ -51,13 +51,13 @@ fn is_begun_with(parts: Parts, tracker: &Tracker) -> bool
 }
 
 /// What of the place is kept where it is begun with such parts.
-fn beginning_as(parts: Parts, piece: &Piece) -> Beginning
-    ensures { result ≡ beginning_as parts (own_tree (body_of piece.now)) }
+fn beginning_as(parts: Parts, partial: &PartialValue) -> Beginning
+    ensures { result ≡ beginning_as parts (own_tree (body_of partial.now)) }
 {
-    match piece {
-        Piece::Whole(value) if has_parts(parts, value) => Beginning::InPlace,
-        Piece::Begun(tracker, _) if is_begun_with(parts, tracker) => Beginning::AsItIs,
-        Piece::Entered | Piece::Whole(_) | Piece::Begun(..) => Beginning::Anew,
+    match partial {
+        PartialValue::Whole(value) if has_parts(parts, value) => Beginning::InPlace,
+        PartialValue::Begun(tracker, _) if is_begun_with(parts, tracker) => Beginning::AsItIs,
+        PartialValue::Entered | PartialValue::Whole(_) | PartialValue::Begun(..) => Beginning::Anew,
     }
 }
 
@@ -89,5 +89,5 @@ pub fn begin_parts(
     ensures tokens { Conserved (held_in frames.old) ledger.old (held_in frames.new) ledger.new }
 {
     let beginning = beginning_as(parts, place_here(plan, frames).1);
-    begin_so(plan, frames, beginning, tracker_with(parts), 0, ledger)
+    begin_so(frames, beginning, tracker_with(parts), 0, ledger)
 }

@@ -1,6 +1,6 @@
 //! Leaving a place: as it is, or completed, its value handed over; and the value of the root.
 ghost use Rattle.std.specs.Prelude.{◌≡◌, ◌≢◌};
-ghost use Rattle.fr_partial.specs.Common.{AreOpen, AtTop, Conserved, HoldsItsValue, IfErr, IfOk, IsAtWork, IsErr, IsMade, IsMeant, IsOk, IsSome, IsSound, MayReceive, Ok, OnErr, OnOk, Room, RoseBy, Rules, SameTokens, Some, Val, WhyNot, [], complete, cursor_tree, false, held_in, meant_by, mode_of, needs_none_by, occurs, site, strict, strict_column, takes_memory, top_place, top_shape, top_tree, true, value_of, view, ℕ};
+ghost use Rattle.fr_partial.specs.Common.{AreOpened, Plan, AreOpen, AtTop, Conserved, HoldsItsValue, IfErr, IfOk, IsAtWork, IsErr, IsMade, IsMeant, IsOk, IsSome, IsSound, MayReceive, Ok, OnErr, OnOk, Room, RoseBy, Rules, SameTokens, Some, Val, WhyNot, [], complete, cursor_tree, false, held_in, meant_by, mode_of, needs_none_by, occurs, site, strict, strict_column, takes_memory, top_place, top_shape, top_tree, true, value_of, view, ℕ};
 ghost use Rattle.fr_shape.specs.declared.error.ReflectErrorKind.{ReflectErrorKind as Kind};
 ghost use Rattle.fr_model.specs.Step.{leaves};
 ghost use Rattle.fr_partial.specs.declared.moves.Move.{Move as Moves};
@@ -31,7 +31,7 @@ pub fn leave(parts: &mut Parts) -> Result<(), ReflectErrorKind>
     law_well();
     let frames = &mut parts.frames;
     let (slots, store) = (&mut frames.slots, &mut frames.store);
-    match frames.stack.leave(slots, store, parts.plan.core()) {
+    match frames.stack.leave(slots, store) {
         Ok(()) => {
             step_back(&mut parts.path);
             parts.calls = parts.calls.saturating_add(1);
@@ -121,23 +121,19 @@ fn complete_top<H: Hooks>(
 /// Hands over the value that the place on top holds. Where there is no memory, what was put at the
 /// place may be released.
 #[inline(always)]
-fn hand_over(
-    plan: &TypePlanCore,
-    frames: &mut Frames,
-    taker: Taker,
-    ledger: &mut Ledger,
-) -> Result<(), OutOfMemory>
-    requires open { AreOpen plan.now frames.old }
+fn hand_over(frames: &mut Frames, taker: Taker, ledger: &mut Ledger) -> Result<(), OutOfMemory>
+    requires are_open { AreOpened frames.old }
     requires may { MayReceive taker frames.old }
     requires complete { AtTop frames.old.slots frames.old.stack (λ at. IsSome (value_of at.body)) }
     requires room { Room (held_in frames.old) ledger.old }
-    ensures handed { OnOk result (IsHandedOver taker plan.now frames.old frames.new) }
+    ensures handed { OnOk result ((plan : Plan) → AreOpen plan frames.old
+        → IsHandedOver taker plan frames.old frames.new) }
     ensures memory { AtTop frames.old.slots frames.old.stack
         (λ at. takes_memory at.body ≡ false → IsOk result) }
     ensures tokens { Conserved (held_in frames.old) ledger.old (held_in frames.new) ledger.new }
 {
     let (slots, stack) = (&mut frames.slots, &mut frames.stack);
-    stack.hand_over(slots, plan, taker, ledger)
+    stack.hand_over(slots, taker, ledger)
 }
 
 /// Completes the place on top by these rules, all that was left beneath it before where they are
@@ -162,7 +158,7 @@ fn complete_here<H: Hooks>(
     ensures tokens { Conserved (held_in frames.old) ledger.old (held_in frames.new) ledger.new }
 {
     complete_top(plan, hooks, frames, rules, ledger)?;
-    match hand_over(plan, frames, taker, ledger) {
+    match hand_over(frames, taker, ledger) {
         Ok(()) => Ok(()),
         Err(OutOfMemory) => Err(ReflectErrorKind::OutOfMemory),
     }
@@ -219,12 +215,8 @@ pub fn complete<H: Hooks>(
 
 /// Takes out the value that the root holds. Where there is no memory for that, it is released.
 #[inline(always)]
-fn take_value(
-    plan: &TypePlanCore,
-    frames: &mut Frames,
-    ledger: &mut Ledger,
-) -> Result<Value, OutOfMemory>
-    requires open { AreOpen plan.now frames.old }
+fn take_value(frames: &mut Frames, ledger: &mut Ledger) -> Result<Value, OutOfMemory>
+    requires are_open { AreOpened frames.old }
     requires at_root { top_place frames.old ≡ [] }
     requires complete { AtTop frames.old.slots frames.old.stack (λ at. IsSome (value_of at.body)) }
     requires room { Room (held_in frames.old) ledger.old }
@@ -236,7 +228,6 @@ fn take_value(
         (occurs (view value)) ledger.new) }
     ensures released { OnErr result (RoseBy (held_in frames.old) ledger.old ledger.new) }
 {
-    let _plan = plan;
     let Some(top) = frames.stack.top() else {
         unreachable!()
     };
@@ -264,7 +255,7 @@ pub fn take_root<H: Hooks>(
     ensures released { OnErr result (RoseBy (held_in frames.entry) ledger.old ledger.new) }
 {
     match complete_strictly(plan, hooks, &mut frames) {
-        Ok(()) => match take_value(plan, &mut frames, ledger) {
+        Ok(()) => match take_value(&mut frames, ledger) {
             Ok(value) => Ok(value),
             Err(OutOfMemory) => Err(ReflectErrorKind::OutOfMemory),
         },

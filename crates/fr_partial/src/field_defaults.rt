@@ -1,5 +1,5 @@
 //! The defaults of fields, and a value at a field or element that isn't entered for it.
-ghost use Rattle.fr_partial.specs.Common.{AreOpen, Became, Changed, Conserved, Describes, IfErr, IfOk, IsAtWork, None, Ok, OnOk, Room, Val, [], body_of, def_of, false, field_default, field_refusal, held_in, is_root, own_tree, put_child, takes_at_end, tokens, top_place, top_shape, top_tree, tree_at, up, view, whole, whole_tree};
+ghost use Rattle.fr_partial.specs.Common.{AreOpened, Plan, AreOpen, Became, Changed, Conserved, Describes, IfErr, IfOk, IsAtWork, None, Ok, OnOk, Room, Val, [], body_of, def_of, false, field_default, field_refusal, held_in, is_root, own_tree, put_child, takes_at_end, tokens, top_place, top_shape, top_tree, tree_at, up, view, whole, whole_tree};
 ghost use Rattle.std.specs.Prelude.{Err, ◌≡◌};
 ghost use Rattle.fr_partial.specs.FieldDefaults.{default_in};
 
@@ -8,7 +8,7 @@ use crate::going::enter;
 use crate::mode::Mode;
 use crate::moves::Way;
 use crate::work::Frames;
-use fr_frame::{Piece, Taker};
+use fr_frame::{PartialValue, Taker};
 use fr_plan::{TypePlanCore, law_plan_lookups};
 use fr_shape::{
     DefaultSource, Field, Ledger, Operation, OutOfMemory, ReflectErrorKind, ShapeId, ShapeTable,
@@ -44,18 +44,18 @@ fn field_default<'a>(
 pub fn default_in<'a>(
     table: &'a ShapeTable,
     shape: ShapeId,
-    piece: &Piece,
+    partial: &PartialValue,
     i: usize,
 ) -> Result<&'a Template, ReflectErrorKind>
     ensures told { IfOk result (λ template.
-        default_in table.now shape.0 (own_tree (body_of piece.now)) i ≡ Ok template.now) }
+        default_in table.now shape.0 (own_tree (body_of partial.now)) i ≡ Ok template.now) }
     ensures refused { IfErr result (λ kind.
-        default_in table.now shape.0 (own_tree (body_of piece.now)) i ≡ Err kind) }
+        default_in table.now shape.0 (own_tree (body_of partial.now)) i ≡ Err kind) }
 {
-    if let Some(operation) = named_refusal(table, shape, piece) {
+    if let Some(operation) = named_refusal(table, shape, partial) {
         return Err(ReflectErrorKind::OperationFailed { shape, operation });
     }
-    match field_of(table, shape, selected(piece), i) {
+    match field_of(table, shape, selected(partial), i) {
         Some(field) => field_default(table, field),
         None => {
             let operation = Operation::FieldIndexOutOfBounds;
@@ -65,30 +65,26 @@ pub fn default_in<'a>(
 }
 
 /// Goes back from a whole place, whose value stays there.
-fn leave_whole(
-    plan: &TypePlanCore,
-    frames: &mut Frames,
-    ledger: &mut Ledger,
-) -> Result<(), OutOfMemory>
-    requires are_open { AreOpen plan.now frames.old }
+fn leave_whole(frames: &mut Frames, ledger: &mut Ledger) -> Result<(), OutOfMemory>
+    requires are_open { AreOpened frames.old }
     requires below { is_root (top_place frames.old) ≡ false }
     requires not_item { takes_at_end (tree_at (up (top_place frames.old))
         (whole_tree frames.old)) ≡ false }
     requires holds_value { (v : Val) × (top_tree frames.old ≡ whole v) }
     requires room { Room (held_in frames.old) ledger.old }
-    ensures left { OnOk result (Became plan.now (up (top_place frames.old))
-        (whole_tree frames.old) frames.old frames.new) }
+    ensures left { OnOk result ((plan : Plan) → AreOpen plan frames.old
+        → Became plan (up (top_place frames.old)) (whole_tree frames.old) frames.old frames.new) }
     ensures tokens { Conserved (held_in frames.old) ledger.old (held_in frames.new) ledger.new }
 {
     let (slots, stack) = (&mut frames.slots, &mut frames.stack);
     match frames.mode {
         Mode::Strict => {
-            let Ok(()) = stack.hand_over(slots, plan, Taker::Above, ledger) else {
+            let Ok(()) = stack.hand_over(slots, Taker::Above, ledger) else {
                 unreachable!()
             };
             Ok(())
         }
-        Mode::Deferred(_) => stack.leave(slots, &mut frames.store, plan),
+        Mode::Deferred(_) => stack.leave(slots, &mut frames.store),
     }
 }
 
@@ -121,6 +117,6 @@ pub fn put_in_child(
     let way = Way::Child(i, opening);
     enter(plan, frames, way, ledger)?;
     let (slots, store) = (&mut frames.slots, &mut frames.store);
-    frames.stack.set(slots, store, plan, value, ledger);
-    leave_whole(plan, frames, ledger)
+    frames.stack.set(slots, store, value, ledger);
+    leave_whole(frames, ledger)
 }

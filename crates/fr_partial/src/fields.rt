@@ -16,12 +16,12 @@ impl<'t> Work<'t> {
     fn begin_field_move<'k>(&self, name: &str) -> Result<Move<'k>, ReflectErrorKind>
         ensures { Decides self.now (Call.BeginField name.now) result }
     {
-        let (table, shape, piece) = self.place();
-        if let Some(operation) = named_refusal(table, shape, piece) {
+        let (table, shape, partial) = self.place();
+        if let Some(operation) = named_refusal(table, shape, partial) {
             return Err(ReflectErrorKind::OperationFailed { shape, operation });
         }
-        match self.field_named(shape, selected(piece), name) {
-            Some(i) => Ok(Move::Go(Way::Child(i, opening_at(table, shape, piece, i)))),
+        match self.field_named(shape, selected(partial), name) {
+            Some(i) => Ok(Move::Go(Way::Child(i, opening_at(table, shape, partial, i)))),
             None => Err(ReflectErrorKind::FieldError { shape }),
         }
     }
@@ -31,8 +31,8 @@ impl<'t> Work<'t> {
     fn begin_nth_field_move<'k>(&self, idx: usize) -> Result<Move<'k>, ReflectErrorKind>
         ensures { Decides self.now (Call.BeginNthField idx) result }
     {
-        let (table, shape, piece) = self.place();
-        match nth_opening(table, shape, piece, idx) {
+        let (table, shape, partial) = self.place();
+        match nth_opening(table, shape, partial, idx) {
             Ok(opening) => Ok(Move::Go(Way::Child(idx, opening))),
             Err(operation) => Err(ReflectErrorKind::OperationFailed { shape, operation }),
         }
@@ -43,12 +43,12 @@ impl<'t> Work<'t> {
         ensures { Decides self.now (Call.SetNthFieldToDefault idx) result }
     {
         self.law_sound();
-        let (table, shape, piece) = self.place();
-        let template = match default_in(table, shape, piece, idx) {
+        let (table, shape, partial) = self.place();
+        let template = match default_in(table, shape, partial, idx) {
             Ok(template) => template,
             Err(kind) => return Err(kind),
         };
-        let opening = opening_at(table, shape, piece, idx);
+        let opening = opening_at(table, shape, partial, idx);
         match copy_template(self.alloc(), template) {
             Ok(value) => Ok(Move::Stay(Change::PutChild(idx, opening, value))),
             Err(OutOfMemory) => Err(ReflectErrorKind::OutOfMemory),

@@ -1,5 +1,5 @@
 //! Going on to a child, whichever way.
-ghost use Rattle.fr_partial.specs.Common.{Became, Conserved, IsAtWork, IsMade, IsMeant, IsSound, MayGo, Ok, OnErr, OnOk, Room, [], as_tracker, change_at, child_node, held_in, node_here, number_told, onward, shape_at, site, top_place, top_shape, top_tree, whole_tree};
+ghost use Rattle.fr_partial.specs.Common.{AreOpen, AreOpened, Plan, Became, Conserved, IsAtWork, IsMade, IsMeant, IsSound, MayGo, Ok, OnErr, OnOk, Room, [], as_tracker, change_at, child_node, held_in, node_here, number_told, onward, shape_at, site, top_place, top_shape, top_tree, whole_tree};
 ghost use Rattle.std.specs.Prelude.{◌<◌, ◌^◌, ◌∷◌, ◌++◌, ◌≡◌};
 ghost use Rattle.fr_frame.specs.Kids.{entry_found, slice_item_found};
 ghost use Rattle.fr_model.specs.Places.{is_key};
@@ -16,9 +16,10 @@ use fr_plan::{NodeId, TypePlanCore, law_plan_lookups};
 use fr_shape::{Ledger, OutOfMemory, ReflectErrorKind};
 
 /// The plan's node of the place on top of the stack.
-fn node_here(_plan: &TypePlanCore, frames: &Frames) -> NodeId
-    requires { IsAtWork _plan.now frames.now }
-    ensures { result ≡ node_here _plan.now frames.now.slots frames.now.stack }
+fn node_here(frames: &Frames) -> NodeId
+    requires { AreOpened frames.now }
+    ensures { (plan : Plan) → AreOpen plan frames.now
+        → result ≡ node_here plan frames.now.slots frames.now.stack }
 {
     let Some(top) = frames.stack.top() else {
         unreachable!()
@@ -92,13 +93,13 @@ pub fn enter(
     ensures tokens { Conserved (held_in frames.old) ledger.old (held_in frames.new) ledger.new }
 {
     law_plan_lookups();
-    let above = node_here(plan, frames);
+    let above = node_here(frames);
     let table = frames.table;
     let (slots, stack, store) = (&mut frames.slots, &mut frames.stack, &mut frames.store);
     match way {
         Way::Child(i, opening) => {
             let node = child_node(plan, above, &opening.tracker, i);
-            stack.begin(slots, plan, opening.tracker, opening.count)?;
+            stack.begin(slots, opening.tracker, opening.count)?;
             stack.enter(slots, store, table, plan, node, ChildWay::Child(i as u32))
         }
         Way::Item(opening) => {
@@ -123,7 +124,7 @@ pub fn enter(
         Way::Entry(key) => stack.enter(slots, store, table, plan, above, ChildWay::Entry(key)),
         Way::Content(tracker, beginning) => {
             let node = child_node(plan, above, &tracker, 0);
-            begin_so(plan, frames, beginning, tracker, 1, ledger)?;
+            begin_so(frames, beginning, tracker, 1, ledger)?;
             let (slots, store) = (&mut frames.slots, &mut frames.store);
             frames
                 .stack

@@ -11,7 +11,7 @@ use crate::dynamic_places::{Parts, is_dynamic};
 use crate::moves::{Change, Move, Way};
 use crate::work::Work;
 use crate::{Partial, ReflectError};
-use fr_frame::{ContentKind, EntriesKind, ItemsKind, Piece, Tracker};
+use fr_frame::{ContentKind, EntriesKind, ItemsKind, PartialValue, Tracker};
 use fr_shape::{
     Def, Hooks, InitCall, Ledger, Operation, ReflectErrorKind, Shape, ShapeId, ShapeTable,
     TrackerKind,
@@ -82,16 +82,23 @@ fn is_list_like(tracker: &Tracker) -> bool
 }
 
 /// Why no list can be begun at a place of this shape at which this stands, if none can.
-fn init_list_refusal(table: &ShapeTable, shape: ShapeId, piece: &Piece) -> Option<ReflectErrorKind>
+fn init_list_refusal(
+    table: &ShapeTable,
+    shape: ShapeId,
+    partial: &PartialValue,
+) -> Option<ReflectErrorKind>
     ensures refused { result
-        ≡ init_list_refusal shape.0 (def_of table.now shape.0) (own_tree (body_of piece.now)) }
+        ≡ init_list_refusal shape.0 (def_of table.now shape.0) (own_tree (body_of partial.now)) }
     ensures named { IfSome result (λ kind. kind ≢ Kind.OutOfMemory) }
 {
-    match piece {
-        Piece::Begun(tracker, _) if is_list_like(tracker) => None,
-        Piece::Begun(tracker, _) => Some(unexpected(InitCall::List, tracker)),
-        Piece::Entered => at_shape(shape, unless_list(table, shape, Operation::InitListOfOther)),
-        Piece::Whole(_) => {
+    match partial {
+        PartialValue::Begun(tracker, _) if is_list_like(tracker) => None,
+        PartialValue::Begun(tracker, _) => Some(unexpected(InitCall::List, tracker)),
+        PartialValue::Entered => at_shape(
+            shape,
+            unless_list(table, shape, Operation::InitListOfOther),
+        ),
+        PartialValue::Whole(_) => {
             at_shape(
                 shape,
                 unless_list(table, shape, Operation::InitListOfWholeOther),
@@ -118,13 +125,17 @@ fn unbegun_refusal(table: &ShapeTable, shape: ShapeId) -> Operation
 /// As what a place is begun that takes one more item, and how many it has, or why it takes none.
 #[tactic(auto, using(crate::proofs::LookLaws::begun_items))]
 #[inline]
-fn item_opening(table: &ShapeTable, shape: ShapeId, piece: &Piece) -> Result<Opening, Operation>
+fn item_opening(
+    table: &ShapeTable,
+    shape: ShapeId,
+    partial: &PartialValue,
+) -> Result<Opening, Operation>
     ensures items { IfOk result (λ opening.
-        HasItems (as_tracker opening.tracker) opening.count (own_tree (body_of piece.now))) }
+        HasItems (as_tracker opening.tracker) opening.count (own_tree (body_of partial.now))) }
     ensures refused { result_err result
-        ≡ item_refusal (def_of table.now shape.0) (own_tree (body_of piece.now)) }
+        ≡ item_refusal (def_of table.now shape.0) (own_tree (body_of partial.now)) }
 {
-    let Piece::Begun(tracker, children) = piece else {
+    let PartialValue::Begun(tracker, children) = partial else {
         return Err(unbegun_refusal(table, shape));
     };
     let count = children.len();
@@ -151,8 +162,8 @@ impl<'t> Work<'t> {
             → NeedsNone (cursor_tree self.now.state) result }
     {
         self.law_sound();
-        let (table, shape, piece) = self.place();
-        match init_list_refusal(table, shape, piece) {
+        let (table, shape, partial) = self.place();
+        match init_list_refusal(table, shape, partial) {
             Some(kind) => Err(kind),
             None if is_dynamic(table, shape) => Ok(Move::Stay(Change::Gather(Parts::Elements))),
             None => {
@@ -167,8 +178,8 @@ impl<'t> Work<'t> {
     fn begin_list_item_move<'k>(&self) -> Result<Move<'k>, ReflectErrorKind>
         ensures { Decides self.now Call.BeginListItem result }
     {
-        let (table, shape, piece) = self.place();
-        match item_opening(table, shape, piece) {
+        let (table, shape, partial) = self.place();
+        match item_opening(table, shape, partial) {
             Ok(opening) => Ok(Move::Go(Way::Item(opening))),
             Err(operation) => Err(ReflectErrorKind::OperationFailed { shape, operation }),
         }

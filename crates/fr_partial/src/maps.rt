@@ -11,7 +11,7 @@ use crate::lists::{at_shape, unexpected};
 use crate::moves::{Change, Move, Way};
 use crate::work::Work;
 use crate::{Partial, ReflectError};
-use fr_frame::{Children, EntriesKind, ItemsKind, Piece, Tracker};
+use fr_frame::{Children, EntriesKind, ItemsKind, PartialValue, Tracker};
 use fr_shape::{
     Def, Hooks, InitCall, Ledger, Operation, ReflectErrorKind, Shape, ShapeId, ShapeTable,
 };
@@ -32,15 +32,19 @@ fn unless_map(table: &ShapeTable, shape: ShapeId, refusal: Operation) -> Option<
 }
 
 /// Why no map can be begun at a place of this shape at which this stands, if none can.
-fn init_map_refusal(table: &ShapeTable, shape: ShapeId, piece: &Piece) -> Option<ReflectErrorKind>
+fn init_map_refusal(
+    table: &ShapeTable,
+    shape: ShapeId,
+    partial: &PartialValue,
+) -> Option<ReflectErrorKind>
     ensures refused { result
-        ≡ init_map_refusal shape.0 (def_of table.now shape.0) (own_tree (body_of piece.now)) }
+        ≡ init_map_refusal shape.0 (def_of table.now shape.0) (own_tree (body_of partial.now)) }
     ensures named { IfSome result (λ kind. kind ≢ Kind.OutOfMemory) }
 {
-    match piece {
-        Piece::Begun(Tracker::Entries(_) | Tracker::Items(ItemsKind::Array), _) => None,
-        Piece::Begun(tracker, _) => Some(unexpected(InitCall::Map, tracker)),
-        Piece::Entered | Piece::Whole(_) => at_shape(
+    match partial {
+        PartialValue::Begun(Tracker::Entries(_) | Tracker::Items(ItemsKind::Array), _) => None,
+        PartialValue::Begun(tracker, _) => Some(unexpected(InitCall::Map, tracker)),
+        PartialValue::Entered | PartialValue::Whole(_) => at_shape(
             shape,
             unless_map(table, shape, Operation::InitMapOfOther),
         ),
@@ -66,14 +70,14 @@ fn lacks_last(children: &Children) -> bool
 /// begun.
 #[tactic(auto, using(crate::proofs::LookLaws::begun_items))]
 #[inline]
-fn key_opening(piece: &Piece) -> Result<Opening, Operation>
+fn key_opening(partial: &PartialValue) -> Result<Opening, Operation>
     ensures items { IfOk result (λ opening.
-        HasItems (as_tracker opening.tracker) opening.count (own_tree (body_of piece.now))) }
+        HasItems (as_tracker opening.tracker) opening.count (own_tree (body_of partial.now))) }
     ensures map { IfOk result (λ opening. is_map_tracker (as_tracker opening.tracker) ≡ true) }
     ensures refused { result_err result
-        ≡ key_refusal_by (own_tree (body_of piece.now)) (lacks_last (body_of piece.now)) }
+        ≡ key_refusal_by (own_tree (body_of partial.now)) (lacks_last (body_of partial.now)) }
 {
-    let Piece::Begun(made, children) = piece else {
+    let PartialValue::Begun(made, children) = partial else {
         return Err(Operation::KeyBeforeInitMap);
     };
     let count = children.len();
@@ -92,14 +96,15 @@ fn key_opening(piece: &Piece) -> Result<Opening, Operation>
 /// As what a begun map is entered at the value that its last entry lacks, and the number of that
 /// child, or why it can't be begun.
 #[inline]
-fn value_opening(piece: &Piece) -> Result<Opening, Operation>
+fn value_opening(partial: &PartialValue) -> Result<Opening, Operation>
     ensures items { IfOk result (λ opening.
-        HasItems (as_tracker opening.tracker) (suc opening.count) (own_tree (body_of piece.now))) }
+        HasItems (as_tracker opening.tracker) (suc opening.count) (own_tree
+        (body_of partial.now))) }
     ensures map { IfOk result (λ opening. is_map_tracker (as_tracker opening.tracker) ≡ true) }
     ensures refused { result_err result
-        ≡ value_refusal_by (own_tree (body_of piece.now)) (lacks_last (body_of piece.now)) }
+        ≡ value_refusal_by (own_tree (body_of partial.now)) (lacks_last (body_of partial.now)) }
 {
-    let Piece::Begun(made, children) = piece else {
+    let PartialValue::Begun(made, children) = partial else {
         return Err(Operation::ValueBeforeKey);
     };
     let Tracker::Entries(kind) = made else {
@@ -123,8 +128,8 @@ impl<'t> Work<'t> {
             → NeedsNone (cursor_tree self.now.state) result }
     {
         self.law_sound();
-        let (table, shape, piece) = self.place();
-        match init_map_refusal(table, shape, piece) {
+        let (table, shape, partial) = self.place();
+        match init_map_refusal(table, shape, partial) {
             Some(kind) => Err(kind),
             None if is_dynamic(table, shape) => Ok(Move::Stay(Change::Gather(Parts::Entries))),
             None => {
@@ -139,8 +144,8 @@ impl<'t> Work<'t> {
     fn begin_key_move<'k>(&self) -> Result<Move<'k>, ReflectErrorKind>
         ensures { Decides self.now Call.BeginKey result }
     {
-        let (_, shape, piece) = self.place();
-        match key_opening(piece) {
+        let (_, shape, partial) = self.place();
+        match key_opening(partial) {
             Ok(opening) => Ok(Move::Go(Way::Key(opening))),
             Err(operation) => Err(ReflectErrorKind::OperationFailed { shape, operation }),
         }
@@ -151,8 +156,8 @@ impl<'t> Work<'t> {
     fn begin_value_move<'k>(&self) -> Result<Move<'k>, ReflectErrorKind>
         ensures { Decides self.now Call.BeginValue result }
     {
-        let (_, shape, piece) = self.place();
-        match value_opening(piece) {
+        let (_, shape, partial) = self.place();
+        match value_opening(partial) {
             Ok(opening) => Ok(Move::Go(Way::Value(opening))),
             Err(operation) => Err(ReflectErrorKind::OperationFailed { shape, operation }),
         }

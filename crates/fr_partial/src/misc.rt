@@ -22,8 +22,8 @@ impl<'t> Work<'t> {
             → takes_no_memory (cursor_tree self.now.state) ≡ true
             → NeedsNone (cursor_tree self.now.state) result }
     {
-        let (_, _, piece) = self.place();
-        if is_open_slice(piece) {
+        let (_, _, partial) = self.place();
+        if is_open_slice(partial) {
             return match self.mode() {
                 Mode::Strict => Ok(Move::Complete(Rules::Strict, Taker::Itself)),
                 Mode::Deferred(_) => Ok(Move::Stay(Change::CloseSlice)),

@@ -6,16 +6,16 @@ use crate::dynamic_places::is_dynamic;
 use crate::moves::{Move, Way};
 use crate::work::Work;
 use crate::{Partial, ReflectError};
-use fr_frame::{EntriesKind, Piece, Tracker};
+use fr_frame::{EntriesKind, PartialValue, Tracker};
 use fr_shape::{Hooks, Ledger, Operation, ReflectErrorKind, ShapeId, ShapeTable};
 
 /// Why no entry can be begun at a place of this shape at which this stands, if none can.
-fn entry_refusal(table: &ShapeTable, shape: ShapeId, piece: &Piece) -> Option<Operation>
+fn entry_refusal(table: &ShapeTable, shape: ShapeId, partial: &PartialValue) -> Option<Operation>
     ensures { result
-        ≡ entry_refusal (def_of table.now shape.0) (own_tree (body_of piece.now)) }
+        ≡ entry_refusal (def_of table.now shape.0) (own_tree (body_of partial.now)) }
 {
-    match (is_dynamic(table, shape), piece) {
-        (true, Piece::Begun(Tracker::Entries(EntriesKind::Object(_)), _)) => None,
+    match (is_dynamic(table, shape), partial) {
+        (true, PartialValue::Begun(Tracker::Entries(EntriesKind::Object(_)), _)) => None,
         (true, _) => Some(Operation::EntryBeforeInitMap),
         (false, _) => Some(Operation::EntryOfOther),
     }
@@ -26,8 +26,8 @@ impl<'t> Work<'t> {
     fn begin_object_entry_move<'k>(&self, key: &'k str) -> Result<Move<'k>, ReflectErrorKind>
         ensures { Decides self.now (Call.BeginObjectEntry key.now) result }
     {
-        let (table, shape, piece) = self.place();
-        match entry_refusal(table, shape, piece) {
+        let (table, shape, partial) = self.place();
+        match entry_refusal(table, shape, partial) {
             None => Ok(Move::Go(Way::Entry(key))),
             Some(operation) => Err(ReflectErrorKind::OperationFailed { shape, operation }),
         }

@@ -6,17 +6,17 @@ ghost use Rattle.fr_frame.specs.Kids.{MayHave};
 use crate::admitting::Opening;
 use crate::placing::place_here;
 use crate::work::Frames;
-use fr_frame::Piece;
+use fr_frame::PartialValue;
 use fr_plan::TypePlanCore;
 use fr_shape::OutOfMemory;
 
 /// Whether the place is begun.
-fn is_begun(piece: &Piece) -> bool
-    ensures { result ≡ is_begun (own_tree (body_of piece.now)) }
+fn is_begun(partial: &PartialValue) -> bool
+    ensures { result ≡ is_begun (own_tree (body_of partial.now)) }
 {
-    match piece {
-        Piece::Begun(..) => true,
-        Piece::Entered | Piece::Whole(_) => false,
+    match partial {
+        PartialValue::Begun(..) => true,
+        PartialValue::Entered | PartialValue::Whole(_) => false,
     }
 }
 
@@ -30,7 +30,7 @@ pub fn open_here(
     requires at_work { IsAtWork plan.now frames.old }
     requires may_open { MayOpenAs (def_of frames.old.table.now (top_shape frames.old))
         (as_tracker opening.tracker) opening.count (top_tree frames.old) }
-    requires many { MayHave (as_tracker opening.tracker) opening.count }
+    requires may_have { MayHave (as_tracker opening.tracker) opening.count }
     requires base { base_of_tracker (as_tracker opening.tracker) ≡ 0 }
     ensures changed { OnOk result (Changed plan.now
         (opened (def_of frames.old.table.now (top_shape frames.old))) frames.old frames.new) }
@@ -43,6 +43,6 @@ pub fn open_here(
     } else {
         frames
             .stack
-            .begin(&mut frames.slots, plan, opening.tracker, opening.count)
+            .begin(&mut frames.slots, opening.tracker, opening.count)
     }
 }

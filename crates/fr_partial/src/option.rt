@@ -28,12 +28,12 @@ impl<'t> Work<'t> {
         ensures { Decides self.now Call.BeginSome result }
     {
         self.law_sound();
-        let (table, shape, piece) = self.place();
+        let (table, shape, partial) = self.place();
         let Some(content) = content_of(table, shape) else {
             let (expected, actual) = (Expected::Option, shape);
             return Err(ReflectErrorKind::WasNotA { expected, actual });
         };
-        let beginning = beginning_of_some(table, content, self.mode(), piece);
+        let beginning = beginning_of_some(table, content, self.mode(), partial);
         Ok(Move::Go(Way::Content(Tracker::Content(ContentKind::Some), beginning)))
     }
 }

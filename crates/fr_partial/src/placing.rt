@@ -3,16 +3,16 @@ ghost use Rattle.std.specs.Prelude.{◌≡◌};
 ghost use Rattle.fr_partial.specs.Common.{IsAtWork, LooksLike, body_of, is_map, lacks_last, lacks_value, own_tree, top_shape, top_tree, true};
 
 use crate::work::Frames;
-use fr_frame::Piece;
+use fr_frame::PartialValue;
 use fr_plan::{TypePlanCore, law_plan_lookups};
 use fr_shape::ShapeId;
 
 /// The shape of the place on top of the stack, as the plan has it, and what was put there, in which
 /// a child that is stored isn't told, but of a map whether the last one is there.
-pub fn place_here<'a>(plan: &TypePlanCore, frames: &'a Frames) -> (ShapeId, &'a Piece)
+pub fn place_here<'a>(plan: &TypePlanCore, frames: &'a Frames) -> (ShapeId, &'a PartialValue)
     requires { IsAtWork plan.now frames.now }
     ensures shape { result.0.0 ≡ top_shape frames.now }
-    ensures piece { LooksLike (own_tree (body_of result.1.now)) (top_tree frames.now) }
+    ensures partial { LooksLike (own_tree (body_of result.1.now)) (top_tree frames.now) }
     ensures last { is_map (top_tree frames.now) ≡ true
         → lacks_last (body_of result.1.now) ≡ lacks_value (top_tree frames.now) }
 {
@@ -21,7 +21,7 @@ pub fn place_here<'a>(plan: &TypePlanCore, frames: &'a Frames) -> (ShapeId, &'a 
         unreachable!()
     };
     match frames.slots.place(top) {
-        Some(place) => (plan.node(place.node).shape, &place.piece),
+        Some(place) => (plan.node(place.node).shape, &place.partial),
         None => unreachable!(),
     }
 }

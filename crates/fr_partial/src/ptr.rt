@@ -132,14 +132,18 @@ impl<'t> Work<'t> {
         ensures { Decides self.now Call.BeginSmartPtr result }
     {
         self.law_sound();
-        let (table, shape, piece) = self.place();
+        let (table, shape, partial) = self.place();
         if let Some(operation) = pointer_refusal(table, shape) {
             return Err(ReflectErrorKind::OperationFailed { shape, operation });
         }
         if points_to_slice(table, shape) {
             return Ok(Move::Stay(Change::OpenSlice));
         }
-        let beginning = beginning_in(self.mode(), &Tracker::Content(ContentKind::Pointer), piece);
+        let beginning = beginning_in(
+            self.mode(),
+            &Tracker::Content(ContentKind::Pointer),
+            partial,
+        );
         Ok(Move::Go(Way::Content(Tracker::Content(ContentKind::Pointer), beginning)))
     }
 

@@ -30,12 +30,12 @@ impl<'t> Work<'t> {
         ensures { Decides self.now (side_call (as_tracker side)) result }
     {
         self.law_sound();
-        let (table, actual, piece) = self.place();
+        let (table, actual, partial) = self.place();
         if !is_result(table, actual) {
             let expected = Expected::Result;
             return Err(ReflectErrorKind::WasNotA { expected, actual });
         }
-        let beginning = beginning_in(self.mode(), &side, piece);
+        let beginning = beginning_in(self.mode(), &side, partial);
         Ok(Move::Go(Way::Content(side, beginning)))
     }
 }

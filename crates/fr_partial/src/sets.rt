@@ -10,7 +10,7 @@ use crate::lists::{at_shape, unexpected};
 use crate::moves::{Change, Move, Way};
 use crate::work::Work;
 use crate::{Partial, ReflectError};
-use fr_frame::{ItemsKind, Piece, Tracker};
+use fr_frame::{ItemsKind, PartialValue, Tracker};
 use fr_shape::{
     Def, Hooks, InitCall, Ledger, Operation, ReflectErrorKind, Shape, ShapeId, ShapeTable,
 };
@@ -38,15 +38,19 @@ fn unless_set(table: &ShapeTable, shape: ShapeId, refusal: Operation) -> Option<
 }
 
 /// Why no set can be begun at a place of this shape at which this stands, if none can.
-fn init_set_refusal(table: &ShapeTable, shape: ShapeId, piece: &Piece) -> Option<ReflectErrorKind>
+fn init_set_refusal(
+    table: &ShapeTable,
+    shape: ShapeId,
+    partial: &PartialValue,
+) -> Option<ReflectErrorKind>
     ensures refused { result
-        ≡ init_set_refusal shape.0 (def_of table.now shape.0) (own_tree (body_of piece.now)) }
+        ≡ init_set_refusal shape.0 (def_of table.now shape.0) (own_tree (body_of partial.now)) }
     ensures named { IfSome result (λ kind. kind ≢ Kind.OutOfMemory) }
 {
-    match piece {
-        Piece::Begun(Tracker::Items(ItemsKind::Set), _) => None,
-        Piece::Begun(tracker, _) => Some(unexpected(InitCall::Set, tracker)),
-        Piece::Entered | Piece::Whole(_) => at_shape(
+    match partial {
+        PartialValue::Begun(Tracker::Items(ItemsKind::Set), _) => None,
+        PartialValue::Begun(tracker, _) => Some(unexpected(InitCall::Set, tracker)),
+        PartialValue::Entered | PartialValue::Whole(_) => at_shape(
             shape,
             unless_set(table, shape, Operation::InitSetOfOther),
         ),
@@ -57,17 +61,21 @@ fn init_set_refusal(table: &ShapeTable, shape: ShapeId, piece: &Piece) -> Option
 /// none.
 #[tactic(auto, using(crate::proofs::LookLaws::begun_items))]
 #[inline]
-fn set_item_opening(table: &ShapeTable, shape: ShapeId, piece: &Piece) -> Result<Opening, Operation>
+fn set_item_opening(
+    table: &ShapeTable,
+    shape: ShapeId,
+    partial: &PartialValue,
+) -> Result<Opening, Operation>
     ensures items { IfOk result (λ opening.
-        HasItems (as_tracker opening.tracker) opening.count (own_tree (body_of piece.now))) }
+        HasItems (as_tracker opening.tracker) opening.count (own_tree (body_of partial.now))) }
     ensures grows { IfOk result (λ opening. TakesItems (as_tracker opening.tracker)) }
     ensures refused { result_err result
-        ≡ set_item_refusal (def_of table.now shape.0) (own_tree (body_of piece.now)) }
+        ≡ set_item_refusal (def_of table.now shape.0) (own_tree (body_of partial.now)) }
 {
     if let Some(operation) = unless_set(table, shape, Operation::SetItemOfOther) {
         return Err(operation);
     }
-    let Piece::Begun(made, children) = piece else {
+    let PartialValue::Begun(made, children) = partial else {
         return Err(Operation::SetItemBeforeInitSet);
     };
     match made {
@@ -87,8 +95,8 @@ impl<'t> Work<'t> {
             → NeedsNone (cursor_tree self.now.state) result }
     {
         self.law_sound();
-        let (table, shape, piece) = self.place();
-        match init_set_refusal(table, shape, piece) {
+        let (table, shape, partial) = self.place();
+        match init_set_refusal(table, shape, partial) {
             Some(kind) => Err(kind),
             None => {
                 let (tracker, count) = (Tracker::Items(ItemsKind::Set), 0);
@@ -102,8 +110,8 @@ impl<'t> Work<'t> {
     fn begin_set_item_move<'k>(&self) -> Result<Move<'k>, ReflectErrorKind>
         ensures { Decides self.now Call.BeginSetItem result }
     {
-        let (table, shape, piece) = self.place();
-        match set_item_opening(table, shape, piece) {
+        let (table, shape, partial) = self.place();
+        match set_item_opening(table, shape, partial) {
             Ok(opening) => Ok(Move::Go(Way::Item(opening))),
             Err(operation) => Err(ReflectErrorKind::OperationFailed { shape, operation }),
         }

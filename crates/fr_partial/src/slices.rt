@@ -1,33 +1,36 @@
 //! Pointers to slices: opened for items, and closed again.
 ghost use Rattle.std.specs.Prelude.{◌≡◌};
-ghost use Rattle.fr_partial.specs.Common.{Changed, Conserved, IsAtWork, OnOk, Room, SameTokens, body_of, closed_slice, held_in, is_open_slice, is_some, kept_slice, mode_of, own_tree, slice_anew, top_tree, true, unwrap_or};
+ghost use Rattle.fr_partial.specs.Common.{AreOpen, AreOpened, Plan, Changed, Conserved, IsAtWork, OnOk, Room, SameTokens, body_of, closed_slice, held_in, is_open_slice, is_some, kept_slice, mode_of, own_tree, slice_anew, top_tree, true, unwrap_or};
 
 use crate::beginning::{Beginning, begin_so};
 use crate::mode::Mode;
 use crate::placing::place_here;
 use crate::work::Frames;
-use fr_frame::{ItemsKind, Piece, Tracker};
+use fr_frame::{ItemsKind, PartialValue, Tracker};
 use fr_plan::TypePlanCore;
 use fr_shape::{Ledger, OutOfMemory};
 
 /// Whether the place is a pointer to a slice that is open for items.
 #[inline]
-pub fn is_open_slice(piece: &Piece) -> bool
-    ensures { result ≡ is_open_slice (own_tree (body_of piece.now)) }
+pub fn is_open_slice(partial: &PartialValue) -> bool
+    ensures { result ≡ is_open_slice (own_tree (body_of partial.now)) }
 {
-    matches!(piece, Piece::Begun(Tracker::Items(ItemsKind::Slice), _))
+    matches!(
+        partial,
+        PartialValue::Begun(Tracker::Items(ItemsKind::Slice), _)
+    )
 }
 
 /// Whether a pointer to a slice keeps its items where it is opened: in deferred mode one that is
 /// begun, open or closed.
-fn keeps_items(mode: Mode, piece: &Piece) -> bool
-    ensures { result ≡ is_some (kept_slice (mode_of mode) (own_tree (body_of piece.now))) }
+fn keeps_items(mode: Mode, partial: &PartialValue) -> bool
+    ensures { result ≡ is_some (kept_slice (mode_of mode) (own_tree (body_of partial.now))) }
 {
     match mode {
         Mode::Strict => false,
         Mode::Deferred(_) => matches!(
-            piece,
-            Piece::Begun(Tracker::Items(ItemsKind::Slice | ItemsKind::ClosedSlice), _)
+            partial,
+            PartialValue::Begun(Tracker::Items(ItemsKind::Slice | ItemsKind::ClosedSlice), _)
         ),
     }
 }
@@ -50,11 +53,10 @@ pub fn begin_slice(
     if kept {
         frames
             .stack
-            .reform(&mut frames.slots, plan, Tracker::Items(ItemsKind::Slice));
+            .reform(&mut frames.slots, Tracker::Items(ItemsKind::Slice));
         Ok(())
     } else {
         begin_so(
-            plan,
             frames,
             Beginning::Anew,
             Tracker::Items(ItemsKind::Slice),
@@ -66,15 +68,14 @@ pub fn begin_slice(
 
 /// Closes the open pointer to a slice on top for items; those that it has stay as they are. Takes
 /// no memory.
-pub fn close_slice(plan: &TypePlanCore, frames: &mut Frames)
-    requires at_work { IsAtWork plan.now frames.old }
+pub fn close_slice(frames: &mut Frames)
+    requires are_open { AreOpened frames.old }
     requires open_slice { is_open_slice (top_tree frames.old) ≡ true }
-    ensures changed { Changed plan.now closed_slice frames.old frames.new }
+    ensures changed { (plan : Plan) → AreOpen plan frames.old
+        → Changed plan closed_slice frames.old frames.new }
     ensures tokens { SameTokens frames.old.slots frames.new.slots }
 {
-    frames.stack.reform(
-        &mut frames.slots,
-        plan,
-        Tracker::Items(ItemsKind::ClosedSlice),
-    );
+    frames
+        .stack
+        .reform(&mut frames.slots, Tracker::Items(ItemsKind::ClosedSlice));
 }

@@ -14,7 +14,7 @@ use fr_frame::{FrameOwner, Slots};
 use fr_model::law_well;
 use fr_path::Path;
 use fr_plan::{TypePlanCore, law_first_refusal, law_plan_lookups, law_plan_paths};
-use fr_shape::{AllocError, Def, Hooks, OutOfMemory, PlanError, PlanFault, ShapeId, ShapeTable};
+use fr_shape::{AllocError, Def, Hooks, PlanError, PlanFault, ShapeId, ShapeTable};
 use fr_store::{FrameStore, Stack};
 use std::alloc::Global;
 
@@ -33,26 +33,37 @@ fn is_sized(table: &ShapeTable, shape: ShapeId) -> bool
     }
 }
 
-/// The slot of a root at which nothing was put yet, and the stack of it alone.
+/// The slot of a root at which nothing was put yet, and the stack of it alone, unless the root is
+/// unsized.
 fn first_place(
     alloc: Global,
     table: &ShapeTable,
     plan: &TypePlanCore,
     root: ShapeId,
-) -> Result<(Slots, Stack), OutOfMemory>
+) -> Result<(Slots, Stack), PlanError>
     requires checked { IsChecked table.now }
     requires inside { IsIn table.now root.0 }
     requires planned { IsPlanOf table.now root plan.now }
     ensures open { IfOk result (λ both.
         IsOpenAt plan.now both.0 both.1 [] (fresh (def_of table.now root.0))) }
     ensures nothing { IfOk result (λ both. NothingStored both.0) }
+    ensures refused { RefusedWith (unsized_refusal table.now root.0) result }
 {
     law_plan_lookups();
-    let _root = root;
+    if !is_sized(table, root) {
+        return Err(PlanError::Alloc(AllocError {
+            shape: root,
+            operation: PlanFault::NotSized,
+        }));
+    }
     let mut slots = Slots::new(alloc);
     let mut stack = Stack::new(alloc);
-    let top = slots.enter(table, plan, plan.root_id(), FrameOwner::Root)?;
-    stack.push(top)?;
+    let Ok(top) = slots.enter(table, plan, plan.root_id(), FrameOwner::Root) else {
+        return Err(PlanError::OutOfMemory);
+    };
+    let Ok(()) = stack.push(top) else {
+        return Err(PlanError::OutOfMemory);
+    };
     Ok((slots, stack))
 }
 
@@ -177,14 +188,9 @@ impl<'t, H: Hooks> Partial<'t, H> {
         ensures refused { RefusedWith (unsized_refusal table.now root.0) result }
     {
         law_well();
-        if !is_sized(table, root) {
-            return Err(PlanError::Alloc(AllocError {
-                shape: root,
-                operation: PlanFault::NotSized,
-            }));
-        }
-        let Ok((slots, stack)) = first_place(alloc, table, plan.core(), root) else {
-            return Err(PlanError::OutOfMemory);
+        let (slots, stack) = match first_place(alloc, table, plan.core(), root) {
+            Ok(both) => both,
+            Err(refused) => return Err(refused),
         };
         let frames = Frames {
             table,

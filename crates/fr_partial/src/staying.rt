@@ -38,7 +38,7 @@ fn change_top(
     match change {
         Change::Put(value) => {
             let (slots, store) = (&mut frames.slots, &mut frames.store);
-            frames.stack.set(slots, store, plan, value, ledger);
+            frames.stack.set(slots, store, value, ledger);
             Ok(())
         }
         Change::PutChild(i, opening, value) => {
@@ -49,7 +49,7 @@ fn change_top(
         Change::Gather(parts) => begin_parts(plan, frames, parts, ledger),
         Change::OpenSlice => begin_slice(plan, frames, ledger),
         Change::CloseSlice => {
-            close_slice(plan, frames);
+            close_slice(frames);
             Ok(())
         }
     }

@@ -14,7 +14,7 @@ use crate::making::make;
 use crate::mode::Mode;
 use crate::moves::Move;
 use crate::placing::place_here;
-use fr_frame::{Piece, Slots};
+use fr_frame::{PartialValue, Slots};
 use fr_model::law_paths;
 use fr_path::Path;
 use fr_shape::{Hooks, Ledger, ReflectErrorKind, ShapeId, ShapeTable};
@@ -153,13 +153,13 @@ impl<'t> Work<'t> {
     /// The table, the shape of the place at which the builder works, and what was put there, in
     /// which a child that is stored isn't told, but of a map whether the last one is there.
     #[inline]
-    pub fn place(&self) -> (&ShapeTable, ShapeId, &Piece)
+    pub fn place(&self) -> (&ShapeTable, ShapeId, &PartialValue)
         ensures seen { Sees self.now result.0.now result.1 (own_tree (body_of result.2.now)) }
         ensures last { is_map (tree_at_site self.now) ≡ true
             → lacks_last (body_of result.2.now) ≡ lacks_value (tree_at_site self.now) }
     {
-        let (shape, piece) = place_here(self.parts.plan.core(), &self.parts.frames);
-        (self.parts.frames.table, shape, piece)
+        let (shape, partial) = place_here(self.parts.plan.core(), &self.parts.frames);
+        (self.parts.frames.table, shape, partial)
     }
 
     /// From now on places that are left stay as they are. Takes no memory.

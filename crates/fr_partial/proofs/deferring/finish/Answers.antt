@@ -47,5 +47,5 @@ returns-in-Err-clause-moved g c =
 
 pub returns-in-Err-clause-tokens : goal.returns-in-Err-clause-tokens
 returns-in-Err-clause-tokens g c =
-    Conserved_same _ _ _ _ _ _ (λ t. sym (slots_tokens _ _ _ c.requires.sound.at_work.ready.shown t))
+    Conserved_same _ _ _ _ _ _ (λ t. sym (slots_tokens c.requires.sound.at_work.ready.shown t))
     (λ t. sym (c.in-Err.ensures.emptied t)) (all_released _ _ _ c.in-Err.ensures.released)

@@ -4,8 +4,9 @@ use Rattle.fr_partial.proofs.HandingLaws.{not_handed, said_of_it}
 use Rattle.fr_partial.proofs.StateLaws.{open_then}
 use Rattle.fr_partial.proofs.ending.take_root.Goals as goal
 
-pub take_value-requires-clause-open : goal.take_value-requires-clause-open
-take_value-requires-clause-open g c = open_then c.in-Ok.ensures.completed.changed
+pub take_value-requires-clause-are_open : goal.take_value-requires-clause-are_open
+take_value-requires-clause-are_open g c =
+    record { plan = c.args.plan.now; are_open = open_then c.in-Ok.ensures.completed.changed }
 
 pub take_value-requires-clause-at_root : goal.take_value-requires-clause-at_root
 take_value-requires-clause-at_root g c = c.in-Ok.ensures.completed.changed.stands.cursor ∙ c.requires.at_root

@@ -7,7 +7,7 @@ use Rattle.fr_partial.proofs.ending.take_value.Goals as goal
 
 pub into_value-requires-clause-room : goal.into_value-requires-clause-room
 into_value-requires-clause-room c =
-    room_there c.args.frames.now c.requires.«open».shown c.requires.at_root c.requires.complete c.in-Some.top.0
+    room_there c.args.frames.now c.requires.are_open.are_open.shown c.requires.at_root c.requires.complete c.in-Some.top.0
     c.in-Some.ensures.last c.args.ledger.now c.requires.room
 
 pub returns-clause-value : goal.returns-clause-value
@@ -20,12 +20,12 @@ returns-clause-value c =
 pub returns-clause-conserved : goal.returns-clause-conserved
 returns-clause-conserved c =
     if_ok c.into_value.result (λ value kept.
-    kept_there c.args.frames.now c.requires.«open».shown c.requires.at_root c.requires.complete c.in-Some.top.0
+    kept_there c.args.frames.now c.requires.are_open.are_open.shown c.requires.at_root c.requires.complete c.in-Some.top.0
     c.in-Some.ensures.last c.into_value.new.slots (view value) c.args.ledger.now c.into_value.new.ledger
     c.into_value.ensures.tokens kept) c.into_value.ensures.conserved
 
 pub returns-clause-released : goal.returns-clause-released
 returns-clause-released c =
     on_err c.into_value.result
-    (rose_there c.args.frames.now c.requires.«open».shown c.requires.at_root c.requires.complete c.in-Some.top.0
+    (rose_there c.args.frames.now c.requires.are_open.are_open.shown c.requires.at_root c.requires.complete c.in-Some.top.0
     c.in-Some.ensures.last c.args.ledger.now c.into_value.new.ledger) c.into_value.ensures.released

@@ -14,6 +14,9 @@ use Rattle.fr_partial.proofs.field_defaults.put_in_child.Goals.{After-set}
 pub enter-requires-clause-may : goal.enter-requires-clause-may
 enter-requires-clause-may c = (c.requires.opening, c.requires.admitted)
 
+pub set-requires-clause-is_open : goal.set-requires-clause-is_open
+set-requires-clause-is_open c = record { plan = c.args.plan.now; is_open = c.in_ok-enter.ensures.entered.stands.open_still }
+
 pub set-requires-clause-room : goal.set-requires-clause-room
 set-requires-clause-room c =
     room_here _ _ _ _ c.in_ok-enter.ensures.entered.stands.open_still
@@ -31,12 +34,15 @@ now c = record c.enter.new.frames { slots = c.set.new.slots; store = c.set.new.s
 keeps : (c : After-set) → Conserved (held_in c.args.frames.now) c.args.ledger.now (held_in (now c)) c.set.new.ledger
 keeps c =
     kept_through _ _ _ _ _ _ c.enter.ensures.tokens
-    (kept_released c.in_ok-enter.ensures.entered.stands.open_still (λ old. whole (view c.args.value)) c.set.ensures.set
+    (kept_released c.in_ok-enter.ensures.entered.stands.open_still (λ old. whole (view c.args.value))
+    (c.set.ensures.set c.args.plan.now c.in_ok-enter.ensures.entered.stands.open_still)
     c.set.ensures.released (λ t. light_occurs (view c.args.value) t c.requires.light))
 
 -- the value is put at the child
 child_set : (c : After-set) → Changed c.args.plan.now (λ old. whole (view c.args.value)) c.enter.new.frames (now c)
-child_set c = became (open_then c.in_ok-enter.ensures.entered) c.set.ensures.kept c.set.ensures.marks c.set.ensures.set
+child_set c =
+    became (open_then c.in_ok-enter.ensures.entered) c.set.ensures.kept c.set.ensures.marks
+    (c.set.ensures.set c.args.plan.now c.in_ok-enter.ensures.entered.stands.open_still)
 
 -- which is to be put there at the place above
 is_set : (c : After-set) → Became c.args.plan.now (top_place c.args.frames.now ++ c.args.i ∷ [])
@@ -74,7 +80,7 @@ leave_whole-requires c =
       above_is = refl;
     } in
     record {
-      are_open = open_then set;
+      are_open = record { plan = c.args.plan.now; are_open = open_then set };
       below = ap is_root set.stands.cursor ∙ never_root place c.args.i;
       not_item =
           ap (λ (p : Place). takes_at_end (tree_at p (whole_tree (now at)))) (ap up set.stands.cursor ∙ up_append place c.args.i)
@@ -90,7 +96,7 @@ returns-clause-changed c =
     on_ok c.leave_whole.result (λ left. subst (λ (p : Place). Became c.args.plan.now p (change_at (top_place c.args.frames.now)
     (put_child (def_of c.args.frames.now.table.now (top_shape c.args.frames.now)) c.args.i (view c.args.value))
     (whole_tree c.args.frames.now)) c.args.frames.now c.leave_whole.new.frames)
-    (up_append (top_place c.args.frames.now) c.args.i) (became_after up (λ p t. t) (is_set at) left)) c.leave_whole.ensures.left
+    (up_append (top_place c.args.frames.now) c.args.i) (became_after up (λ p t. t) (is_set at) (left c.args.plan.now (open_then (is_set at))))) c.leave_whole.ensures.left
 
 pub returns-clause-tokens : goal.returns-clause-tokens
 returns-clause-tokens c =

@@ -22,8 +22,11 @@ goes c is = record {
   may = c.requires.may;
   is = is;
   above = c.node_here-above.result;
-  above_is = c.node_here-above.ensures;
+  above_is = c.node_here-above.ensures c.args.plan.now (are_open c.requires.at_work);
 }
+
+pub node_here-above-requires : goal.node_here-above-requires
+node_here-above-requires c = record { plan = c.args.plan.now; are_open = are_open c.requires.at_work }
 
 -- A field or an element.
 
@@ -31,7 +34,7 @@ pub begin-requires : goal.begin-requires
 begin-requires c =
     let way = goes (goal.at.begin-requires c).After-node_here-above c.in-Child.is in
     record {
-      is_open = c.requires.at_work.ready.shown;
+      is_open = record { plan = c.args.plan.now; is_open = c.requires.at_work.ready.shown };
       may_open = opens way;
       may_have = of_opening way (λ tracker. MayHave tracker c.in-Child.opening.count) tt tt (λ k. tt);
       base = of_opening way (λ tracker. base_of_tracker tracker ≡ 0) refl refl (λ k. refl);
@@ -39,7 +42,8 @@ begin-requires c =
 
 begun : (c : In_ok-begin-in-Child) → Changed c.args.plan.now (opened_as (as_tracker c.in-Child.opening.tracker) c.in-Child.opening.count)
     c.args.frames.now (record c.args.frames.now { slots = c.begin.new.slots })
-begun c = became_marked (are_open c.requires.at_work) c.begin.ensures.marks c.in_ok-begin-in-Child.ensures.begun
+begun c = became_marked (are_open c.requires.at_work) c.begin.ensures.marks
+    (c.in_ok-begin-in-Child.ensures.begun c.args.plan.now c.requires.at_work.ready.shown)
 
 pub enter-requires : goal.enter-requires
 enter-requires c =
@@ -153,7 +157,7 @@ enter-requires-in-Entry c =
       is_open = c.requires.at_work.ready.shown;
       kept = c.requires.at_work.kept;
       may = (is_object way, keys_are_apart way, keys_are_counted way);
-      node = c.node_here-above.ensures ∙ object_node c.args.plan.now _ _ _ (is_object way);
+      node = c.node_here-above.ensures c.args.plan.now (are_open c.requires.at_work) ∙ object_node c.args.plan.now _ _ _ (is_object way);
       planned = is_planned way refl;
     }
 
@@ -170,7 +174,7 @@ pub begin_so-requires : goal.begin_so-requires
 begin_so-requires c =
     let may = may_go (goes (goal.at.begin_so-requires c).After-node_here-above c.in-Content.is) in
     record {
-      at_work = c.requires.at_work;
+      are_open = record { plan = c.args.plan.now; are_open = are_open c.requires.at_work };
       may_have = may_have_one _ may.0;
       base = around_base _ may.0;
       parts = whole_some _ _ _ may.2;
@@ -181,7 +185,7 @@ pub enter-requires-in-Content : goal.enter-requires-in-Content
 enter-requires-in-Content c =
     let way = goes (goal.at.enter-requires-in-Content c).After-node_here-above c.in-Content.is in
     let may = may_go way in
-    let now = c.in_ok-begin_so-in-Content.ensures.changed in
+    let now = c.in_ok-begin_so-in-Content.ensures.changed c.args.plan.now (are_open c.requires.at_work) in
     let shown = c.requires.at_work.ready.shown in
     let has = has_then shown _ now _ _ (has_content _ _ _ may.2) in
     record {
@@ -196,7 +200,7 @@ enter-requires-in-Content c =
 
 pub returns-in_ok-begin_so-in-Content-clause-entered : goal.returns-in_ok-begin_so-in-Content-clause-entered
 returns-in_ok-begin_so-in-Content-clause-entered c =
-    let now = c.in_ok-begin_so-in-Content.ensures.changed in
+    let now = c.in_ok-begin_so-in-Content.ensures.changed c.args.plan.now (are_open c.requires.at_work) in
     on_ok c.enter-in-Content.result (λ done.
     went (goes (goal.at.returns-in_ok-begin_so-in-Content-clause-entered c).After-node_here-above c.in-Content.is)
     c.child_node-node-in-Content.ensures (went_after c.requires.at_work.ready.shown _ now _ _

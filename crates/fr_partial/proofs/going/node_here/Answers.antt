@@ -4,9 +4,9 @@ use Rattle.fr_partial.proofs.PlaceLaws.{none_found, found_is}
 use Rattle.fr_partial.proofs.going.node_here.Goals as goal
 
 pub unreachable-requires-in-None : goal.unreachable-requires-in-None
-unreachable-requires-in-None c = none_found _ _ _ c.requires.ready.shown _ c.in-Some.ensures.last c.in-None.ensures.place
+unreachable-requires-in-None c = none_found _ _ _ c.requires.are_open.shown _ c.in-Some.ensures.last c.in-None.ensures.place
 
 pub returns : goal.returns
-returns c =
+returns c plan open_now =
     ap (λ (found : Node). found.node)
-    (found_is _ _ _ c.requires.ready.shown _ c.in-Some.ensures.last c.in-Some-place.place.now c.in-Some-place.ensures.place)
+    (found_is _ _ _ open_now.shown _ c.in-Some.ensures.last c.in-Some-place.place.now c.in-Some-place.ensures.place)

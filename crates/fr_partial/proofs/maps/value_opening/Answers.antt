@@ -9,6 +9,6 @@ use Rattle.fr_partial.proofs.maps.value_opening.Goals as goal
 pub returns-in-Map-clause-items : goal.returns-in-Map-clause-items
 returns-in-Map-clause-items c =
     let some = ends_some c.in-Begun.children (sym c.if-lacks_last.ensures) in
-    subst (λ (made : Tracker). HasItems (as_tracker made) (suc (c.len-count.result - 1)) (own_tree (body_of c.args.piece.now)))
+    subst (λ (made : Tracker). HasItems (as_tracker made) (suc (c.len-count.result - 1)) (own_tree (body_of c.args.partial.now)))
     (c.in-Entries.is ∙ ap (λ (kind : EntriesKind). Tracker.Entries kind) c.in-Map.is)
     (begun_items _ c.in-Begun.made c.in-Begun.children _ c.in-Begun.is (omega (arith, some, c.len-count.ensures.count)))

@@ -19,16 +19,20 @@ begun_stays : (def : Def) (tree : Tree) → is_begun tree ≡ true → tree ≡ 
 begun_stays def (begun tracker ts) is = refl
 begun_stays def _ is = cc
 
+pub begin-requires-clause-is_open : goal.begin-requires-clause-is_open
+begin-requires-clause-is_open c = record { plan = c.args.plan.now; is_open = c.requires.at_work.ready.shown }
+
 pub begin-requires-clause-may_open : goal.begin-requires-clause-may_open
 begin-requires-clause-may_open c = may_open_here c.requires.at_work.ready.shown _ _ _ c.requires.may_open
 
 pub returns-then-begun-clause-changed : goal.returns-then-begun-clause-changed
 returns-then-begun-clause-changed c =
     unchanged_as (are_open c.requires.at_work) _
-    (begun_stays _ _ (sym (begun_alike _ _ c.place_here.ensures.piece) ∙ sym c.is_begun-begun.ensures ∙ c.if-begun.true))
+    (begun_stays _ _ (sym (begun_alike _ _ c.place_here.ensures.partial) ∙ sym c.is_begun-begun.ensures ∙ c.if-begun.true))
 
 pub returns-else-begun-clause-changed : goal.returns-else-begun-clause-changed
 returns-else-begun-clause-changed c =
     on_ok c.begin.result (λ begun. changed_as (opened_as (as_tracker c.args.opening.tracker) c.args.opening.count)
     (opened (def_of c.args.frames.now.table.now (top_shape c.args.frames.now))) (opened_alike _ _ _ _ c.requires.may_open)
-    (became_marked (are_open c.requires.at_work) c.begin.ensures.marks begun)) c.begin.ensures.begun
+    (became_marked (are_open c.requires.at_work) c.begin.ensures.marks
+    (begun c.args.plan.now c.requires.at_work.ready.shown))) c.begin.ensures.begun

@@ -17,5 +17,5 @@ returns c = record {
       found_shape c.law_plan_lookups.ensures.agree c.law_plan_lookups.ensures.paths _ _ _ _ _ c.requires.ready
       c.in-Some.ensures.last c.in-Some-place.place.now c.in-Some-place.ensures.place c.node.result.now c.node.ensures.node;
   last = lacks_found c.requires.ready.shown c.in-Some.ensures.last c.in-Some-place.place.now c.in-Some-place.ensures.place;
-  piece = looks_found c.requires.ready.shown c.in-Some.ensures.last c.in-Some-place.place.now c.in-Some-place.ensures.place;
+  partial = looks_found c.requires.ready.shown c.in-Some.ensures.last c.in-Some-place.place.now c.in-Some-place.ensures.place;
 }

@@ -11,16 +11,24 @@ use Rattle.fr_partial.proofs.staying.change_top.Goals.{Start}
 room : (c : Start) → Room (held_in c.args.frames.now) c.args.ledger.now
 room c = Room_left (held_in c.args.frames.now) (carried_by c.args.change) c.args.ledger.now c.requires.room
 
+pub set-requires-clause-is_open : goal.set-requires-clause-is_open
+set-requires-clause-is_open c = record { plan = c.args.plan.now; is_open = c.requires.at_work.ready.shown }
+
+pub close_slice-requires-clause-are_open : goal.close_slice-requires-clause-are_open
+close_slice-requires-clause-are_open c = record { plan = c.args.plan.now; are_open = are_open c.requires.at_work }
+
 pub set-requires-clause-room : goal.set-requires-clause-room
 set-requires-clause-room c = room_here _ _ _ _ c.requires.at_work.ready.shown (room (goal.at.set-requires-clause-room c).Start)
 
 pub returns-in-Put : goal.returns-in-Put
 returns-in-Put c = record {
   changed =
-      as_told c.in-Put.is (became (are_open c.requires.at_work) c.set.ensures.kept c.set.ensures.marks c.set.ensures.set);
+      as_told c.in-Put.is (became (are_open c.requires.at_work) c.set.ensures.kept c.set.ensures.marks
+      (c.set.ensures.set c.args.plan.now c.requires.at_work.ready.shown));
   memory = λ none. refl;
   tokens =
-      kept_changed c.requires.at_work.ready.shown (λ old. whole (view c.in-Put.value)) c.set.ensures.set c.set.ensures.released
+      kept_changed c.requires.at_work.ready.shown (λ old. whole (view c.in-Put.value))
+      (c.set.ensures.set c.args.plan.now c.requires.at_work.ready.shown) c.set.ensures.released
       (carried_by c.args.change) (λ t. sym (ap (λ (change : Change). carried_by change t) c.in-Put.is));
 }
 
@@ -45,7 +53,7 @@ returns-in-PutChild c = record {
 pub open_here-requires : goal.open_here-requires
 open_here-requires c =
     let may = may_be c.in-Open.is c.args.frames.now c.requires.may in
-    record { at_work = c.requires.at_work; may_open = may.0; many = may.1; base = may.2 }
+    record { at_work = c.requires.at_work; may_open = may.0; may_have = may.1; base = may.2 }
 
 pub returns-in-Open : goal.returns-in-Open
 returns-in-Open c = record {
@@ -93,7 +101,7 @@ close_slice-requires-clause-open_slice c = may_be c.in-CloseSlice.is c.args.fram
 
 pub returns-in-CloseSlice : goal.returns-in-CloseSlice
 returns-in-CloseSlice c = record {
-  changed = as_told c.in-CloseSlice.is c.close_slice.ensures.changed;
+  changed = as_told c.in-CloseSlice.is (c.close_slice.ensures.changed c.args.plan.now (are_open c.requires.at_work));
   memory = λ none. refl;
   tokens = none_carried c.in-CloseSlice.is (λ t. refl) (kept_same _ _ c.args.ledger.now c.close_slice.ensures.tokens);
 }

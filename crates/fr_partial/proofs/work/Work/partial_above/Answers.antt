@@ -3,8 +3,8 @@ use Rattle.fr_partial.specs.Common.{IsSound, Site, is_begun_dynamic, is_root, is
 use Rattle.fr_model.specs.Step.{is_dynamic_part, is_set_item}
 use Rattle.fr_partial.proofs.AboveLaws.{dynamic_outlined, never_free, never_root, set_outlined, told}
 use Rattle.fr_partial.proofs.PlaceLaws.{none_found}
-use Rattle.fr_partial.proofs.work.Work.piece_above.Goals as goal
-use Rattle.fr_partial.proofs.work.Work.piece_above.Goals.{After-deref}
+use Rattle.fr_partial.proofs.work.Work.partial_above.Goals as goal
+use Rattle.fr_partial.proofs.work.Work.partial_above.Goals.{After-deref}
 
 sound : (c : After-deref) → IsSound c.deref.result.now
 sound c = subst IsSound (sym c.deref.ensures) c.self.invariant
