@@ -13,7 +13,7 @@ ghost use Rattle.fr_frame.specs.Outlines.{is_list_body};
 
 use super::ledger;
 use super::validators::plan_of;
-use fr_frame::{ChildWay, FrameOwner, ItemsKind, Piece, SlotId, Slots, Taker, Tracker};
+use fr_frame::{ChildWay, FrameOwner, ItemsKind, PartialValue, SlotId, Slots, Taker, Tracker};
 use fr_plan::{NodeId, TypePlanCore};
 use fr_shape::{Def, Items, Ledger, ScalarKind, Shape, ShapeId, ShapeTable, Text, Value};
 use fr_store::FrameStore;
@@ -52,26 +52,32 @@ fn item_node(rt: &impl Abort, plan: &TypePlanCore) -> NodeId
 }
 
 /// Whether a place is just entered or holds a list, so that it can be begun as one.
-fn opens_as_list(piece: &Piece) -> bool
-    ensures opens { result ≡ true → MayOpen (as_items TreeItemsKind.List) (body_of piece.now) }
-    ensures plain { result ≡ true → is_list_body (body_of piece.now) ≡ false }
+fn opens_as_list(partial: &PartialValue) -> bool
+    ensures opens { result ≡ true → MayOpen (as_items TreeItemsKind.List) (body_of partial.now) }
+    ensures plain { result ≡ true → is_list_body (body_of partial.now) ≡ false }
 {
-    matches!(piece, Piece::Entered | Piece::Whole(Value::List(_)))
+    matches!(
+        partial,
+        PartialValue::Entered | PartialValue::Whole(Value::List(_))
+    )
 }
 
 /// Whether a place is begun as a list, which takes more items.
-fn takes_items(piece: &Piece) -> bool
-    ensures { result ≡ true → IsGrowing (body_of piece.now) }
+fn takes_items(partial: &PartialValue) -> bool
+    ensures { result ≡ true → IsGrowing (body_of partial.now) }
 {
-    matches!(piece, Piece::Begun(Tracker::Items(ItemsKind::List), _))
+    matches!(
+        partial,
+        PartialValue::Begun(Tracker::Items(ItemsKind::List), _)
+    )
 }
 
 /// Whether a place holds a value.
-fn is_whole(piece: &Piece) -> bool
-    ensures whole { result ≡ true → IsSome (value_of (body_of piece.now)) }
-    ensures plain { result ≡ true → is_list_body (body_of piece.now) ≡ false }
+fn is_whole(partial: &PartialValue) -> bool
+    ensures whole { result ≡ true → IsSome (value_of (body_of partial.now)) }
+    ensures plain { result ≡ true → is_list_body (body_of partial.now) ≡ false }
 {
-    matches!(piece, Piece::Whole(_))
+    matches!(partial, PartialValue::Whole(_))
 }
 
 /// Ends the test where no place is in the slot.
@@ -88,7 +94,7 @@ fn check_opens(rt: &impl Abort, slots: &Slots, id: SlotId)
     let Some(place) = slots.place(id) else {
         panic!(rt; "no place");
     };
-    assert!(rt; opens_as_list(&place.piece));
+    assert!(rt; opens_as_list(&place.partial));
 }
 
 /// Ends the test where the place in the slot takes no items.
@@ -98,7 +104,7 @@ fn check_takes_items(rt: &impl Abort, slots: &Slots, id: SlotId)
     let Some(place) = slots.place(id) else {
         panic!(rt; "no place");
     };
-    assert!(rt; takes_items(&place.piece));
+    assert!(rt; takes_items(&place.partial));
 }
 
 /// Ends the test where the place in the slot holds no value.
@@ -108,7 +114,7 @@ fn check_whole(rt: &impl Abort, slots: &Slots, id: SlotId)
     let Some(place) = slots.place(id) else {
         panic!(rt; "no place");
     };
-    assert!(rt; is_whole(&place.piece));
+    assert!(rt; is_whole(&place.partial));
 }
 
 /// Ends the test where the owner of the place in the slot doesn't have it there.

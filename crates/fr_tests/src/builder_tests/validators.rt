@@ -5,7 +5,7 @@ ghost use Rattle.fr_shape.specs.Fills.{is_empty_struct};
 ghost use Rattle.fr_shape.specs.Look.{def_of};
 ghost use Rattle.fr_frame.specs.Completing.{shape_of, IsPlanFor};
 
-use fr_frame::{FrameOwner, Piece, Slots, Tracker};
+use fr_frame::{FrameOwner, PartialValue, Slots, Tracker};
 use fr_plan::{NodeId, TypePlanCore};
 use fr_shape::{
     Def, DefaultSource, EnumDef, EnumRepr, Field, Items, NoHooks, PlanError, ReflectErrorKind,
@@ -79,7 +79,10 @@ fn completed(
     };
     let result = id.complete_by_defaults(&mut slots, &table, &plan, &NoHooks);
     let place = slots.place(id).expect(rt, "no place");
-    let begun = matches!(&place.piece, Piece::Begun(Tracker::Fields(None), _));
+    let begun = matches!(
+        &place.partial,
+        PartialValue::Begun(Tracker::Fields(None), _)
+    );
     (result, begun)
 }
 

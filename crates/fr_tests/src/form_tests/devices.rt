@@ -1,4 +1,4 @@
-//! Devices that are read and written: in pieces, in whole, and failing in mid-stream.
+//! Devices that are read and written: in partial values, in whole, and failing in mid-stream.
 use fr_doc::{
     CleanSink, CleanSource, InputFault, MemSink, MemSource, ReaderSource, WriterSink, read_input,
     write_report,
