@@ -17,6 +17,3 @@ pub use bit_sets::ISet;
 pub use indices::{Idx, SliceRange};
 pub use refusals::{NotPushed, OutOfMemory};
 pub use ropes::{ListRope, RopeItems, RopeIter};
-
-#[cfg(test)]
-mod tests;

@@ -9,8 +9,6 @@ mod path_steps;
 mod path_text;
 mod paths;
 mod places;
-#[cfg(test)]
-mod tests;
 
 pub use laws::{law_longer_path_first, law_pop_undoes_push, law_walk_order};
 pub use path_steps::PathStep;

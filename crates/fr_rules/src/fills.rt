@@ -7,9 +7,6 @@ ghost use Rattle.fr_rules.specs.FillRules.{told_strict, told_deferred, template_
 
 use fr_shape::{Def, DefaultSource, Field, FieldRef, ShapeId, ShapeTable, StructKind, Template};
 
-#[cfg(test)]
-mod tests;
-
 /// What a strict completion does with a hole.
 #[derive(Clone, Copy, PartialEq, Eq)]
 pub enum FillRule {

@@ -10,10 +10,6 @@ mod messages;
 mod numbers;
 mod pools;
 mod prefixes;
-#[cfg(test)]
-mod table_tests;
-#[cfg(test)]
-mod tests;
 mod validators;
 mod variant_lookups;
 

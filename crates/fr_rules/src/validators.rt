@@ -9,9 +9,6 @@ use crate::numbers::{Number, number_in};
 use fr_shape::{FieldRef, HookId, Hooks, OutOfMemory, ReflectErrorKind, ScalarKind, Text, Value};
 use std::alloc::Global;
 
-#[cfg(test)]
-mod tests;
-
 /// A validator of a field, ready to be run.
 #[derive(Drop)]
 pub struct PrecomputedValidator {
