@@ -1,15 +1,14 @@
 -- What a place comes to, and its tokens.
 use Rattle.std.proofs.Common.{◌≡◌, ℕ, zero, suc, ◌+◌, Bool, true, false, List, [], ◌∷◌, length, replicate, option_map, Option, Some, None, IsSome, refl, sym, ◌∙◌, ap, arith, if◌then◌else◌}
-use Rattle.fr_frame.specs.Common.{Body, Cell, Conserved, ContentKind, Def, Entries, EntriesKind, HasAllChildren, IfSome, IsFullAs, ItemsKind, Tracker, Val, Vals, Value, absent, as_content, as_elements, as_entries, as_fields, as_items, begun_body, body_occurs, cells_occur, cells_of_vals, dyn, element_vals, entered_body, entries_occur, entry, first, given, in_turn, made, map_of, member_vals, no_entries, no_vals, occurs, placed, product, vals_occur, vals_view, value_of, values_of, whole_body}
+use Rattle.fr_frame.specs.Common.{Body, Cell, Conserved, ContentKind, Def, HasAllChildren, IfSome, IsFullAs, ItemsKind, Tracker, Val, Vals, Value, absent, as_content, as_elements, as_entries, as_fields, as_items, begun_body, cells_occur, cells_of_vals, entered_body, first, given, made, no_vals, occurs, placed, vals_occur, vals_view, value_of, values_of, whole_body}
 use Rattle.fr_shape.specs.declared.shape.ShapeId.{ShapeId}
-use Rattle.fr_shape.specs.Val.{Dynamics, Members, dyn_array, dyn_object, no_dynamics, first_dynamic, no_members, member, list_of, set_of, some}
 use Rattle.fr_model.specs.Complete.{value_as}
 use Rattle.fr_model.specs.Places.{vals_nth}
 use Rattle.fr_model.specs.PartLaws.{parts_hold}
 use Rattle.fr_model.specs.Step.{parts_as}
 use Rattle.fr_model.specs.Well.{PointsTo}
 use Rattle.fr_frame.specs.Bodies.{boxes, can_make, gathers, is_around, is_one}
-use Rattle.fr_frame.proofs.CellLaws.{values_occur}
+use Rattle.fr_values.specs.CellLaws.{values_occur}
 
 -- a place with a value lacks no child
 pub value_has_all : (body : Body) → IsSome (value_of body) → HasAllChildren body

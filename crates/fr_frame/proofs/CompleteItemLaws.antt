@@ -6,10 +6,11 @@ use Rattle.fr_frame.specs.Items.{seen_from}
 use Rattle.fr_frame.specs.RawItems.{IsKeptItem, IsListed}
 use Rattle.fr_frame.specs.declared.places.Taker.{Taker}
 use Rattle.fr_frame.proofs.AddItemLaws.{seen_kept}
-use Rattle.fr_frame.proofs.CellLaws.{occur_set as cells_set_occur}
+use Rattle.fr_values.specs.CellLaws.{occur_set as cells_set_occur}
 use Rattle.fr_frame.proofs.DrainLaws.{item_held, other_item, other_list}
 use Rattle.fr_frame.proofs.HandLaws.{no_child, relinked, so_of}
-use Rattle.fr_frame.proofs.HeapLaws.{changed, is_set, number_cases, occur_set, read, set_gets, set_keeps, shown_is, shows_set, with_body_twice}
+use Rattle.fr_frame.proofs.HeapLaws.{changed, occur_set, shown_is, shows_set, with_body_twice}
+use Rattle.fr_values.specs.SliceLaws.{is_set, number_cases, read, set_gets, set_keeps}
 use Rattle.std.proofs.lemmas.List.{set_comm}
 use Rattle.std.proofs.lemmas.Option.{slice_get_within}
 use Rattle.fr_frame.proofs.PlaceLaws.{of_node}

@@ -2,7 +2,7 @@
 use Rattle.std.proofs.Common.{◌≡◌, ℕ, ◌+◌, List, [], ◌∷◌, ◌++◌, Option, Some, None, option_map, refl, sym, ◌∙◌, ap}
 use Rattle.fr_frame.specs.Common.{Body, Cell, Def, Err, FrameOwner, Heap, Node, NodeId, Ok, OnErr, OnOk, Result, Shows, Slot, Val, absent, cell_occurs, cells_occur, depth_below, false, given, held_by, links, placed, whole_body, with_entered, with_slot}
 use Rattle.fr_frame.specs.declared.places.Growth.{Growth}
-use Rattle.fr_frame.specs.Cells.{held_value}
+use Rattle.fr_values.specs.Cells.{held_value}
 use Rattle.fr_frame.specs.Bodies.{fresh_body, taken_over}
 use Rattle.fr_frame.specs.Growing.{grown, grown_above}
 use Rattle.fr_frame.specs.Heap.{depth_above}

@@ -5,9 +5,10 @@ use Rattle.fr_frame.specs.Bodies.{can_make, unlinked_by}
 use Rattle.fr_frame.specs.Handing.{MayTake, handed, unhanded, IsHanded, IsMadeWhole, IsTakenWhole, IsWhole}
 use Rattle.fr_frame.specs.Heap.{ends, IsItemOf}
 use Rattle.fr_frame.specs.declared.places.Taker.{Taker}
-use Rattle.fr_frame.proofs.HeapLaws.{changed, same_number, set_gets, shown_is, slot_twice, with_body_twice, with_here, with_other}
+use Rattle.fr_frame.proofs.HeapLaws.{changed, shown_is, slot_twice, with_body_twice, with_here, with_other}
+use Rattle.fr_values.specs.SliceLaws.{same_number, set_gets}
 use Rattle.fr_frame.proofs.PlaceLaws.{becomes, found_so, in_use_so, of_node, with_partial}
-use Rattle.fr_frame.proofs.CellLaws.{none_more}
+use Rattle.fr_values.specs.CellLaws.{none_more}
 use Rattle.std.proofs.lemmas.List.{set-set}
 use Rattle.std.proofs.lemmas.Option.{same_Some}
 

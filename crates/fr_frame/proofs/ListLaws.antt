@@ -1,11 +1,11 @@
 -- An item that is entered into a list: it gets its room and its slot at once.
-use Rattle.std.proofs.Common.{◌≡◌, ℕ, Bool, true, false, List, [], ◌∷◌, ◌++◌, length, Option, Some, None, IsSomeAnd, slice_get, set, option_map, refl, sym, ◌∙◌, ap, subst, if◌then◌else◌}
+use Rattle.std.proofs.Common.{◌≡◌, ℕ, Bool, true, false, List, [], ◌∷◌, ◌++◌, length, Option, Some, None, IsSomeAnd, slice_get, option_map, refl, sym, ◌∙◌, ap, subst, if◌then◌else◌}
 use Rattle.std.proofs.lemmas.List.{set_at}
 use Rattle.fr_frame.specs.Common.{Body, Cell, Def, FrameOwner, Heap, Node, NodeId, Plan, SlotId, Table, TypePlanNode, absent, added, begun_body, body_occurs, cell_at, count_cells, def_of, entered_body, held_by, is_list_body, linked, links, no_vals, option_and_then, placed, product, shape_of, unwrap_or, whole_body, with_body, with_placed, with_slot}
 use Rattle.fr_shape.specs.Fills.{is_empty_struct}
 use Rattle.fr_plan.specs.Lookups.{node_at}
 use Rattle.fr_frame.specs.declared.places.Growth.{Growth}
-use Rattle.fr_frame.specs.Cells.{held_value}
+use Rattle.fr_values.specs.Cells.{held_value}
 use Rattle.fr_frame.specs.Growing.{grown_above, MayGrow, MayGrowAbove}
 use Rattle.fr_frame.specs.Bodies.{fresh_body, linked_by}
 use Rattle.fr_frame.proofs.HeapLaws.{with_body_twice, with_here}

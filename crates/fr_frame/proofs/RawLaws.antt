@@ -8,8 +8,10 @@ use Rattle.fr_frame.specs.declared.places.Tracker.{Tracker}
 use Rattle.fr_frame.specs.Heap.{child_slot}
 use Rattle.fr_frame.specs.Outlines.{has_items}
 use Rattle.fr_frame.specs.RawSlots.{with_stored, IsReformed}
-use Rattle.fr_frame.proofs.HeapLaws.{inside, occur_set, read}
-use Rattle.fr_frame.proofs.PlaceLaws.{marks, occur_change, set_as_was, shows}
+use Rattle.fr_frame.proofs.HeapLaws.{inside, occur_set}
+use Rattle.fr_values.specs.SliceLaws.{read}
+use Rattle.fr_frame.proofs.PlaceLaws.{marks, occur_change, shows}
+use Rattle.fr_values.specs.SliceLaws.{set_as_was}
 use Rattle.fr_frame.proofs.SeenLaws.{seen_length, seen_set}
 use Rattle.fr_frame.proofs.SlotLaws.{get_seen, no_place, node_seen, set_seen, used_in, IsNoPlace}
 

@@ -3,7 +3,8 @@ use Rattle.std.proofs.Common.{◌≡◌, ◌≢◌, ◌⊎◌, ℕ, suc, ◌+◌
 use Rattle.std.proofs.lemmas.Bool.{cases_lt}
 use Rattle.std.specs.Prelude.{slice_index}
 use Rattle.fr_frame.specs.Common.{Room, Room_fewer, Room_risen, Room_same, RoseBy, Shows, Slot, both, heap_of, slot_occurs, slots_occur, with_slot}
-use Rattle.fr_frame.proofs.HeapLaws.{free_holds, number_cases, past_end, with_here, with_other}
+use Rattle.fr_frame.proofs.HeapLaws.{free_holds, past_end, with_here, with_other}
+use Rattle.fr_values.specs.SliceLaws.{number_cases}
 
 -- of so many slots no place is in the first n, nor in any behind the last
 abbrev pub AreFree : List Slot → (count n : ℕ) → Type 0

@@ -5,7 +5,8 @@ use Rattle.fr_model.specs.Trackers.{ItemsKind as TreeItems}
 use Rattle.fr_frame.specs.declared.places.ItemsKind.{ItemsKind}
 use Rattle.fr_frame.specs.declared.places.Tracker.{Tracker}
 use Rattle.fr_frame.specs.Outlines.{outline}
-use Rattle.fr_frame.proofs.HeapLaws.{heap_append, holds_inside, holds_read, occur_append, occur_set, past_end, shows_set, with_same}
+use Rattle.fr_frame.proofs.HeapLaws.{heap_append, occur_append, occur_set, past_end, shows_set, with_same}
+use Rattle.fr_values.specs.SliceLaws.{holds_inside, holds_read}
 use Rattle.fr_frame.proofs.SeenLaws.{heap_seen, seen_append, seen_get, seen_length, seen_set}
 
 -- The outline of a place is what it is with its items.

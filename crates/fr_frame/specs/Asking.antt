@@ -18,7 +18,7 @@ use Rattle.fr_plan.specs.TypePlan.{Plan}
 use Rattle.fr_frame.specs.declared.field_plans.FillColumn.{FillColumn}
 use Rattle.fr_frame.specs.declared.lacking.Question.{Question}
 use Rattle.fr_frame.specs.Bodies.{Body, own_tree}
-use Rattle.fr_frame.specs.Cells.{Cell, absent}
+use Rattle.fr_values.specs.Cells.{Cell, absent}
 use Rattle.fr_frame.specs.Completing.{takes_template, IsPlanFor}
 use Rattle.fr_frame.specs.Defaults.{defaulted_cell, first_asked, left_out, unmet}
 use Rattle.fr_frame.specs.Filling.{first_refused, lack_of_child, IsCauseOf}

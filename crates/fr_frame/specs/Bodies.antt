@@ -2,16 +2,16 @@
 use Rattle.std.specs.Prelude.{◌≡◌, ℕ, zero, suc, Bool, true, false, ◌||◌, List, [], ◌∷◌, ◌++◌, length, replicate, slice_get, slice_set, Option, Some, None, IsSome, nat_eq, if◌then◌else◌}
 use Rattle.fr_shape.specs.declared.shape.Def.{Def}
 use Rattle.fr_shape.specs.Fills.{is_empty_struct}
-use Rattle.fr_shape.specs.Same.{same}
+use Rattle.fr_shape.specs.Same.{keys, none_twice, same}
 use Rattle.fr_shape.specs.Tokens.{occurs}
-use Rattle.fr_shape.specs.Val.{Val, Vals, unit, product, some, ok, err, list_of, ptr, no_vals, first}
+use Rattle.fr_shape.specs.Val.{Val, Vals, unit, product, some, ok, err, list_of, map_of, set_of, ptr, no_vals, first}
 use Rattle.fr_model.specs.Complete.{made}
 use Rattle.fr_model.specs.DynamicPlaces.{is_object_tracker, entry_found, number_or_last}
 use Rattle.fr_model.specs.Places.{vals_nth}
 use Rattle.fr_model.specs.Step.{parts_as}
 use Rattle.fr_model.specs.Trackers.{Tracker, as_fields, as_elements, as_content, ContentKind, as_items, ItemsKind, as_entries, EntriesKind, keys_of_tracker}
 use Rattle.fr_model.specs.Tree.{over_base, Tree, hole, entered, whole, begun, Trees, no_trees, branch}
-use Rattle.fr_frame.specs.Cells.{Cell, absent, given, placed, cells_occur, values_of}
+use Rattle.fr_values.specs.Cells.{Cell, absent, given, placed, cells_occur, values_of, cells_of_vals, without_cell, and_item_cell}
 
 -- a place: entered, with nothing put in; holding a value; or begun, with its children
 pub data Body : Type 0 where
@@ -73,10 +73,6 @@ unlinked n i body = unlinked_by n i body (cell_at body i)
 
 -- Beginning a place.
 
-abbrev pub cells_of_vals : Vals → List Cell
-cells_of_vals no_vals = []
-cells_of_vals (first v vs) = given v ∷ cells_of_vals vs
-
 abbrev pub opened_by : Tracker → Val → (parts : Option Vals) → Body
 opened_by tracker v (Some vs) = begun_body (over_base tracker v) (cells_of_vals vs)
 opened_by tracker v None = whole_body v
@@ -89,10 +85,16 @@ opened tracker count entered_body = begun_body tracker (replicate count absent)
 opened tracker count (whole_body v) = opened_by tracker v (parts_as tracker v)
 opened tracker count (begun_body as_before cells) = begun_body as_before cells
 
--- a whole place is begun so only where its value has parts for that
+-- no two items of a set are `same`, and no two keys of a map
+abbrev pub HoldsNothingTwice : Val → Type 0
+HoldsNothingTwice (set_of vs) = none_twice vs ≡ true
+HoldsNothingTwice (map_of es) = none_twice (keys es) ≡ true
+HoldsNothingTwice _ = Unit {0}
+
+-- a whole place is begun so only where its value has parts for that, and holds nothing twice
 abbrev pub MayOpen : Tracker → Body → Type 0
 MayOpen tracker entered_body = Unit {0}
-MayOpen tracker (whole_body v) = IsSome (parts_as tracker v)
+MayOpen tracker (whole_body v) = IsSome (parts_as tracker v) × HoldsNothingTwice v
 MayOpen tracker (begun_body as_before cells) = Unit {0}
 
 -- a place that is begun so, with so many children, none of which is there, whatever was there before
@@ -137,26 +139,6 @@ IsMapBody (whole_body v) = ⊥
 IsMapBody (begun_body tracker cells) = (base : ℕ) × (tracker ≡ as_entries (EntriesKind.Map base))
 
 -- The end of a set's item.
-
--- the child is there, with a value that is `same` as this one
-abbrev pub is_same_cell : Val → Cell → Bool
-is_same_cell v absent = false
-is_same_cell v (given u) = same u v
-is_same_cell v (placed n) = false
-
-abbrev pub has_same_cell : Val → List Cell → Bool
-has_same_cell v [] = false
-has_same_cell v (c ∷ cs) = is_same_cell v c || has_same_cell v cs
-
--- the children but the one of this number
-abbrev pub without_cell : ℕ → List Cell → List Cell
-without_cell i [] = []
-without_cell zero (c ∷ cs) = cs
-without_cell (suc i) (c ∷ cs) = c ∷ without_cell i cs
-
--- a value comes behind the children that are there, unless it is `same` as one of theirs
-abbrev pub and_item_cell : List Cell → Val → List Cell
-and_item_cell cells v = if has_same_cell v cells then cells else cells ++ given v ∷ []
 
 -- a begun place whose child number i ended with this value: it goes, and the value comes unless it is there already
 abbrev pub with_ended : ℕ → Val → Body → Body

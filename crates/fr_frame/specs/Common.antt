@@ -1,25 +1,26 @@
 -- The names that clauses and proofs cite most, passed on from one place. Declares nothing.
 pub use Rattle.fr_arena.specs.BitSets.{BitSet}
 pub use Rattle.fr_arena.specs.Ropes.{Rope}
-pub use Rattle.fr_frame.specs.Bodies.{AreUnplaced, Body, HasAllChildren, IsClosed, IsGrowing, IsSetBody, added, added_entry, and_item_cell, begun_body, body_occurs, cell_at, cells_of_vals, count_cells, entered_body, has_same_cell, is_same_cell, keys_in, linked, opened, own_tree, reformed, restarted, takes_memory, trees_of, unlinked, value_of, whole_body, with_cell, with_ended, with_entry_for, without_cell}
+pub use Rattle.fr_values.specs.Bases.{AreApart, count_in_base}
+pub use Rattle.fr_frame.specs.Bodies.{AreUnplaced, Body, HasAllChildren, HoldsNothingTwice, IsClosed, IsGrowing, IsSetBody, added, added_entry, begun_body, body_occurs, cell_at, count_cells, entered_body, keys_in, linked, opened, own_tree, reformed, restarted, takes_memory, trees_of, unlinked, value_of, whole_body, with_cell, with_ended, with_entry_for}
 pub use Rattle.fr_frame.specs.Asking.{HasValidators, IsAnswer, IsPlanned, IsUnfilled, ask, ask_field, ask_holes, asked, cells_or_holes, defaulted_nth, question_of, refused_of, unmet_child}
-pub use Rattle.fr_frame.specs.Cells.{Cell, absent, cell, cell_occurs, cells_occur, cells_of, given, in_slot, placed, slot_at, slot_of_cell, value_at, value_occurs, value_of_cell, values_of}
+pub use Rattle.fr_values.specs.Cells.{Cell, absent, and_item_cell, cell, cell_occurs, cells_occur, cells_of, cells_of_vals, given, has_same_cell, in_slot, is_same_cell, placed, slot_at, slot_of_cell, value_at, value_occurs, value_of_cell, values_of, without_cell}
 pub use Rattle.fr_frame.specs.Changes.{Becomes, IfInUse, IsInUse, SameTokens, Shows}
-pub use Rattle.fr_frame.specs.ChildIndex.{IsIndexed}
+pub use Rattle.fr_values.specs.ChildIndex.{IsIndexed}
 pub use Rattle.fr_frame.specs.Closed.{IsClosedAt}
 pub use Rattle.fr_frame.specs.Completing.{FillsAt, IsFilled, IsFull, IsPlanFor, MayComplete, WhyNot, shape_of, takes_template}
 pub use Rattle.fr_frame.specs.Defaults.{KeepGiven, KeepsTracker, WhyNotDefault, defaulted, defaulted_by, defaulted_cell, defaulted_cells, defaulted_struct, first_asked, invalid, left_out, unmet}
 pub use Rattle.fr_frame.specs.Filling.{AreTold, IsCauseOf, IsNamed, IsTold, column_of, field_fill, first_refused, lack_of_child}
 pub use Rattle.fr_frame.specs.Heap.{Heap, Node, as_tracker, body_of, depth_below, depth_limit, fields_of_tracker, gives, heap_of, held_by, item_owner, links, node_in, node_of, slot_occurs, slots_occur, unlinks, with_body, with_entered, with_mark, with_slot, without}
-pub use Rattle.fr_frame.specs.Indexing.{Indexes, IsRun, has_number, is_held, joined, runs_of, val_at}
+pub use Rattle.fr_values.specs.Indexing.{Indexes, IsRun, has_number, is_held, joined, numbers_from, runs_of, val_at}
 pub use Rattle.fr_frame.specs.Items.{FreesItem, FreesItems, Held, IsListedIn, IsPlain, IsPlainAt, IsReserved, IsUsedAt, KeepsReserved, children_with, is_list, is_used, item_cell, item_in, item_or, items_of, keeps_items, partial_with, place_with, slot_seen, slots_seen, value_held, with_items, with_placed}
-pub use Rattle.fr_frame.specs.KeyNames.{names_of}
-pub use Rattle.fr_frame.specs.KeyPlaces.{entry_place, entry_places, item_place, item_places, place, places_of, with_key}
+pub use Rattle.fr_values.specs.KeyNames.{names_of}
+pub use Rattle.fr_values.specs.KeyPlaces.{Holds, Knows, entry_place, entry_places, first_keys, item_place, item_places, keys_among, parts_of_entries, place, place_known, places_of, turn_keys, with_key}
 pub use Rattle.fr_frame.specs.OutlineLaws.{of_outline, same_body}
 pub use Rattle.fr_frame.specs.Outlines.{is_begun_body, is_list_body, outlined}
 pub use Rattle.fr_frame.specs.RawItems.{HasRoomIn, IsSeenAs}
 pub use Rattle.fr_frame.specs.RawSlots.{body_with}
-pub use Rattle.fr_frame.specs.declared.contents.ByContents.{ByContents}
+pub use Rattle.fr_values.specs.declared.bases.Base.{Base}
 pub use Rattle.fr_frame.specs.declared.field_plans.FillColumn.{FillColumn}
 pub use Rattle.fr_frame.specs.declared.lacking.Question.{Question}
 pub use Rattle.fr_frame.specs.declared.places.FrameOwner.{FrameOwner}
@@ -51,7 +52,7 @@ pub use Rattle.fr_shape.specs.Fills.{preset_of}
 pub use Rattle.fr_shape.specs.Hooks.{Meanings}
 pub use Rattle.fr_shape.specs.Look.{Table, def_of, field_at, field_in, field_of_variant}
 pub use Rattle.fr_shape.specs.Released.{Conserved, Room, RoseBy}
-pub use Rattle.fr_shape.specs.Same.{same}
+pub use Rattle.fr_shape.specs.Same.{keys, none_twice, same}
 pub use Rattle.fr_shape.specs.TokenLaws.{Room_fewer, Room_risen, Room_same, both}
 pub use Rattle.fr_shape.specs.Tokens.{entries_occur, occurs, tokens, vals_occur}
 pub use Rattle.fr_shape.specs.Val.{Entries, Val, Vals, dyn, entry, first, map_of, no_entries, no_vals, product, unit}

@@ -14,7 +14,7 @@ use Rattle.fr_plan.specs.declared.nodes.NodeId.{NodeId}
 use Rattle.fr_plan.specs.LookupLaws.{shape_at}
 use Rattle.fr_plan.specs.TypePlan.{Plan, IsPlanOf}
 use Rattle.fr_frame.specs.Bodies.{Body, entered_body, whole_body, begun_body, value_of, own_tree, IsClosed}
-use Rattle.fr_frame.specs.Cells.{values_of}
+use Rattle.fr_values.specs.Cells.{values_of}
 use Rattle.fr_frame.specs.declared.places.Slot.{Slot}
 use Rattle.fr_frame.specs.Changes.{Becomes}
 use Rattle.fr_frame.specs.Heap.{Node}

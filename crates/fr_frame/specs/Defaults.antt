@@ -14,7 +14,7 @@ use Rattle.fr_model.specs.Places.{Column, deferred_column, child_count}
 use Rattle.fr_model.specs.Trackers.{Tracker, as_fields}
 use Rattle.fr_model.specs.Tree.{holes}
 use Rattle.fr_frame.specs.Bodies.{Body, entered_body, whole_body, begun_body, own_tree, takes_memory, trees_of}
-use Rattle.fr_frame.specs.Cells.{Cell, absent, given, placed, value_of_cell}
+use Rattle.fr_values.specs.Cells.{Cell, absent, given, placed, value_of_cell}
 use Rattle.fr_frame.specs.Completing.{IsOfValidator, takes_template}
 
 -- Filling holes.

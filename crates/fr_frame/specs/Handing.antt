@@ -5,7 +5,7 @@ use Rattle.fr_frame.specs.declared.places.FrameOwner.{FrameOwner}
 use Rattle.fr_frame.specs.declared.places.Slot.{Slot}
 use Rattle.fr_frame.specs.declared.places.Taker.{Taker}
 use Rattle.fr_frame.specs.Bodies.{Body, entered_body, whole_body, begun_body, value_of}
-use Rattle.fr_frame.specs.Cells.{absent, placed}
+use Rattle.fr_values.specs.Cells.{absent, placed}
 use Rattle.fr_frame.specs.Changes.{Becomes, IfInUse, Shows}
 use Rattle.fr_frame.specs.Heap.{Heap, Node, ends, gives, heap_of, held_by, with_body, with_slot, without, IsItemOf}
 

@@ -14,7 +14,7 @@ use Rattle.fr_frame.specs.declared.places.FrameOwner.{FrameOwner}
 use Rattle.fr_frame.specs.declared.places.PartialValue.{PartialValue}
 use Rattle.fr_frame.specs.declared.places.Place.{Place}
 use Rattle.fr_frame.specs.declared.places.Slot.{Slot}
-use Rattle.fr_frame.specs.Cells.{Cell, given, slot_of_cell}
+use Rattle.fr_values.specs.Cells.{Cell, given, slot_of_cell}
 use Rattle.fr_frame.specs.Bodies.{Body, entered_body, whole_body, begun_body, body_occurs, cell_at, count_cells, entry_in, with_cell, with_ended, taken_over, linked, unlinked, IsSetBody}
 
 -- the place in a slot: the plan's node that it is built by, the place that it belongs to, whether it is stored, how deep it

@@ -12,7 +12,7 @@ use Rattle.fr_frame.specs.declared.places.Place.{Place}
 use Rattle.fr_frame.specs.declared.places.Slot.{Slot}
 use Rattle.fr_frame.specs.declared.places.SlotId.{SlotId}
 use Rattle.fr_frame.specs.Bodies.{Body, entered_body, whole_body, begun_body}
-use Rattle.fr_frame.specs.Cells.{Cell, given, placed}
+use Rattle.fr_values.specs.Cells.{Cell, given, placed}
 
 -- a place that is begun so has items that keep their slots: it is a list or a pointer to a slice
 abbrev pub keeps_items : Tracker → Bool

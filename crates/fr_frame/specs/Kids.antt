@@ -10,7 +10,7 @@ use Rattle.fr_plan.specs.declared.nodes.NodeId.{NodeId}
 use Rattle.fr_plan.specs.Lookups.{struct_field, enum_variant_field, list_item, set_item, map_key, map_value, option_inner, result_sides, pointer_pointee, by_id}
 use Rattle.fr_plan.specs.TypePlan.{Plan}
 use Rattle.fr_frame.specs.declared.places.FrameOwner.{FrameOwner}
-use Rattle.fr_frame.specs.Cells.{Cell, absent, given, placed}
+use Rattle.fr_values.specs.Cells.{Cell, absent, given, placed}
 use Rattle.fr_frame.specs.Bodies.{Body, entered_body, whole_body, begun_body}
 use Rattle.fr_frame.specs.Heap.{Node, Heap, depth_limit}
 

@@ -7,7 +7,7 @@ use Rattle.std.proofs.lemmas.List.{length-replicate}
 use Rattle.fr_model.specs.Tree.{Tree, hole, entered, whole, begun, branch, count_trees, holes}
 use Rattle.fr_frame.specs.declared.places.Place.{Place}
 use Rattle.fr_frame.specs.Bodies.{Body, entered_body, whole_body, begun_body, count_cells, own_tree, trees_of}
-use Rattle.fr_frame.specs.Cells.{Cell, absent}
+use Rattle.fr_values.specs.Cells.{Cell, absent}
 use Rattle.fr_frame.specs.Heap.{Node, node_of}
 use Rattle.fr_frame.specs.Outlines.{has_items, is_begun_body, is_list_body, outline, outlined}
 

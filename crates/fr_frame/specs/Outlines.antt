@@ -2,7 +2,7 @@
 use Rattle.std.specs.Prelude.{Bool, true, false, length, replicate, if◌then◌else◌}
 use Rattle.fr_model.specs.Trackers.{Tracker, as_items, ItemsKind}
 use Rattle.fr_frame.specs.Bodies.{Body, entered_body, whole_body, begun_body}
-use Rattle.fr_frame.specs.Cells.{absent}
+use Rattle.fr_values.specs.Cells.{absent}
 use Rattle.fr_frame.specs.Heap.{Node}
 
 -- a place that is begun so has items: it is a list or a pointer to a slice

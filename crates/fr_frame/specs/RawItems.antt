@@ -12,7 +12,7 @@ use Rattle.fr_frame.specs.declared.places.Slot.{Slot}
 use Rattle.fr_frame.specs.declared.places.SlotId.{SlotId}
 use Rattle.fr_frame.specs.Outlines.{is_list_body}
 use Rattle.fr_frame.specs.Bodies.{Body, whole_body}
-use Rattle.fr_frame.specs.Cells.{absent, placed}
+use Rattle.fr_values.specs.Cells.{absent, placed}
 use Rattle.fr_frame.specs.Heap.{Node, node_in}
 use Rattle.fr_frame.specs.Items.{Held, item_in, slot_seen, IsListedIn}
 

@@ -3,11 +3,11 @@ ghost use Rattle.std.specs.Prelude.{◌+◌, ◌≡◌};
 ghost use Rattle.fr_frame.specs.Common.{IfInUse, IsInUse, IsOk, OnErr, OnOk, Room, RoseBy, SameTokens, Shows, Some, absent, as_tracker, body_occurs, cell_at, given, heap_of, occurs, opened, restarted, slots_occur, view, whole_body, with_body, with_cell, ℕ};
 ghost use Rattle.fr_frame.specs.Bodies.{MayOpen};
 
-use crate::children::Children;
 use crate::partial_values::{open, put_child, release_partial};
 use crate::places::{PartialValue, SlotId, Tracker};
 use crate::slots::Slots;
 use fr_shape::{Ledger, OutOfMemory, Value};
+use fr_values::Children;
 
 impl SlotId {
     /// Puts a value in the stead of all that was put at the place, whose tokens are released.

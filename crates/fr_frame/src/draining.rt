@@ -3,10 +3,10 @@ ghost use Rattle.std.specs.Prelude.{◌<◌, ◌≡◌, ◌≢◌, ◌⊎◌};
 ghost use Rattle.fr_frame.specs.Common.{FreesItem, FreesItems, IfNone, IfSome, IsPlainAt, IsUsedAt, children_with, false, is_some, item_cell, items_of, length, option_map, partial_with, slice_get, slice_set, slots_seen, true, value_held, view, ℕ};
 ghost use Rattle.fr_frame.specs.Items.{IsItemFreed, IsListAt};
 
-use crate::children::Children;
 use crate::places::{ItemsKind, PartialValue, Slot, SlotId, Tracker};
 use fr_arena::{Arena, ListRope};
 use fr_shape::Value;
+use fr_values::Children;
 
 /// Whether an item of this list that has completed, of this number, lies in a slot.
 pub(crate) fn holds_item(entries: &Arena<Slot>, slot: SlotId, list: SlotId, number: usize) -> bool
@@ -66,7 +66,7 @@ fn put_item(
     match take_item(entries, free, slot, list, at) {
         Some(value) => children.put(at, value),
         None => {
-            let _room = children.place(at, slot);
+            let _room = children.place(at, slot.0);
         }
     }
 }

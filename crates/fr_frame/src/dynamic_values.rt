@@ -3,10 +3,9 @@ ghost use Rattle.std.specs.Prelude.{◌++◌, ◌∷◌, ◌≡◌};
 ghost use Rattle.fr_frame.specs.Common.{None, OnErr, OnOk, [], absent, body_occurs, body_of, entry_found, keys_apart, keys_in, true, with_entry_for, ℕ};
 ghost use Rattle.fr_frame.specs.Bodies.{IsObjectBody};
 
-use crate::children::Children;
-use crate::keys::Keys;
 use crate::places::{EntriesKind, PartialValue, Tracker};
 use fr_shape::{OutOfMemory, Text};
+use fr_values::{Children, Keys};
 use std::alloc::Global;
 
 /// The number of the entry that a begun object has under a key, where it has one, and the key back.

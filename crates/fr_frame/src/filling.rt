@@ -2,11 +2,11 @@
 ghost use Rattle.std.specs.Prelude.{◌<◌, ◌≡◌};
 ghost use Rattle.fr_frame.specs.Common.{AreUnplaced, IfOk, IsChecked, IsClosed, IsFull, IsFullAs, IsNamed, IsPlanFor, None, OnErr, OnOk, as_fields, body_occurs, body_of, cells_occur, column_of, def_of, defaulted, defaulted_cells, defaulted_nth, defaulted_struct, entered_body, field_fill, length, shape_of, takes_template, true, values_of, ℕ};
 
-use crate::children::Children;
 use crate::field_plans::{FillColumn, copy_fill, plans_of_fields};
 use crate::places::{PartialValue, Tracker};
 use fr_plan::{FieldPlan, NodeId, TypePlanCore};
 use fr_shape::{Def, OutOfMemory, ShapeTable, Value, clone_template};
+use fr_values::Children;
 use std::alloc::Global;
 
 /// Puts its fill at a field, where that isn't there and has one.

@@ -3,7 +3,7 @@
 ghost use Rattle.fr_frame.specs.Common.{IfInUse, IfOk, IsInUse, IsReserved, KeepsReserved, None, OnErr, OnOk, SameTokens, Shows, as_tracker, count_cells, false, heap_of, held_by, is_begun_body, is_list_body, links, option_map, reformed, slots_occur, true, view, with_body, ℕ};
 ghost use Rattle.std.specs.Prelude.{IsOk, ◌^◌, ◌+◌, ◌<◌, ◌≡◌};
 ghost use Rattle.fr_frame.specs.Growing.{grown, grown_above, MayGrow, MayGrowAbove};
-ghost use Rattle.fr_frame.specs.Cells.{held_value, value_occurs};
+ghost use Rattle.fr_values.specs.Cells.{held_value, value_occurs};
 ghost use Rattle.fr_frame.specs.Changes.{IsOwnerInUse};
 ghost use Rattle.fr_frame.specs.RawSlots.{stays_list, IsReformed};
 

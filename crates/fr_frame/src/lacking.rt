@@ -4,12 +4,12 @@ ghost use Rattle.std.specs.Prelude.{◌<◌, ◌≡◌};
 ghost use Rattle.fr_frame.specs.Common.{IfErr, IfSome, IsAnswer, IsCauseOf, IsChecked, IsFull, IsFullAs, IsNamed, IsPlanFor, IsSome, IsTold, Meanings, None, OnErr, OnOk, Some, Table, Tracker, Val, as_fields, ask, ask_field, ask_holes, asked, body_of, cells_or_holes, child_count, def_of, entered_body, field_at, field_fill, fields_of_tracker, first_asked, first_refused, length, missing_value, option_copied, option_map, option_or, shape_of, strict_column, true, unmet_mark, value_at, values_of, view, ℕ};
 ghost use Rattle.fr_frame.specs.declared.lacking.Question.{Question as Asking};
 
-use crate::children::Children;
 use crate::field_plans::{FillColumn, fill_of, has_validators, plans_of_fields};
 use crate::places::PartialValue;
 use fr_plan::{FieldPlan, NodeId, TypePlanCore};
 use fr_rules::{DeferredFill, PrecomputedValidator, deferred_fill};
 use fr_shape::{Def, FieldRef, Hooks, ReflectErrorKind, ShapeTable, Value};
+use fr_values::Children;
 use std::alloc::Global;
 
 /// What is asked of each field of a place that completes: in strict mode, whether there is a value,

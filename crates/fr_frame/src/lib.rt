@@ -5,22 +5,18 @@
 //! own, and its parent knows which.
 #![tactic(auto)]
 
+mod admitting;
 mod changing;
-mod children;
 mod completing;
-mod contents;
 mod defaulting;
 mod draining;
 mod dynamic_values;
-mod dynamics;
 mod entering;
+mod field_defaults;
 mod field_plans;
 mod filling;
-mod gathering;
 mod growing;
 mod items;
-mod key_places;
-mod keys;
 mod lacking;
 mod leaving;
 mod linking;
@@ -31,10 +27,12 @@ mod places;
 mod slots;
 mod storing;
 mod validating;
-mod value_index;
 
-pub use children::Children;
-pub use keys::Keys;
+pub use admitting::{
+    MOST_ELEMENTS, Opening, field_of, named_refusal, nth_opening, opening_at, selected,
+};
+pub use field_defaults::default_in;
+pub use fr_values::{Children, Keys};
 pub use places::{
     ChildWay, ContentKind, EntriesKind, FrameOwner, Item, ItemsKind, PartialValue, Place, Slot,
     SlotId, Taker, Tracker,

@@ -1,7 +1,7 @@
 //! Slots and their owners: a child that gets a slot, and one that leaves it.
 ghost use Rattle.std.specs.Prelude.{◌+◌, ◌<◌, ◌≡◌};
 ghost use Rattle.fr_frame.specs.Common.{IfSome, IsInUse, KeepsReserved, Node, SameTokens, Shows, cell_at, depth_below, depth_limit, heap_of, held_by, linked, links, option_and_then, option_map, slots_occur, unlinks, value_occurs, view, with_body, ℕ};
-ghost use Rattle.fr_frame.specs.Cells.{held_value};
+ghost use Rattle.fr_values.specs.Cells.{held_value};
 ghost use Rattle.fr_frame.specs.Changes.{IsOwnerInUse};
 
 use crate::partial_values::{link, unlink};

@@ -1,16 +1,14 @@
 //! The value of a place.
 ghost use Rattle.std.specs.Prelude.{◌≡◌};
-ghost use Rattle.fr_frame.specs.Common.{Conserved, IfErr, IfOk, IsOk, IsSome, OnErr, OnOk, Room, RoseBy, Some, Val, as_tracker, begun_body, body_occurs, body_of, cells_occur, entries_in, entries_view, false, first, is_some, items_in, length, map_of, no_entries, no_vals, occurs, takes_memory, true, vals_occur, vals_view, value_of, view, whole_body};
+ghost use Rattle.fr_frame.specs.Common.{AreApart, Conserved, IfErr, IfOk, IsOk, IsSome, OnErr, OnOk, Room, RoseBy, Some, Val, as_tracker, begun_body, body_occurs, body_of, cells_occur, entries_in, entries_view, false, first, is_some, items_in, length, map_of, no_entries, no_vals, occurs, takes_memory, true, vals_occur, vals_view, value_of, view, whole_body};
 ghost use Rattle.fr_shape.specs.Val.{list_of, set_of};
 ghost use Rattle.fr_model.specs.Complete.{value_as};
 ghost use Rattle.fr_frame.specs.Bodies.{around_as, boxed_as, boxes, gathers, is_around};
 
-use crate::children::Children;
-use crate::dynamics::{array_of, object_of};
-use crate::gathering::{distinct_items, merge_entries};
 use crate::partial_values::release_partial;
 use crate::places::{ContentKind, EntriesKind, ItemsKind, PartialValue, Tracker};
 use fr_shape::{Items, Ledger, OutOfMemory, Value};
+use fr_values::{Base, Children, array_of, distinct_items, merge_entries, object_of};
 use std::alloc::Global;
 
 /// The list of these. Takes no memory.
@@ -81,7 +79,13 @@ fn value_of_box(tracker: &Tracker, held: Box<Value>) -> Value
 
 /// The set of those of these values that aren't `same` as an earlier one, which are released.
 /// Without memory they are handed back.
-fn set_of(alloc: Global, values: Vec<Value>, ledger: &mut Ledger) -> Result<Value, Vec<Value>>
+fn set_of(
+    alloc: Global,
+    values: Vec<Value>,
+    base: Base,
+    ledger: &mut Ledger,
+) -> Result<Value, Vec<Value>>
+    requires base { AreApart base values.items }
     requires room { Room (vals_occur (vals_view values.items)) ledger.old }
     ensures value { IfOk result (λ v.
         view v ≡ set_of (items_in no_vals (vals_view values.items))) }
@@ -90,7 +94,7 @@ fn set_of(alloc: Global, values: Vec<Value>, ledger: &mut Ledger) -> Result<Valu
     ensures handed_back { IfErr result (λ back. back.items ≡ values.items) }
     ensures ledger_kept { OnErr result (ledger.new ≡ ledger.old) }
 {
-    match distinct_items(alloc, values, ledger) {
+    match distinct_items(alloc, values, base.items(), ledger) {
         Ok(items) => Ok(Value::Set(Items::from_vec(items))),
         Err(back) => Err(back),
     }
@@ -105,7 +109,13 @@ fn of_entries(entries: Vec<(Value, Value)>) -> Value
 
 /// The map of these keys and values, which take turns. A key that comes again takes the new value;
 /// the new key and the old value are released. Without memory they are handed back.
-fn map_of(alloc: Global, values: Vec<Value>, ledger: &mut Ledger) -> Result<Value, Vec<Value>>
+fn map_of(
+    alloc: Global,
+    values: Vec<Value>,
+    base: Base,
+    ledger: &mut Ledger,
+) -> Result<Value, Vec<Value>>
+    requires base { AreApart base values.items }
     requires room { Room (vals_occur (vals_view values.items)) ledger.old }
     ensures value { IfOk result (λ v.
         view v ≡ map_of (entries_in no_entries (vals_view values.items))) }
@@ -114,7 +124,7 @@ fn map_of(alloc: Global, values: Vec<Value>, ledger: &mut Ledger) -> Result<Valu
     ensures handed_back { IfErr result (λ back. back.items ≡ values.items) }
     ensures ledger_kept { OnErr result (ledger.new ≡ ledger.old) }
 {
-    match merge_entries(alloc, values, ledger) {
+    match merge_entries(alloc, values, base.entries(), ledger) {
         Ok(entries) => Ok(of_entries(entries)),
         Err(back) => Err(back),
     }
@@ -126,8 +136,10 @@ fn value_gathered(
     alloc: Global,
     tracker: &mut Tracker,
     values: Vec<Value>,
+    base: Base,
     ledger: &mut Ledger,
 ) -> Result<Value, Vec<Value>>
+    requires base { AreApart base values.items }
     requires gathers { gathers (as_tracker tracker.old) ≡ true }
     requires room { Room (vals_occur (vals_view values.items)) ledger.old }
     ensures value { IfOk result (λ v.
@@ -139,9 +151,9 @@ fn value_gathered(
     ensures ledger_kept { OnErr result (ledger.new ≡ ledger.old) }
 {
     match tracker {
-        Tracker::Items(ItemsKind::Set) => set_of(alloc, values, ledger),
+        Tracker::Items(ItemsKind::Set) => set_of(alloc, values, base, ledger),
         Tracker::Items(ItemsKind::Array) => array_of(alloc, values, ledger),
-        Tracker::Entries(EntriesKind::Map(_)) => map_of(alloc, values, ledger),
+        Tracker::Entries(EntriesKind::Map(_)) => map_of(alloc, values, base, ledger),
         Tracker::Entries(EntriesKind::Object(keys)) => object_of(alloc, keys, values, ledger),
         Tracker::Items(ItemsKind::List | ItemsKind::Slice | ItemsKind::ClosedSlice) => {
             unreachable!()
@@ -170,13 +182,13 @@ fn value_of_children(
     ensures handed_back { IfErr result (λ back. back ≡ children) }
     ensures ledger_kept { OnErr result (ledger.new ≡ ledger.old) }
 {
-    let (values, given) = children.into_parts();
+    let (values, given, base) = children.into_parts();
     if !tracker.gathers() {
         return Ok(value_of_parts(tracker, values));
     }
-    match value_gathered(alloc, tracker, values, ledger) {
+    match value_gathered(alloc, tracker, values, base, ledger) {
         Ok(value) => Ok(value),
-        Err(back) => Err(Children::of_parts(back, given)),
+        Err(back) => Err(Children::of_parts(back, given, base)),
     }
 }
 

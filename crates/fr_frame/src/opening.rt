@@ -1,6 +1,6 @@
 //! Taking a value apart into those of the children that it has at a place that is begun.
-ghost use Rattle.std.specs.Prelude.{◌+◌, ◌≡◌};
-ghost use Rattle.fr_frame.specs.Common.{IfOk, IfSome, IsSome, OnErr, Some, as_content, as_entries, as_tracker, cells_of_vals, entries_of, entries_view, dynamic_in, in_turn, length, member_vals, option_map, parts_of, set_items_of, view};
+ghost use Rattle.std.specs.Prelude.{vec_capacity, ◌*◌, ◌+◌, ◌≡◌, ◌≤◌};
+ghost use Rattle.fr_frame.specs.Common.{HoldsNothingTwice, IfOk, IfSome, IsSome, OnErr, Some, [], as_content, as_entries, as_tracker, cells_of_vals, entries_of, entries_view, dynamic_in, length, map_of, member_vals, option_map, parts_of, parts_of_entries, set_items_of, view};
 ghost use Rattle.fr_model.specs.Contents.{content_of};
 ghost use Rattle.fr_model.specs.Dynamics.{members_of_object, object_keys};
 ghost use Rattle.fr_model.specs.Places.{base_in, items_of};
@@ -8,10 +8,9 @@ ghost use Rattle.fr_model.specs.Step.{parts_as};
 ghost use Rattle.fr_model.specs.Trackers.{ContentKind as TreeContentKind, EntriesKind as TreeEntriesKind};
 ghost use Rattle.fr_model.specs.Tree.{over_base};
 
-use crate::children::Children;
-use crate::dynamics::{elements_of, members_of};
 use crate::places::{ContentKind, EntriesKind, ItemsKind, Tracker};
 use fr_shape::{Items, OutOfMemory, Value};
+use fr_values::{Base, Children, elements_of, members_of, numbers_below};
 use std::alloc::Global;
 
 /// Takes the parts out of a product. It stays as it was where there is no memory for them.
@@ -24,7 +23,7 @@ fn children_of_product(alloc: Global, value: &mut Value) -> Result<Children, Out
     let Value::Product(items) = std::mem::replace(value, Value::Unit) else {
         unreachable!()
     };
-    match Children::all_there(alloc, items.into_vec()) {
+    match Children::all_there(alloc, items.into_vec(), Base::none()) {
         Ok(children) => Ok(children),
         Err(values) => {
             *value = Value::Product(Items::from_vec(values));
@@ -43,7 +42,7 @@ fn children_of_list(alloc: Global, value: &mut Value) -> Result<Children, OutOfM
     let Value::List(items) = std::mem::replace(value, Value::Unit) else {
         unreachable!()
     };
-    match Children::all_there(alloc, items.into_vec()) {
+    match Children::all_there(alloc, items.into_vec(), Base::none()) {
         Ok(children) => Ok(children),
         Err(values) => {
             *value = Value::List(Items::from_vec(values));
@@ -54,7 +53,8 @@ fn children_of_list(alloc: Global, value: &mut Value) -> Result<Children, OutOfM
 
 /// Takes the items out of a set. It stays as it was where there is no memory for them.
 fn children_of_set(alloc: Global, value: &mut Value) -> Result<Children, OutOfMemory>
-    requires { IsSome (set_items_of (view value.old)) }
+    requires items { IsSome (set_items_of (view value.old)) }
+    requires apart { HoldsNothingTwice (view value.old) }
     ensures parts { IfOk result (λ children.
         option_map cells_of_vals (set_items_of (view value.old)) ≡ Some children) }
     ensures refused { OnErr result (view value.new ≡ view value.old) }
@@ -62,7 +62,8 @@ fn children_of_set(alloc: Global, value: &mut Value) -> Result<Children, OutOfMe
     let Value::Set(items) = std::mem::replace(value, Value::Unit) else {
         unreachable!()
     };
-    match Children::all_there(alloc, items.into_vec()) {
+    let base = Base::of_items(items.len());
+    match Children::all_there(alloc, items.into_vec(), base) {
         Ok(children) => Ok(children),
         Err(values) => {
             *value = Value::Set(Items::from_vec(values));
@@ -86,7 +87,7 @@ fn count_entries(value: &Value) -> usize
 /// The entries of a map. Takes no memory.
 fn entries_of(value: Value) -> Vec<(Value, Value)>
     requires { IsSome (entries_of (view value)) }
-    ensures { entries_of (view value) ≡ Some (in_turn (entries_view result.items)) }
+    ensures { view value ≡ map_of (entries_view result.items) }
 {
     let Value::Map(entries) = value else {
         unreachable!()
@@ -94,26 +95,24 @@ fn entries_of(value: Value) -> Vec<(Value, Value)>
     entries.into_vec()
 }
 
-/// Puts the keys and values of entries, in turn, at children, of which there are as many.
-fn put_entries(children: &mut Children, mut entries: Vec<(Value, Value)>)
-    requires { length entries.items + length entries.items ≡ length children.old }
-    ensures { children.new ≡ cells_of_vals (in_turn (entries_view entries.items)) }
+/// Appends the keys and values of entries, in turn, to parts that have room for them.
+fn put_in_turn(parts: &mut Vec<Value>, entries: Vec<(Value, Value)>)
+    requires empty { parts.old.items ≡ [] }
+    requires space { 2 * length entries.items ≤ vec_capacity parts.old }
+    ensures { parts.new.items ≡ parts_of_entries entries.items }
 {
-    let mut end = children.len();
-    for _i in 0..entries.len() {
-        let Some((key, value)) = entries.pop() else {
-            unreachable!()
-        };
-        end -= 2;
-        children.put(end, key);
-        children.put(end + 1, value);
+    let mut rest = entries.into_iter();
+    while let Some((key, value)) = rest.next() {
+        parts.push_reserved(key);
+        parts.push_reserved(value);
     }
 }
 
 /// Takes keys and values, in turn, out of a map, and tells that it is begun over its entries. It
 /// stays as it was where there is no memory for them, or where they are too many to be numbered.
 fn children_of_map(alloc: Global, value: &mut Value) -> Result<(Tracker, Children), OutOfMemory>
-    requires { IsSome (entries_of (view value.old)) }
+    requires entries { IsSome (entries_of (view value.old)) }
+    requires apart { HoldsNothingTwice (view value.old) }
     ensures over { IfOk result (λ made.
         as_tracker made.0 ≡ as_entries (TreeEntriesKind.Map (base_in (view value.old)))) }
     ensures parts { IfOk result (λ made.
@@ -124,9 +123,11 @@ fn children_of_map(alloc: Global, value: &mut Value) -> Result<(Tracker, Childre
     let Ok(base) = u32::try_from(count) else {
         return Err(OutOfMemory);
     };
-    let mut children = Children::none_yet(alloc, 2 * count)?;
+    let mut parts = Vec::with_capacity(alloc, 2 * count)?;
+    let numbers = numbers_below(alloc, 2 * count)?;
     let entries = entries_of(std::mem::replace(value, Value::Unit));
-    put_entries(&mut children, entries);
+    put_in_turn(&mut parts, entries);
+    let children = Children::of_parts(parts, numbers, Base::Entries(base));
     Ok((Tracker::Entries(EntriesKind::Map(base)), children))
 }
 
@@ -176,7 +177,8 @@ pub(crate) fn children_of(
     tracker: Tracker,
     value: &mut Value,
 ) -> Result<(Tracker, Children), OutOfMemory>
-    requires { IsSome (parts_as (as_tracker tracker) (view value.old)) }
+    requires parts { IsSome (parts_as (as_tracker tracker) (view value.old)) }
+    requires apart { HoldsNothingTwice (view value.old) }
     ensures over { IfOk result (λ made.
         as_tracker made.0 ≡ over_base (as_tracker tracker) (view value.old)) }
     ensures parts { IfOk result (λ made.

@@ -4,15 +4,15 @@ ghost use Rattle.fr_frame.specs.Common.{Conserved, IfSome, IsGrowing, IsSetBody,
 ghost use Rattle.fr_shape.specs.Fills.{is_empty_struct};
 ghost use Rattle.fr_model.specs.Trackers.{Tracker as TreeTracker};
 ghost use Rattle.fr_frame.specs.Bodies.{fresh_body, IsMapBody, MayOpen};
-ghost use Rattle.fr_frame.specs.Cells.{held_value};
+ghost use Rattle.fr_values.specs.Cells.{held_value};
 ghost use Rattle.fr_frame.specs.Growing.{grown, MayGrow};
 ghost use Rattle.fr_frame.specs.declared.places.SlotId.{SlotId as Number};
 
-use crate::children::Children;
 use crate::dynamic_values::add_entry_for;
 use crate::opening::children_of;
 use crate::places::{Growth, PartialValue, SlotId, Tracker};
 use fr_shape::{Items, Ledger, OutOfMemory, ShapeId, ShapeTable, Value, release};
+use fr_values::Children;
 use std::alloc::Global;
 
 /// The number of a child, where the place has it.
@@ -30,7 +30,7 @@ fn slot_of_child(children: &Children, i: usize) -> Option<SlotId>
     ensures { option_map (λ (child : Number). child.0) result
         ≡ option_and_then slot_of_cell (slice_get children.now i) }
 {
-    children.slot(child_at(children, i)?)
+    children.slot(child_at(children, i)?).map(SlotId)
 }
 
 /// The slot of child `i`, where the place has that child, and has it in a slot.
@@ -57,7 +57,7 @@ fn link_child(children: &mut Children, i: u32, slot: SlotId) -> Option<Value>
     if children.slot(at).is_some() {
         return None;
     }
-    children.place(at, slot)
+    children.place(at, slot.0)
 }
 
 /// Puts child `i` into a slot, where the place has it and it is in none, and hands its value out,
@@ -86,7 +86,7 @@ fn unlink_child(children: &mut Children, i: u32, slot: SlotId)
     let Some(held) = children.slot(at) else {
         return;
     };
-    if held.0 == slot.0 {
+    if held == slot.0 {
         children.clear(at);
     }
 }

@@ -5,12 +5,11 @@ ghost use Rattle.fr_frame.specs.Common.{IfOk, None, Some, as_entries};
 ghost use Rattle.fr_model.specs.Paths.{step_as};
 ghost use Rattle.fr_model.specs.Trackers.{EntriesKind as TreeEntriesKind};
 
-use crate::children::Children;
-use crate::keys::Keys;
 use fr_arena::{Idx, ListRope};
 use fr_path::PathStep;
 use fr_plan::NodeId;
 use fr_shape::{OutOfMemory, Text, Value};
+use fr_values::{Children, Keys};
 use std::alloc::Global;
 
 /// The number of a slot.

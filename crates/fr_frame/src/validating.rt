@@ -3,12 +3,12 @@
 ghost use Rattle.std.specs.Prelude.{◌≡◌};
 ghost use Rattle.fr_frame.specs.Common.{HasAllChildren, HasValidators, IfErr, IsCauseOf, IsChecked, IsPlanFor, IsPlanned, IsSome, None, OnOk, Table, as_fields, body_of, first_invalid, invalid, option_copied, option_map, refused_of, shape_of, slice_get, trees_of, values_of, view};
 
-use crate::children::Children;
 use crate::field_plans::{fields_told, has_validators};
 use crate::lacking::run_validators;
 use crate::places::PartialValue;
 use fr_plan::{FieldPlan, NodeId, TypePlanCore};
 use fr_shape::{Hooks, ReflectErrorKind, Value};
+use fr_values::Children;
 use std::alloc::Global;
 
 /// What is told of the field of this number, if there is one.

@@ -1,7 +1,7 @@
 use Rattle.std.proofs.Common.{true, ◌≡◌, sym, ◌∙◌, arith}
 use Rattle.fr_frame.specs.Common.{Slot, is_list}
 use Rattle.fr_frame.proofs.DrainLaws.{is_drained, list_in}
-use Rattle.fr_frame.proofs.HeapLaws.{holds_inside, holds_read}
+use Rattle.fr_values.specs.SliceLaws.{holds_inside, holds_read}
 use Rattle.fr_frame.proofs.draining.drain_list.Goals as goal
 
 pub unreachable-requires : goal.unreachable-requires

@@ -1,6 +1,6 @@
 use Rattle.std.proofs.Common.{Some, ap, sym, ◌∙◌, subst, arith}
 use Rattle.fr_frame.specs.Common.{IsListedIn, Slot, node_of}
-use Rattle.fr_frame.proofs.HeapLaws.{read}
+use Rattle.fr_values.specs.SliceLaws.{read}
 use Rattle.fr_frame.proofs.items.list_of.Goals as goal
 
 pub returns-in-List : goal.returns-in-List

@@ -1,7 +1,7 @@
 use Rattle.std.proofs.Common.{◌≡◌, Some, option_map, ap, sym, ◌∙◌, rules}
 use Rattle.fr_frame.specs.Common.{cells_of_vals, the_lemmas, vals_view, view}
 use Rattle.fr_model.specs.Places.{items_of}
-use Rattle.fr_frame.proofs.CellLaws.{cells_of_given}
+use Rattle.fr_values.specs.CellLaws.{cells_of_given}
 use Rattle.fr_frame.proofs.opening.children_of_list.Goals as goal
 
 pub returns-in-Ok-clause-parts : goal.returns-in-Ok-clause-parts

@@ -1,6 +1,6 @@
 use Rattle.std.proofs.Common.{◌≡◌, Some, option_map, ap, sym, ◌∙◌, rules}
 use Rattle.fr_frame.specs.Common.{cells_of_vals, parts_of, the_lemmas, vals_view, view}
-use Rattle.fr_frame.proofs.CellLaws.{cells_of_given}
+use Rattle.fr_values.specs.CellLaws.{cells_of_given}
 use Rattle.fr_frame.proofs.opening.children_of_product.Goals as goal
 
 pub returns-in-Ok-clause-parts : goal.returns-in-Ok-clause-parts

@@ -1,6 +1,6 @@
 use Rattle.std.proofs.Common.{List, Option, ap, arith}
 use Rattle.fr_frame.specs.Common.{Cell, Val, cells_occur, placed, value_occurs}
-use Rattle.fr_frame.proofs.CellLaws.{occur_taken}
+use Rattle.fr_values.specs.CellLaws.{occur_taken}
 use Rattle.fr_frame.proofs.partial_values.link_child.Goals as goal
 
 pub returns-clause-tokens : goal.returns-clause-tokens

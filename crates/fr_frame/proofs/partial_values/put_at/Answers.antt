@@ -1,6 +1,6 @@
 use Rattle.std.proofs.Common.{◌≡◌, List, Some, slice_get, ap, sym, ◌∙◌, arith}
 use Rattle.fr_frame.specs.Common.{Cell, absent, cells_occur, given, view}
-use Rattle.fr_frame.proofs.CellLaws.{occur_set}
+use Rattle.fr_values.specs.CellLaws.{occur_set}
 use Rattle.fr_frame.proofs.partial_values.put_at.Goals as goal
 
 pub returns-clause-tokens : goal.returns-clause-tokens

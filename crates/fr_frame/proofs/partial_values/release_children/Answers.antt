@@ -1,6 +1,6 @@
 use Rattle.std.proofs.Common.{ℕ, List, sym, subst, arith}
 use Rattle.fr_frame.specs.Common.{RoseBy, value_at, value_occurs, view}
-use Rattle.fr_frame.proofs.CellLaws.{releasing_room, releasing_step, releasing_ends, rose_not, rose_by}
+use Rattle.fr_values.specs.CellLaws.{releasing_room, releasing_step, releasing_ends, rose_not, rose_by}
 use Rattle.fr_frame.proofs.partial_values.release_children.Goals as goal
 use Rattle.fr_frame.proofs.partial_values.release_children.Goals.{in-Some, in-None}
 

@@ -1,4 +1,4 @@
-use Rattle.fr_frame.proofs.CellLaws.{Releasing}
+use Rattle.fr_values.specs.CellLaws.{Releasing}
 use Rattle.fr_frame.proofs.partial_values.release_children.Given as goal
 
 abbrev pub invariant-loop-i : goal.invariant-loop-i

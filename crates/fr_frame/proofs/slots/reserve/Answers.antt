@@ -1,6 +1,6 @@
 use Rattle.std.proofs.Common.{arith}
 use Rattle.fr_frame.specs.RawSlots.{IsFree}
-use Rattle.fr_frame.proofs.HeapLaws.{holds_inside}
+use Rattle.fr_values.specs.SliceLaws.{holds_inside}
 use Rattle.fr_frame.proofs.slots.reserve.Goals as goal
 
 pub get_mut-requires : goal.get_mut-requires

@@ -1,7 +1,8 @@
 use Rattle.std.proofs.Common.{◌≡◌, Some, None}
 use Rattle.std.proofs.lemmas.Result.{on_ok_weaker, IfErr-weaker}
 use Rattle.fr_frame.specs.Common.{Node, Slot, left_out, shape_of}
-use Rattle.fr_frame.proofs.PlaceLaws.{of_place, set_as_was}
+use Rattle.fr_frame.proofs.PlaceLaws.{of_place}
+use Rattle.fr_values.specs.SliceLaws.{set_as_was}
 use Rattle.fr_frame.proofs.places.SlotId.require_full_initialization.Goals as goal
 
 pub returns-clause-full : goal.returns-clause-full

@@ -1,7 +1,7 @@
 use Rattle.std.proofs.Common.{◌≡◌, option_map, sym, ◌∙◌, ap}
 use Rattle.fr_frame.specs.Common.{Def, Heap, body_of, def_of, heap_of, held_by, links, shape_of, view}
 use Rattle.fr_frame.specs.Bodies.{taken_over}
-use Rattle.fr_frame.specs.Cells.{held_value}
+use Rattle.fr_values.specs.Cells.{held_value}
 use Rattle.fr_frame.specs.Growing.{grown_above}
 use Rattle.fr_frame.proofs.GrowLaws.{entered_here, taken_fresh, taken_value}
 use Rattle.fr_frame.proofs.ListLaws.{fresh_by}

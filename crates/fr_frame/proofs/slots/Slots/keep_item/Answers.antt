@@ -3,7 +3,7 @@ use Rattle.fr_frame.specs.Common.{Node, Slot}
 use Rattle.fr_frame.specs.Handing.{IsWhole}
 use Rattle.fr_frame.proofs.CompleteItemLaws.{kept_handed, kept_tokens, whole_in}
 use Rattle.fr_frame.proofs.HandLaws.{in_use}
-use Rattle.fr_frame.proofs.HeapLaws.{read}
+use Rattle.fr_values.specs.SliceLaws.{read}
 use Rattle.std.proofs.lemmas.Option.{slice_get_within}
 use Rattle.fr_frame.proofs.RawLaws.{used_inside}
 use Rattle.fr_frame.proofs.slots.Slots.keep_item.Goals as goal

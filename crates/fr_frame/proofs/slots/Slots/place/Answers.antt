@@ -1,7 +1,7 @@
 use Rattle.std.proofs.Common.{◌≡◌, Some, slice_get, option_map, ap, sym, ◌∙◌, arith}
 use Rattle.fr_frame.specs.Common.{items_of, outlined}
 use Rattle.fr_frame.proofs.SlotLaws.{no_place, node_seen, past_seen, with_place}
-use Rattle.fr_frame.proofs.HeapLaws.{read}
+use Rattle.fr_values.specs.SliceLaws.{read}
 use Rattle.fr_frame.proofs.slots.Slots.place.Goals as goal
 
 pub returns-then-id-len : goal.returns-then-id-len

@@ -1,6 +1,0 @@
-use Rattle.std.proofs.Common.{◌≡◌, drop}
-use Rattle.fr_frame.specs.Common.{has_same_cell, view}
-use Rattle.fr_frame.proofs.children.Children.has_same.Given as goal
-
-abbrev pub invariant-loop-i : goal.invariant-loop-i
-invariant-loop-i l = has_same_cell (view l.value) l.self ≡ has_same_cell (view l.value) (drop l.i l.self)

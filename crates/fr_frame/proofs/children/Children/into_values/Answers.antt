@@ -1,5 +1,0 @@
-use Rattle.fr_frame.proofs.CellLaws.{values_are}
-use Rattle.fr_frame.proofs.children.Children.into_values.Goals as goal
-
-pub returns : goal.returns
-returns c = values_are c.self.inside.given _ _ c.self.view_is c.requires

@@ -1,6 +1,0 @@
-use Rattle.std.proofs.Common.{arith}
-use Rattle.fr_frame.proofs.CellLaws.{same_length}
-use Rattle.fr_frame.proofs.children.Children.len.Goals as goal
-
-pub returns : goal.returns
-returns c = record { count = omega (arith, c.len.ensures, same_length c.self.inside.given _ _ c.self.view_is) }

@@ -1,0 +1,11 @@
+pub mod BaseLaws
+pub mod ConvertedLaws
+pub mod DynamicLaws
+pub mod Gathered
+pub mod IndexLaws
+pub mod Indexed
+pub mod Kept
+pub mod KeyLaws
+pub mod Known
+pub mod MadeDynamic
+pub mod Placed

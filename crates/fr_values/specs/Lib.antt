@@ -1,0 +1,11 @@
+pub mod Bases
+pub mod CellLaws
+pub mod Cells
+pub mod ChildIndex
+pub mod Common
+pub mod Conversions
+pub mod Indexing
+pub mod ItemLaws
+pub mod KeyNames
+pub mod KeyPlaces
+pub mod SliceLaws

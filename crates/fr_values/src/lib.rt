@@ -1,0 +1,20 @@
+//! The values of the children of a place: side by side as they come, found by their contents, put
+//! together into sets, maps and dynamic values, taken apart again, and made into dynamic ones.
+#![tactic(auto)]
+
+mod bases;
+mod children;
+mod contents;
+mod converting;
+mod dynamics;
+mod gathering;
+mod key_places;
+mod keys;
+mod value_index;
+
+pub use bases::Base;
+pub use children::{Children, numbers_below};
+pub use converting::converted;
+pub use dynamics::{array_of, elements_of, members_of, object_of};
+pub use gathering::{distinct_items, merge_entries};
+pub use keys::Keys;
