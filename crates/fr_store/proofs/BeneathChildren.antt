@@ -3,7 +3,7 @@ use Rattle.std.proofs.Common.{◌≡◌, ℕ, zero, suc, ◌<◌, ◌≤◌, Boo
 use Rattle.fr_store.specs.Common.{All, Cell, ComesEarlier, Contains, FrameOwner, Heap, Holds, IsHere, IsPlaced, IsStoredHere, Kid, Kids, NodeId, Pairs, Place, Plan, at, begun_plot, body_in, cell_of, cells_count, cells_found, cells_in, count_kids, from_last, gone, is_map_found, kid, kid_at, kid_at_append, kid_nth, no_kids, slot_here, slot_of_cell, slotted}
 use Rattle.std.proofs.lemmas.Bool.{ltb-true, ltb-false}
 use Rattle.std.proofs.lemmas.List.Elements.{All-nil, All-cons, All-append, All-weaker, All-map, Contains-append_left, Contains-append_right}
-use Rattle.fr_frame.specs.Cells.{slot_at}
+use Rattle.fr_values.specs.Cells.{slot_at}
 use Rattle.fr_store.specs.Beneath.{is_map_body, number_if, slot_if, slotted_numbers}
 use Rattle.fr_store.specs.Places.{IsAfterBelow, slot_at as slot_of_place}
 use Rattle.fr_store.specs.Prunes.{kids_below}

@@ -18,7 +18,7 @@ use Rattle.fr_plan.specs.LookupLaws.{LookupsAgree, LookupPathsAgree}
 use Rattle.fr_plan.specs.TypePlan.{Plan}
 use Rattle.fr_frame.specs.declared.places.Slot.{Slot}
 use Rattle.fr_frame.specs.Bodies.{Body, entered_body, whole_body, begun_body, gathers, own_tree, trees_of, value_of, IsClosed}
-use Rattle.fr_frame.specs.Cells.{Cell, given, values_of}
+use Rattle.fr_values.specs.Cells.{Cell, given, values_of}
 use Rattle.fr_frame.specs.Changes.{IfInUse, Shows}
 use Rattle.fr_frame.specs.Completing.{shape_of, FillsAt, IsPlanFor, MayComplete}
 use Rattle.fr_frame.specs.Defaults.{KeepGiven, KeepsTracker, WhyNotDefault}

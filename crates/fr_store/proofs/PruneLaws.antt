@@ -4,7 +4,7 @@ use Rattle.fr_store.specs.Common.{AllMarkedAmong, AreUnplaced, Body, Cell, Conse
 use Rattle.std.proofs.lemmas.Grind.{common_steps}
 use Rattle.std.proofs.lemmas.Bool.Decides.{nat_tests}
 use Rattle.fr_frame.specs.Bodies.{unlinked_by, with_cell}
-use Rattle.fr_frame.specs.Cells.{cells_occur, placed, slot_at}
+use Rattle.fr_values.specs.Cells.{cells_occur, placed, slot_at}
 use Rattle.fr_frame.specs.Kids.{kid_by, kid_from, plot_in}
 use Rattle.fr_store.specs.HoldLaws.{level_below, read_back_in}
 use Rattle.fr_store.specs.Prunes.{emptied, kids_below, kids_in_plot, slotted_occurs}

@@ -1,7 +1,7 @@
 -- One child leaves its slot.
 use Rattle.std.proofs.Common.{◌≡◌, ◌≢◌, ◌⊎◌, ℕ, zero, suc, ◌+◌, ◌-◌, ◌<◌, ◌≤◌, true, false, length, length-set, nat_eq, List, Option, Some, None, inl, inr, refl, sym, ◌∙◌, ap, subst, arith}
 use Rattle.fr_store.specs.Common.{AllMarked, AllMarkedAmong, AllMarkedIn, Body, Cell, Heap, Holds, HoldsAll, HoldsIn, IsPruned, IsRooted, Kid, Kids, Node, Plan, Plot, Tracker, absent, at, begun_body, begun_plot, beneath, body_here, body_in, body_occurs, body_other, cells_found, cells_in, cells_in_body, child_node, child_owner, count_kids, counts_if, counts_other, counts_same, depth_limit, entered_plot, gone, holds_put_nth, kid_nth, marked, marked_nth, pruned, put_nth, same_or_other, slot_other, slotted_occur, stored_in, unlinked, uses, uses_among, uses_in, uses_nth, uses_put_nth, whole_plot, with_slot, without}
-use Rattle.fr_frame.specs.Cells.{slot_at}
+use Rattle.fr_values.specs.Cells.{slot_at}
 use Rattle.fr_store.specs.HoldLaws.{holds_nth}
 use Rattle.fr_store.specs.Prunes.{kids_in_plot, slotted_occurs}
 use Rattle.fr_store.specs.TopLaws.{slot_here}

@@ -2,7 +2,7 @@
 use Rattle.std.proofs.Common.{◌≡◌, ◌≢◌, ◌⊎◌, ℕ, suc, ◌+◌, ◌-◌, ◌<◌, Bool, true, false, List, [], length, Option, Some, None, inl, inr, refl, sym, ◌∙◌, ap, subst, arith, ◌↔◌}
 use Rattle.fr_store.specs.Common.{Body, Contains, IfInUse, IsClosed, IsInUse, IsKept, IsPruned, IsRooted, IsSomeAnd, Kids, Node, Room, Room_fewer, Room_risen, Room_same, RoseBy, RoseBy_same, Shows, Slot, StoresNoMore, at, beneath, body_here, body_in, body_occurs, both, cells_found, child_owner, closed_uses, depth_limit, heap_of, is_some, marked, pruned, same_or_other, slots_occur, slotted_occur, stored_in, without}
 use Rattle.fr_shape.specs.TokenLaws.{nothing, RoseBy_both, RoseBy_nothing, Room_left}
-use Rattle.fr_frame.specs.Cells.{slot_at}
+use Rattle.fr_values.specs.Cells.{slot_at}
 use Rattle.fr_store.specs.HoldLaws.{none_stored}
 use Rattle.fr_store.specs.TopLaws.{closed_by_marks, closed_occur}
 use Rattle.fr_store.proofs.KeptLaws.{kept_but}

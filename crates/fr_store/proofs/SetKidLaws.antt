@@ -3,7 +3,7 @@ use Rattle.std.proofs.Common.{◌≡◌, ◌≢◌, ◌⊎◌, ℕ, zero, suc, B
 use Rattle.fr_store.specs.Common.{AllMarkedAmong, AreLeftAll, AreUnplaced, Cell, IsClosed, IsPlaced, ItemsKind, Kid, Kids, Place, Plot, StoredBut, Tracker, Trees, Val, and_last, as_items, at, body_in, branch, cell_of, cells_in, given, gone, kid, kid_nth, no_kids, put_nth, same_or_other, there, tree_of, trees_in, whole}
 use Rattle.fr_shape.specs.Same.{same}
 use Rattle.fr_model.specs.Collections.{and_item, has_same, is_set_tracker, without_nth}
-use Rattle.fr_frame.specs.Bodies.{and_item_cell, has_same_cell, without_cell}
+use Rattle.fr_values.specs.Cells.{and_item_cell, has_same_cell, without_cell}
 use Rattle.fr_store.proofs.ItemLaws.{kids_and_last, trees_and_last}
 use Rattle.fr_store.proofs.StayLaws.{closed_below, none_below, not_placed}
 

@@ -1,6 +1,7 @@
 -- The names of the crates below that the specs of this one cite, passed on from one place. Declares nothing.
-pub use Rattle.fr_frame.specs.Bodies.{AreUnplaced, Body, IsClosed, IsGrowing, IsMapBody, IsSetBody, IsUnplaced, TakesItems, added, added_entry, and_item_cell, begun_body, body_occurs, can_make, cell_at, cells_of_vals, entered_body, fresh_body, linked, linked_by, opened, opened_by, own_tree, reformed, restarted, taken_over, trees_of, unlinked, unlinked_by, value_of, whole_body, with_cell, with_ended}
-pub use Rattle.fr_frame.specs.Cells.{Cell, absent, cell_occurs, cells_occur, given, placed, slot_of_cell, values_of}
+pub use Rattle.fr_frame.specs.Bodies.{AreUnplaced, Body, IsClosed, IsGrowing, IsMapBody, IsSetBody, IsUnplaced, TakesItems, added, added_entry, begun_body, body_occurs, can_make, cell_at, entered_body, fresh_body, linked, linked_by, opened, opened_by, own_tree, reformed, restarted, taken_over, trees_of, unlinked, unlinked_by, value_of, whole_body, with_cell, with_ended}
+pub use Rattle.fr_values.specs.Cells.{and_item_cell, cells_of_vals}
+pub use Rattle.fr_values.specs.Cells.{Cell, absent, cell_occurs, cells_occur, given, placed, slot_of_cell, values_of}
 pub use Rattle.fr_frame.specs.Changes.{IfInUse, IsInUse, SameMarks, SameTokens, Shows}
 pub use Rattle.fr_frame.specs.Completing.{FillsAt, IsFull, IsPlanFor, MayComplete, shape_of}
 pub use Rattle.fr_frame.specs.Defaults.{WhyNotDefault}

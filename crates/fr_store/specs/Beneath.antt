@@ -15,7 +15,7 @@ use Rattle.fr_model.specs.Well.{Suits}
 use Rattle.fr_plan.specs.TypePlan.{Plan}
 use Rattle.fr_frame.specs.declared.places.Slot.{Slot}
 use Rattle.fr_frame.specs.Bodies.{Body, entered_body, whole_body, begun_body, IsClosed}
-use Rattle.fr_frame.specs.Cells.{Cell, slot_at}
+use Rattle.fr_values.specs.Cells.{Cell, slot_at}
 use Rattle.fr_frame.specs.Heap.{Node}
 use Rattle.fr_frame.specs.Kids.{Kid}
 use Rattle.fr_store.specs.Moves.{cursor_in, tree_here, tree_in_slots, AtTop, IsOpenAt}

@@ -1,7 +1,7 @@
 -- Laws of places none of whose children is in a slot, for proofs: what is put there, and what has a value.
 use Rattle.std.proofs.Common.{◌≡◌, List, [], ◌∷◌, Some, refl, ap}
 use Rattle.fr_store.specs.Below.{AreUnplaced, Body, Cell, IsClosed, Plot, Trees, Val, Vals, absent, begun, begun_body, body_in, branch, cells_in, entered_body, gone, hole, kids_in, own_tree, placed, plot_in, tree_in, trees_in, trees_of, value_of, values_of, whole, whole_body}
-use Rattle.fr_frame.specs.Cells.{given}
+use Rattle.fr_values.specs.Cells.{given}
 use Rattle.fr_store.specs.ValueLaws.{made_of, made_value, more_is}
 
 -- Places none of whose children is in a slot.

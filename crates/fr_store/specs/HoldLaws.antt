@@ -6,7 +6,7 @@ use Rattle.fr_plan.specs.declared.nodes.NodeId.{NodeId}
 use Rattle.fr_plan.specs.TypePlan.{Plan}
 use Rattle.fr_frame.specs.declared.places.FrameOwner.{FrameOwner}
 use Rattle.fr_frame.specs.Bodies.{begun_body}
-use Rattle.fr_frame.specs.Cells.{Cell}
+use Rattle.fr_values.specs.Cells.{Cell}
 use Rattle.fr_frame.specs.Heap.{Node, Heap, depth_limit, marked, stored_in}
 use Rattle.fr_frame.specs.Kids.{Kid, gone, at, Plot, begun_plot, Kids, no_kids, kid, MayHave, cell_of, cells_in, body_in, kid_in, kids_in, plot_in, kid_by, kid_from, child_node, child_owner, Holds, HoldsIn, HoldsAll}
 use Rattle.fr_store.specs.Stands.{cursor_shown, number_of_owner, number_to}

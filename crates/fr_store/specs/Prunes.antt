@@ -1,7 +1,7 @@
 -- What releasing all that is stored beneath a place does, as contracts see it.
 use Rattle.std.specs.Prelude.{◌≡◌, ◌≢◌, ℕ, suc, ◌+◌, ◌<◌, ◌≤◌, true, List, [], map, Option, Some, None, nat_eq}
 use Rattle.fr_store.specs.Below.{Body, Cell, Heap, HoldsIn, Kid, Kids, Node, Plan, Plot, absent, at, begun_body, begun_plot, body_in, entered_body, entered_plot, gone, kid, kid_of, no_kids, placed, plot_occurs, there, whole_body, whole_plot, with_body}
-use Rattle.fr_frame.specs.Cells.{given}
+use Rattle.fr_values.specs.Cells.{given}
 use Rattle.fr_frame.specs.Heap.{depth_limit}
 use Rattle.fr_store.specs.Ways.{counts_if, uses_in, uses_among, AllMarkedIn}
 

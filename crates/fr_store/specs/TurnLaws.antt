@@ -1,7 +1,7 @@
 -- Laws of a turn, for proofs: a stored place that has no child in a slot leaves its slot, and its value goes into the place above.
 use Rattle.std.proofs.Common.{◌≡◌, ◌≢◌, ◌⊎◌, ℕ, suc, ◌+◌, ◌<◌, ◌≤◌, Bool, true, List, [], ◌∷◌, ◌++◌, length, nat_eq, Option, Some, None, inl, inr, refl, sym, ◌∙◌, ap, subst, arith}
 use Rattle.fr_store.specs.Below.{Body, FrameOwner, Heap, Holds, IsClosed, IsOffTheWay, Kid, Kids, MayHave, Node, Place, Plan, Plot, Tracker, Val, at, begun_body, begun_plot, body_in, cell_of, cells_in, child_owner, entered_plot, gone, placed, there, unlinked, whole_plot, with_body, with_cell, with_slot, without}
-use Rattle.fr_frame.specs.Cells.{given}
+use Rattle.fr_values.specs.Cells.{given}
 use Rattle.fr_store.specs.HoldLaws.{AgreeBeside, Replaces, holds_at, holds_put_nth, may_have_all, replaces_at}
 use Rattle.fr_store.specs.LeftLaws.{left_put_at, there_for_any}
 use Rattle.fr_store.specs.LeaveLaws.{below_root, kid_at_append, may_have_put, owner_append, put_append, unlinked_child, with_child, within_put}

@@ -3,7 +3,7 @@ use Rattle.std.proofs.Common.{◌≡◌, ◌≢◌, ◌⊎◌, ℕ, zero, suc, �
 use Rattle.std.specs.Option.{option_and_then}
 use Rattle.std.specs.Prelude.{is_some, IsSome, IsSomeAnd}
 use Rattle.fr_store.specs.Below.{Body, Cell, Closes, ClosingKeepsCompletion, ClosingKeepsFailures, ClosingKeepsFailuresOff, ClosingKeepsFinish, FillsAt, FrameOwner, HasPlace, Heap, IfInUse, IsChecked, IsClosed, IsFull, IsFullAs, IsInUse, IsOffTheWay, IsPlanFor, Kid, LookupPathsAgree, LookupsAgree, MayComplete, MayHave, Meanings, Node, NodeId, Place, Plan, ReflectErrorKind, Shows, Slot, Suits, Table, Tree, TypePlanNode, Val, WhyNotDefault, begun_body, cell_at, cell_of, cells_in, child_owner, closed_at, complete, count_trees, def_of, deferred_column, entered_body, failures_off, finished, gives, heap_of, held_by, own_lack, own_tree, placed, shape_in, shape_of, stored_in, there, tree_at, tree_of, trees_of, value_of, whole_body, with_body, with_cell, without}
-use Rattle.fr_frame.specs.Cells.{given}
+use Rattle.fr_values.specs.Cells.{given}
 use Rattle.fr_store.specs.ClosingLaws.{closes_with, completes_still}
 use Rattle.fr_store.specs.LeaveLaws.{cell_of_child}
 use Rattle.fr_store.specs.MoveLaws.{open_at_from, open_reach}

@@ -2,7 +2,7 @@
 use Rattle.std.proofs.Common.{◌≡◌, suc, Bool, true, false, List, [], ◌∷◌, length, Option, Some, None, refl, sym, ◌∙◌, ap}
 use Rattle.std.specs.Prelude.{if◌then◌else◌}
 use Rattle.fr_store.specs.Below.{Cell, Tracker, Val, Vals, absent, begun_body, can_make, count_vals, first, made, no_vals, one_more, placed, value_as, value_of, values_of}
-use Rattle.fr_frame.specs.Cells.{given}
+use Rattle.fr_values.specs.Cells.{given}
 
 -- what is begun and has a value makes it of its children's
 pub made_value : (tracker : Tracker) (cells : List Cell) {v : Val} → value_of (begun_body tracker cells) ≡ Some v

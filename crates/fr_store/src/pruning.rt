@@ -1,7 +1,7 @@
 //! Releasing what is stored beneath a place.
 ghost use Rattle.fr_store.specs.Common.{IsKept, IsPruned, IsRooted, Room, RoseBy, StoresNoMore, beneath, body_of, cells_found, cells_in_body, heap_of, length, option_map, pruned, slots_occur, slotted_occur, ℕ};
 ghost use Rattle.std.specs.Prelude.{◌+◌, ◌≡◌};
-ghost use Rattle.fr_frame.specs.Cells.{slot_at};
+ghost use Rattle.fr_values.specs.Cells.{slot_at};
 ghost use Rattle.fr_frame.specs.declared.places.SlotId.{SlotId as Number};
 
 use crate::FrameStore;

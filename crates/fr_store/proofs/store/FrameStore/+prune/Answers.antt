@@ -1,5 +1,5 @@
 use Rattle.std.proofs.Common.{◌≡◌, suc, Some, sym, arith}
-use Rattle.fr_frame.specs.Cells.{slot_at}
+use Rattle.fr_values.specs.Cells.{slot_at}
 use Rattle.fr_store.specs.Common.{cells_found, heap_of}
 use Rattle.fr_store.proofs.PruneTurns.{closed_empty, closed_last, pruning_none, pruning_skips, next_falls, next_rooted, next_room, next_in_use, next_stored, frame_room, pruning_child, pruning_same, pruned_now, released_now, tokens_now}
 use Rattle.fr_store.proofs.store.FrameStore.+prune.Goals as goal
