@@ -4,7 +4,7 @@ use Rattle.std.specs.Prelude.{is_none}
 use Rattle.fr_partial.specs.Common.{Body, Cell, ItemsKind, KeepsTracker, MayHave, MayHaveIts, Meanings, ReflectErrorKind, Rules, Table, Tracker, Val, Vals, WhyNot, as_content, as_items, begun, begun_body, entered_body, given, needs_none_by, own_tree, takes_memory, takes_no_memory, trees_of, whole_body}
 use Rattle.fr_model.specs.Places.{one_more}
 use Rattle.fr_frame.specs.Bodies.{boxes, gathers}
-use Rattle.fr_frame.specs.Cells.{values_of}
+use Rattle.fr_values.specs.Cells.{values_of}
 use Rattle.fr_frame.specs.Completing.{takes_template, WhyNot as WhyNotAt}
 pub use Rattle.fr_store.specs.TurnedLaws.{count_of}
 use Rattle.fr_partial.specs.Filling.{has_no_hole}

@@ -18,10 +18,10 @@ begins_so Parts.Entries _ = refl
 
 -- in place only a whole value is begun that has such parts
 pub in_place : (parts : Parts) (tree : Tree) → beginning_as parts tree ≡ Beginning.InPlace → IsWholeWith (tracker_with parts) tree
-in_place Parts.Elements (whole (dyn (dyn_array ds))) e = refl
+in_place Parts.Elements (whole (dyn (dyn_array ds))) e = (refl, tt)
 in_place Parts.Elements (begun (as_items ItemsKind.Array) ts) e = cc
 in_place Parts.Elements _ e = cc
-in_place Parts.Entries (whole (dyn (dyn_object ms))) e = refl
+in_place Parts.Entries (whole (dyn (dyn_object ms))) e = (refl, tt)
 in_place Parts.Entries (begun (as_entries (EntriesKind.Object keys)) ts) e = cc
 in_place Parts.Entries _ e = cc
 

@@ -8,8 +8,8 @@ use Rattle.fr_model.specs.Places.{array_limit}
 use Rattle.fr_model.specs.Tree.{wholes}
 use Rattle.fr_store.specs.Ways.{kid_below, node_below}
 use Rattle.fr_store.specs.WayLaws.{tree_of_below}
-use Rattle.fr_partial.proofs.Converted.{settled_plain}
-use Rattle.fr_partial.proofs.FitLaws.{both_true}
+use Rattle.fr_values.proofs.MadeDynamic.{settled_plain}
+use Rattle.fr_partial.proofs.FitLaws.{both_true, fits_apart}
 use Rattle.fr_partial.proofs.TrackerLaws.{struct_tracker, begun_as, over_so}
 use Rattle.fr_partial.proofs.TreeLaws.{nth_changed, nth_leads}
 
@@ -72,7 +72,7 @@ pub may_open : (table : Table) (s i : ℕ) (tracker : Tracker) (count : ℕ) (pl
     → Suits table s (tree_in plot) → field_refusal (def_of table s) (tree_in plot) i ≡ None → MayOpen tracker (body_in plot)
 may_open table s i tracker count (whole_plot v) full suits may =
     let parts = whole_parts table s i v tracker count full suits may in
-    ap is_some parts.are
+    (ap is_some parts.are, fits_apart table s v suits)
 may_open table s i tracker count _ full suits may = tt
 
 pub has_child : (table : Table) (s i : ℕ) (tracker : Tracker) (count : ℕ) (plot : Plot) → IsFullAs (def_of table s) tracker count

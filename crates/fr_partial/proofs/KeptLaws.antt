@@ -1,14 +1,14 @@
 -- What is kept of a place where it is begun, and what it is then.
 use Rattle.std.proofs.Common.{◌≡◌, ℕ, List, Bool, true, false, ◌&&◌, length, nat_eq, Option, Some, None, option_map, Result, Ok, Err, OnOk, is_some, IsSome, unwrap_or, if◌then◌else◌, refl, sym, ◌∙◌, ap, subst, arith}
 use Rattle.std.proofs.lemmas.Bool.{eqb-true}
-use Rattle.fr_partial.specs.Common.{Beginning, ContentKind, Def, HasChild, IsFullAs, IsWholeWith, MayHave, Mode, PointsRightly, Suits, Table, Tracker, Tree, Trees, Val, as_content, as_fields, base_of_tracker, beginning_in, beginning_of_some, beginning_so, begun, begun_by, branch, change_child, child_as, count_trees, def_of, deferred, enter, entered, fresh, hole, holes, is_around, is_begun, kept_so, no_trees, strict, variant_anew, variant_fields, whole}
+use Rattle.fr_partial.specs.Common.{Beginning, ContentKind, Def, HasChild, HoldsNothingTwice, IsFullAs, IsWholeWith, MayHave, Mode, PointsRightly, Suits, Table, Tracker, Tree, Trees, Val, as_content, as_fields, base_of_tracker, beginning_in, beginning_of_some, beginning_so, begun, begun_by, branch, change_child, child_as, count_trees, def_of, deferred, enter, entered, fresh, hole, holes, is_around, is_begun, kept_so, no_trees, strict, variant_anew, variant_fields, whole}
 use Rattle.fr_model.specs.Contents.{around, content_anew, content_of, is_entered_in_place, kept_in, kept_option}
 use Rattle.fr_model.specs.StateCode.{tracker_comes_back, tracker_numbered}
 use Rattle.fr_model.specs.PathLaws.{HasBegunAs, IsKeptAs}
 use Rattle.fr_model.specs.Trackers.{tracker_number, same_tracker, keys_of_tracker, same_keys}
 use Rattle.fr_model.specs.Well.{HasContent, IsBegunRightly, IsContent, PointsTo}
 use Rattle.fr_model.specs.Entering.{opened_as, opened_value, parts_as}
-use Rattle.fr_shape.specs.Val.{first, no_vals, some}
+use Rattle.fr_shape.specs.Val.{first, map_of, no_vals, set_of, some}
 use Rattle.fr_partial.specs.Beginnings.{kept_by, MayBegin}
 use Rattle.fr_partial.proofs.BelowLaws.{of_content}
 use Rattle.fr_partial.proofs.TrackerLaws.{IsFullTree}
@@ -111,6 +111,12 @@ pub may_begin_in : (mode : Mode) (tracker : Tracker) → is_around tracker ≡ t
 may_begin_in strict tracker h def tree full = tt
 may_begin_in (deferred start) tracker h def tree full = may_begin_so tracker h def tree full
 
+-- a whole `Some` is no set and no map
+some_apart : (v w : Val) → content_of v ≡ Some w → HoldsNothingTwice v
+some_apart (set_of vs) w e = cc
+some_apart (map_of es) w e = cc
+some_apart _ w e = tt
+
 pub may_begin_some : (mode : Mode) (content def : Def) (tree : Tree) → IsFullTree def tree
     → MayBegin (beginning_of_some mode content tree) (as_content ContentKind.Some) tree
 may_begin_some mode content def hole full = tt
@@ -119,7 +125,7 @@ may_begin_some mode content def (whole v) full = go (is_entered_in_place mode co
   where
     go : (b : Bool) (held : Option Val) → is_entered_in_place mode content ≡ b → content_of v ≡ held
         → MayBegin (beginning_of_some mode content (whole v)) (as_content ContentKind.Some) (whole v)
-    go true (Some w) h e = rw (h, e) (ap (λ (found : Option Val). is_some (option_map (λ (x : Val). first x no_vals) found)) e, refl)
+    go true (Some w) h e = rw (h, e) ((ap (λ (found : Option Val). is_some (option_map (λ (x : Val). first x no_vals) found)) e, some_apart v w e), refl)
     go true None h e = rw (h, e) tt
     go false held h e = rw h tt
 may_begin_some mode content def (begun made ts) full = may_begin_in mode (as_content ContentKind.Some) refl def (begun made ts) full
@@ -143,7 +149,7 @@ some_begun _ h = absurd (cc)
 
 begun_around : (tracker : Tracker) (v : Val) → MayBegin Beginning.InPlace tracker (whole v) → IsBegunAround tracker v
 begun_around tracker v may =
-    subst (λ (f : Tracker). IsBegunAround f v) (sym may.1) (some_begun v (subst (λ (f : Tracker). IsSome (parts_as f v)) may.1 may.0))
+    subst (λ (f : Tracker). IsBegunAround f v) (sym may.1) (some_begun v (subst (λ (f : Tracker). IsSome (parts_as f v)) may.1 may.0.0))
 
 pub has_content : (beginning : Beginning) (tracker : Tracker) (tree : Tree) → MayBegin beginning tracker tree
     → HasChild tracker 0 (begun_by beginning tracker 1 tree)

@@ -3,7 +3,7 @@ use Rattle.std.proofs.Common.{◌≡◌, ◌≤◌, ◌||◌, ℕ, suc, ◌+◌,
 use Rattle.fr_partial.specs.Common.{Body, Cell, EntriesKind, KeepsTracker, Plot, Tracker, Val, Vals, as_entries, base_of_tracker, begun_body, begun_plot, body_in, entered_body, entered_plot, given, gone, value_of, whole_body, whole_plot}
 use Rattle.fr_model.specs.Places.{entry_of}
 use Rattle.fr_frame.specs.Bodies.{boxes, gathers}
-use Rattle.fr_frame.specs.Cells.{values_of}
+use Rattle.fr_values.specs.Cells.{values_of}
 use Rattle.fr_frame.specs.Kids.{kids_in, AreLeftIn, AreLeftAll}
 use Rattle.fr_store.specs.HereLaws.{closed_plot}
 use Rattle.fr_store.specs.LeftLaws.{left_end, left_value}

@@ -8,8 +8,6 @@ pub mod CallLaws
 pub mod ChildLaws
 pub mod ChoiceLaws
 pub mod ContentLaws
-pub mod Converted
-pub mod ConvertedLaws
 pub mod DecidingLaws
 pub mod DefaultLaws
 pub mod DynamicLaws
@@ -18,7 +16,6 @@ pub mod EnterLaws
 pub mod FinishLaws
 pub mod FirstLaws
 pub mod FitLaws
-pub mod TrackerLaws
 pub mod GoingLaws
 pub mod HandingLaws
 pub mod HereLaws
@@ -41,6 +38,7 @@ pub mod StartLaws
 pub mod StateLaws
 pub mod StayingLaws
 pub mod TemplateLaws
+pub mod TrackerLaws
 pub mod TreeLaws
 pub mod WayLaws
 pub mod WorkLaws

@@ -11,8 +11,9 @@ use Rattle.fr_frame.specs.declared.places.ItemsKind.{ItemsKind as MadeItems}
 use Rattle.fr_frame.specs.declared.places.Tracker.{Tracker as Made}
 use Rattle.fr_partial.specs.declared.dynamic_places.Parts.{Parts}
 use Rattle.fr_partial.proofs.ContentLaws.{suits_here}
-use Rattle.fr_partial.proofs.Converted.{settled_plain}
+use Rattle.fr_values.proofs.MadeDynamic.{settled_plain}
 use Rattle.fr_partial.proofs.DecidingLaws.{remains}
+use Rattle.fr_partial.proofs.FitLaws.{fits_apart}
 use Rattle.fr_partial.proofs.SeenLaws.{array_seen, def_seen, dynamic_seen, list_seen, map_seen, set_seen}
 use Rattle.fr_partial.proofs.StateLaws.{IsSiteInOrder}
 use Rattle.fr_partial.proofs.TreeLaws.{alike_here, unchanged}
@@ -105,7 +106,7 @@ of_set table s e = go (def_of table s) refl e
 opens : (table : Table) (s : ℕ) (tracker : Tracker) (tree : Tree) → (is_begun tree ≡ false → Gathers table s tracker)
     → Suits table s tree → MayOpenAs (def_of table s) tracker 0 tree
 opens table s tracker entered gathers suits = ((gathers refl).tracker_is, (gathers refl).none_yet)
-opens table s tracker (whole v) gathers suits = ((gathers refl).tracker_is, (gathers refl).parts v suits)
+opens table s tracker (whole v) gathers suits = ((gathers refl).tracker_is, (gathers refl).parts v suits, fits_apart table s v suits)
 opens table s tracker _ gathers suits = tt
 
 list_opens : (table : Table) (s : ℕ) (tree : Tree) → is_dynamic (def_of table s) ≡ false

@@ -2,6 +2,7 @@
 use Rattle.std.specs.Prelude.{◌≡◌, ◌⊎◌, ℕ, ◌&&◌, is_some, IsSome, Option, Some, None, if◌then◌else◌}
 use Rattle.fr_shape.specs.declared.shape.Def.{Def}
 use Rattle.fr_model.specs.Commands.{Call}
+use Rattle.fr_frame.specs.Bodies.{HoldsNothingTwice}
 use Rattle.fr_model.specs.Contents.{content_of, is_entered_in_place}
 use Rattle.fr_model.specs.Trackers.{Tracker, as_content, ContentKind, same_tracker}
 use Rattle.fr_model.specs.Tree.{Tree, hole, entered, whole, begun, holes, Mode, strict, deferred}
@@ -41,11 +42,11 @@ beginning_of_some mode content (whole v) =
     if is_entered_in_place mode content && is_some (content_of v) then Beginning.InPlace else Beginning.Anew
 beginning_of_some mode content (begun made children) = beginning_in mode (as_content ContentKind.Some) (begun made children)
 
--- a whole value stands there that has parts for the children of a place that is begun so
+-- a whole value stands there that has parts for the children of a place that is begun so, and holds nothing twice
 abbrev pub IsWholeWith : Tracker → Tree → Type 0
 IsWholeWith tracker hole = ⊥
 IsWholeWith tracker entered = ⊥
-IsWholeWith tracker (whole v) = IsSome (parts_as tracker v)
+IsWholeWith tracker (whole v) = IsSome (parts_as tracker v) × HoldsNothingTwice v
 IsWholeWith tracker (begun made children) = ⊥
 
 -- a place with a content may come to be begun so around it: one that stays as it is has the content already, and in place only a

@@ -1,6 +1,6 @@
 -- The names that clauses and proofs cite most, passed on from one place. Declares nothing.
-pub use Rattle.fr_frame.specs.Bodies.{Body, MayOpen, begun_body, entered_body, is_around, own_tree, takes_memory, trees_of, value_of, whole_body}
-pub use Rattle.fr_frame.specs.Cells.{Cell, absent, given, placed}
+pub use Rattle.fr_frame.specs.Bodies.{Body, HoldsNothingTwice, MayOpen, begun_body, entered_body, is_around, own_tree, takes_memory, trees_of, value_of, whole_body}
+pub use Rattle.fr_values.specs.Cells.{Cell, absent, given, placed}
 pub use Rattle.fr_frame.specs.Changes.{SameMarks, SameTokens, Shows}
 pub use Rattle.fr_frame.specs.Completing.{shape_of}
 pub use Rattle.fr_frame.specs.Defaults.{KeepsTracker}
@@ -26,10 +26,10 @@ pub use Rattle.fr_model.specs.Variants.{field_found, variant_fields, variant_nam
 pub use Rattle.fr_model.specs.Well.{IsFullAs, IsInOrder, Leads, OffBut, RestsAround, Suits}
 pub use Rattle.fr_partial.specs.Beginnings.{IsWholeWith, beginning_in, beginning_of_some, beginning_so, begun_by, side_call}
 pub use Rattle.fr_partial.specs.Builder.{Builder, IsCall, IsNotOutOfMemory, holds}
-pub use Rattle.fr_partial.specs.Conversions.{IsUnconverted, are_octets, copies_to_convert}
+pub use Rattle.fr_values.specs.Conversions.{IsUnconverted, are_octets, copies_to_convert}
 pub use Rattle.fr_partial.specs.DynamicBeginnings.{anew_as, kept_as}
 pub use Rattle.fr_partial.specs.Ending.{HoldsItsValue, MayReceive, WhyNot, needs_none_by}
-pub use Rattle.fr_partial.specs.Entering.{Describes}
+pub use Rattle.fr_frame.specs.Admitting.{Describes}
 pub use Rattle.fr_partial.specs.Filling.{takes_no_memory}
 pub use Rattle.fr_partial.specs.HeldPlan.{plan_in}
 pub use Rattle.fr_partial.specs.Looks.{LooksLike, Sees, ends_absent, lacks_last}
@@ -42,7 +42,7 @@ pub use Rattle.fr_partial.specs.Sites.{Site, held_at, shape_at}
 pub use Rattle.fr_partial.specs.Starting.{IsPlanFrom}
 pub use Rattle.fr_partial.specs.Underway.{AreOpen, AreOpened, Became, Changed, IsAtWork, StoresNothing, held_in, top_place, top_shape, top_tree, whole_tree}
 pub use Rattle.fr_partial.specs.Works.{IsSound, site}
-pub use Rattle.fr_partial.specs.declared.admitting.Opening.{Opening}
+pub use Rattle.fr_frame.specs.declared.admitting.Opening.{Opening}
 pub use Rattle.fr_partial.specs.declared.beginning.Beginning.{Beginning}
 pub use Rattle.fr_partial.specs.declared.moves.Change.{Change}
 pub use Rattle.fr_partial.specs.declared.moves.Move.{Move}

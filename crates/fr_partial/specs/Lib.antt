@@ -4,12 +4,9 @@ pub mod Building
 pub mod BuiltValue
 pub mod Choosing
 pub mod Common
-pub mod Conversions
 pub mod DynamicBeginnings
 pub mod Ending
-pub mod Entering
 pub mod Entries
-pub mod FieldDefaults
 pub mod Filling
 pub mod HeldPlan
 pub mod Looks

@@ -4,7 +4,7 @@ use Rattle.fr_shape.specs.declared.shape.ShapeId.{ShapeId}
 use Rattle.fr_shape.specs.Look.{Table}
 use Rattle.fr_model.specs.Tree.{Tree, hole, entered, whole, begun, holes, count_trees}
 use Rattle.fr_frame.specs.Bodies.{Body, entered_body, whole_body, begun_body}
-use Rattle.fr_frame.specs.Cells.{Cell, absent, given, placed}
+use Rattle.fr_values.specs.Cells.{Cell, absent, given, placed}
 use Rattle.fr_partial.specs.Sites.{Site, shape_at, tree_at_site}
 
 -- the same place with none of its children told, but how many there are

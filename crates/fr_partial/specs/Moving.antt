@@ -34,7 +34,7 @@ use Rattle.fr_frame.specs.declared.places.Taker.{Taker}
 use Rattle.fr_partial.specs.declared.moves.Way.{Way}
 use Rattle.fr_partial.specs.Beginnings.{kept_by, MayBegin}
 use Rattle.fr_partial.specs.DynamicBeginnings.{anew_as, kept_as}
-use Rattle.fr_partial.specs.Entering.{Describes}
+use Rattle.fr_frame.specs.Admitting.{Describes}
 use Rattle.fr_partial.specs.Ending.{column_of, completes_late, needs_none_by, RulesServe}
 use Rattle.fr_partial.specs.Modes.{IsBelowStart}
 use Rattle.fr_model.specs.Entering.{Way as Onward, enters}

@@ -3,11 +3,10 @@ ghost use Rattle.std.specs.Prelude.{◌≡◌};
 ghost use Rattle.fr_partial.specs.Common.{Call, Decides, IfOk, IsCall, IsNotOutOfMemory, NeedsNone, Room, body_of, cursor_tree, def_of, holds, init_array_refusal, is_begun, own_tree, result_err, true};
 ghost use Rattle.fr_model.specs.Well.{HasElements};
 
-use crate::admitting::{MOST_ELEMENTS, Opening};
 use crate::moves::{Change, Move};
 use crate::work::Work;
 use crate::{Partial, ReflectError};
-use fr_frame::{PartialValue, Tracker};
+use fr_frame::{MOST_ELEMENTS, Opening, PartialValue, Tracker};
 use fr_shape::{Def, Hooks, Ledger, Operation, ReflectErrorKind, Shape, ShapeId, ShapeTable};
 
 /// How many elements the array of this shape has, or why it can't be begun.

@@ -2,12 +2,11 @@
 //! works; and `set_nth_field_to_default`.
 ghost use Rattle.fr_partial.specs.Common.{Call, Decides, IsCall, Room, holds};
 
-use crate::admitting::{named_refusal, nth_opening, opening_at, selected};
-use crate::field_defaults::default_in;
 use crate::moves::{Change, Move, Way};
 use crate::set::copy_template;
 use crate::work::Work;
 use crate::{Partial, ReflectError};
+use fr_frame::{default_in, named_refusal, nth_opening, opening_at, selected};
 use fr_shape::{Hooks, Ledger, OutOfMemory, ReflectErrorKind};
 
 impl<'t> Work<'t> {

@@ -2,18 +2,15 @@
 #![tactic(auto)]
 
 mod above;
-mod admitting;
 mod arrays;
 mod beginning;
 mod building;
 mod built;
 mod choosing;
-mod converting;
 mod deferring;
 mod dynamic_places;
 mod eenum;
 mod ending;
-mod field_defaults;
 mod fields;
 mod going;
 mod held_plan;
@@ -30,6 +27,7 @@ mod partial;
 mod paths;
 mod placing;
 mod ptr;
+mod putting;
 mod reading;
 mod reflect_error;
 mod result;

@@ -6,12 +6,11 @@ ghost use Rattle.fr_shape.specs.declared.error.ReflectErrorKind.{ReflectErrorKin
 ghost use Rattle.fr_model.specs.Items.{is_list_like, unbegun_refusal, unless_list};
 ghost use Rattle.fr_model.specs.Trackers.{tracker_kind};
 
-use crate::admitting::Opening;
 use crate::dynamic_places::{Parts, is_dynamic};
 use crate::moves::{Change, Move, Way};
 use crate::work::Work;
 use crate::{Partial, ReflectError};
-use fr_frame::{ContentKind, EntriesKind, ItemsKind, PartialValue, Tracker};
+use fr_frame::{ContentKind, EntriesKind, ItemsKind, Opening, PartialValue, Tracker};
 use fr_shape::{
     Def, Hooks, InitCall, Ledger, Operation, ReflectErrorKind, Shape, ShapeId, ShapeTable,
     TrackerKind,

@@ -5,13 +5,12 @@ ghost use Rattle.fr_shape.specs.declared.error.ReflectErrorKind.{ReflectErrorKin
 ghost use Rattle.fr_model.specs.Collections.{unless_map};
 ghost use Rattle.fr_partial.specs.Entries.{key_refusal_by, value_refusal_by};
 
-use crate::admitting::Opening;
 use crate::dynamic_places::{Parts, is_dynamic};
 use crate::lists::{at_shape, unexpected};
 use crate::moves::{Change, Move, Way};
 use crate::work::Work;
 use crate::{Partial, ReflectError};
-use fr_frame::{Children, EntriesKind, ItemsKind, PartialValue, Tracker};
+use fr_frame::{Children, EntriesKind, ItemsKind, Opening, PartialValue, Tracker};
 use fr_shape::{
     Def, Hooks, InitCall, Ledger, Operation, ReflectErrorKind, Shape, ShapeId, ShapeTable,
 };

@@ -3,11 +3,10 @@ ghost use Rattle.fr_partial.specs.Common.{IfOk, OnOk, as_tracker, number_told, s
 ghost use Rattle.std.specs.Prelude.{◌<◌, ◌^◌, ◌≡◌};
 ghost use Rattle.fr_partial.specs.Moving.{step_told};
 
-use crate::admitting::Opening;
 use crate::beginning::Beginning;
 use crate::choosing::Chosen;
 use crate::dynamic_places::Parts;
-use fr_frame::{Taker, Tracker};
+use fr_frame::{Opening, Taker, Tracker};
 use fr_path::PathStep;
 use fr_shape::{OutOfMemory, Text, Value};
 use std::alloc::Global;

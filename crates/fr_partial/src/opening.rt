@@ -3,10 +3,9 @@ ghost use Rattle.std.specs.Prelude.{◌≡◌};
 ghost use Rattle.fr_partial.specs.Common.{Changed, IsAtWork, IsOk, MayOpenAs, OnOk, SameTokens, as_tracker, base_of_tracker, body_of, def_of, is_begun, opened, own_tree, top_shape, top_tree, true};
 ghost use Rattle.fr_frame.specs.Kids.{MayHave};
 
-use crate::admitting::Opening;
 use crate::placing::place_here;
 use crate::work::Frames;
-use fr_frame::PartialValue;
+use fr_frame::{Opening, PartialValue};
 use fr_plan::TypePlanCore;
 use fr_shape::OutOfMemory;
 

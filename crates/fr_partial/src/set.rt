@@ -6,7 +6,6 @@ ghost use Rattle.fr_model.specs.Step.{is_str, is_owned_string};
 ghost use Rattle.fr_partial.specs.Builder.{here};
 ghost use Rattle.fr_partial.specs.Setting.{copies_at};
 
-use crate::converting::converted;
 use crate::dynamic_places::is_dynamic;
 use crate::moves::{Change, Move};
 use crate::work::Work;
@@ -15,6 +14,7 @@ use fr_shape::{
     Def, Dyn, Hooks, Ledger, Operation, OutOfMemory, ReflectErrorKind, ScalarKind, Shape, ShapeId,
     ShapeTable, Shaped, Template, Value, clone_template, release,
 };
+use fr_values::converted;
 use std::alloc::Global;
 
 /// A copy of what a template shows.

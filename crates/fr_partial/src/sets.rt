@@ -5,12 +5,11 @@ ghost use Rattle.fr_shape.specs.declared.error.ReflectErrorKind.{ReflectErrorKin
 ghost use Rattle.fr_model.specs.Collections.{is_set_tracker, unless_set};
 ghost use Rattle.fr_frame.specs.Bodies.{TakesItems};
 
-use crate::admitting::Opening;
 use crate::lists::{at_shape, unexpected};
 use crate::moves::{Change, Move, Way};
 use crate::work::Work;
 use crate::{Partial, ReflectError};
-use fr_frame::{ItemsKind, PartialValue, Tracker};
+use fr_frame::{ItemsKind, Opening, PartialValue, Tracker};
 use fr_shape::{
     Def, Hooks, InitCall, Ledger, Operation, ReflectErrorKind, Shape, ShapeId, ShapeTable,
 };

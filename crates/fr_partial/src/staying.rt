@@ -7,9 +7,9 @@ ghost use Rattle.fr_partial.specs.Moving.{needs_none_for, stays};
 
 use crate::beginning::begin_variant;
 use crate::dynamic_places::begin_parts;
-use crate::field_defaults::put_in_child;
 use crate::moves::Change;
 use crate::opening::open_here;
+use crate::putting::put_in_child;
 use crate::slices::{begin_slice, close_slice};
 use crate::work::{Frames, Parts};
 use fr_model::{law_paths, law_well};

@@ -1,6 +1,6 @@
 use Rattle.std.proofs.Common.{sym, ap, ◌∙◌}
 use Rattle.std.specs.Option.{option_and_then}
-use Rattle.fr_frame.specs.Cells.{slot_of_cell, value_of_cell}
+use Rattle.fr_values.specs.Cells.{slot_of_cell, value_of_cell}
 use Rattle.fr_partial.proofs.MapLaws.{absent_cell, ends_so, given_cell, placed_cell}
 use Rattle.fr_partial.proofs.maps.lacks_last.Goals as goal
 

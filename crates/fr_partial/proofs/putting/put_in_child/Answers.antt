@@ -8,8 +8,8 @@ use Rattle.fr_partial.proofs.KeptLaws.{on_ok}
 use Rattle.fr_partial.proofs.StateLaws.{open_then}
 use Rattle.fr_partial.proofs.TemplateLaws.{light_occurs}
 use Rattle.fr_partial.proofs.TreeLaws.{alike_here, changed_below, changed_twice, put_over}
-use Rattle.fr_partial.proofs.field_defaults.put_in_child.Goals as goal
-use Rattle.fr_partial.proofs.field_defaults.put_in_child.Goals.{After-set}
+use Rattle.fr_partial.proofs.putting.put_in_child.Goals as goal
+use Rattle.fr_partial.proofs.putting.put_in_child.Goals.{After-set}
 
 pub enter-requires-clause-may : goal.enter-requires-clause-may
 enter-requires-clause-may c = (c.requires.opening, c.requires.admitted)

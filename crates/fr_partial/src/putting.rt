@@ -1,68 +1,14 @@
-//! The defaults of fields, and a value at a field or element that isn't entered for it.
-ghost use Rattle.fr_partial.specs.Common.{AreOpened, Plan, AreOpen, Became, Changed, Conserved, Describes, IfErr, IfOk, IsAtWork, None, Ok, OnOk, Room, Val, [], body_of, def_of, false, field_default, field_refusal, held_in, is_root, own_tree, put_child, takes_at_end, tokens, top_place, top_shape, top_tree, tree_at, up, view, whole, whole_tree};
+//! A value at a field or element that isn't entered for it.
+ghost use Rattle.fr_partial.specs.Common.{AreOpened, Plan, AreOpen, Became, Changed, Conserved, Describes, IsAtWork, None, Ok, OnOk, Room, Val, [], def_of, false, field_refusal, held_in, is_root, put_child, takes_at_end, tokens, top_place, top_shape, top_tree, tree_at, up, view, whole, whole_tree};
 ghost use Rattle.std.specs.Prelude.{Err, ◌≡◌};
-ghost use Rattle.fr_partial.specs.FieldDefaults.{default_in};
 
-use crate::admitting::{Opening, field_of, named_refusal, selected};
 use crate::going::enter;
 use crate::mode::Mode;
 use crate::moves::Way;
 use crate::work::Frames;
-use fr_frame::{PartialValue, Taker};
+use fr_frame::{Opening, Taker};
 use fr_plan::{TypePlanCore, law_plan_lookups};
-use fr_shape::{
-    DefaultSource, Field, Ledger, Operation, OutOfMemory, ReflectErrorKind, ShapeId, ShapeTable,
-    Template, Value,
-};
-
-/// What a field is set to by its default, or why it can't be.
-fn field_default<'a>(
-    table: &'a ShapeTable,
-    field: &'a Field,
-) -> Result<&'a Template, ReflectErrorKind>
-    ensures told { IfOk result (λ template. field_default table.now field.now ≡ Ok template.now) }
-    ensures refused { IfErr result (λ kind. field_default table.now field.now ≡ Err kind) }
-{
-    let shape = field.shape;
-    match &field.default {
-        Some(DefaultSource::Custom(template)) => Ok(template),
-        Some(DefaultSource::FromTrait) => match table.preset(shape) {
-            Some(template) => Ok(template),
-            None => {
-                let operation = Operation::NoDefault;
-                Err(ReflectErrorKind::OperationFailed { shape, operation })
-            }
-        },
-        None => match table.preset(shape) {
-            Some(template) => Ok(template),
-            None => Err(ReflectErrorKind::DefaultAttrButNoDefaultImpl { shape }),
-        },
-    }
-}
-
-/// The default of field `i` of a place of this shape, or why the field can't be set to one.
-pub fn default_in<'a>(
-    table: &'a ShapeTable,
-    shape: ShapeId,
-    partial: &PartialValue,
-    i: usize,
-) -> Result<&'a Template, ReflectErrorKind>
-    ensures told { IfOk result (λ template.
-        default_in table.now shape.0 (own_tree (body_of partial.now)) i ≡ Ok template.now) }
-    ensures refused { IfErr result (λ kind.
-        default_in table.now shape.0 (own_tree (body_of partial.now)) i ≡ Err kind) }
-{
-    if let Some(operation) = named_refusal(table, shape, partial) {
-        return Err(ReflectErrorKind::OperationFailed { shape, operation });
-    }
-    match field_of(table, shape, selected(partial), i) {
-        Some(field) => field_default(table, field),
-        None => {
-            let operation = Operation::FieldIndexOutOfBounds;
-            Err(ReflectErrorKind::OperationFailed { shape, operation })
-        }
-    }
-}
+use fr_shape::{Ledger, OutOfMemory, Value};
 
 /// Goes back from a whole place, whose value stays there.
 fn leave_whole(frames: &mut Frames, ledger: &mut Ledger) -> Result<(), OutOfMemory>

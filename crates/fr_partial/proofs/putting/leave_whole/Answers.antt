@@ -6,7 +6,7 @@ use Rattle.fr_partial.proofs.HereLaws.{holds_value, of_unboxed, of_value}
 use Rattle.fr_partial.proofs.KeepLaws.{became_marked, room_here}
 use Rattle.fr_partial.proofs.KeptLaws.{on_ok}
 use Rattle.fr_partial.proofs.TreeLaws.{put_again}
-use Rattle.fr_partial.proofs.field_defaults.leave_whole.Goals as goal
+use Rattle.fr_partial.proofs.putting.leave_whole.Goals as goal
 
 pub hand_over-requires-clause-is_open : goal.hand_over-requires-clause-is_open
 hand_over-requires-clause-is_open c = record { plan = c.requires.are_open.plan; is_open = c.requires.are_open.are_open.shown }

@@ -1,7 +1,0 @@
-use Rattle.fr_partial.proofs.Converted.{bytes_at_end}
-use Rattle.fr_partial.proofs.converting.bytes_in.Goals as goal
-
-pub returns-clause-bytes : goal.returns-clause-bytes
-returns-clause-bytes c =
-    bytes_at_end c.as_slice-item-items.result.now c.args.items.now c.loop-item.item-index c.loop-item.bytes
-    c.loop-item-test.false c.loop-item.invariant.2
