@@ -4,52 +4,22 @@
 
 mod answering;
 mod building;
-#[cfg(test)]
-mod collection_tests;
 mod command_form;
-#[cfg(test)]
-mod content_tests;
-#[cfg(test)]
-mod deferred_tests;
 mod document;
 mod document_laws;
-#[cfg(test)]
-mod document_tests;
-#[cfg(test)]
-mod dynamic_refusal_tests;
-#[cfg(test)]
-mod dynamic_tests;
-#[cfg(test)]
-mod limit_tests;
-#[cfg(test)]
-mod list_tests;
 mod marking;
 mod members;
-#[cfg(test)]
-mod original_list_tests;
-#[cfg(test)]
-mod original_tests;
 mod plan_answer;
 mod plan_report;
-#[cfg(test)]
-mod plan_tests;
 mod planning;
 mod released;
 mod report;
-#[cfg(test)]
-mod row_tests;
 mod running;
 mod served;
 mod serving;
 mod sizes;
 mod subcommand;
-#[cfg(test)]
-mod tests;
-#[cfg(test)]
-mod text_tests;
 mod validity;
-#[cfg(test)]
-mod variant_tests;
 
 pub use answering::Answer;
 pub use building::{ScriptError, build_script};

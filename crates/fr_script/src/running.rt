@@ -11,10 +11,11 @@ ghost use Rattle.fr_script.specs.Runs.{asked, usage_line, Tells};
 ghost use Rattle.fr_script.specs.declared.subcommand.Subcommand.{Subcommand as TheSubcommand};
 
 use crate::document_laws::law_successes;
-use crate::serving::respond;
+use crate::serving::{Response, respond};
 use crate::subcommand::Subcommand;
 use fr_doc::{INPUT_LIMIT, InputFault, Sink, Source, read_input, write_report};
 use std::alloc::Global;
+use std::mem::forget;
 
 const USAGE: &str = "usage: build | plan | gen N\n";
 
@@ -24,6 +25,10 @@ const USAGE: &str = "usage: build | plan | gen N\n";
 /// The status is 0 for a value or a plan, 1 where there is none, 2 for a faulty document, 3 for
 /// other words, 4 where the source failed, 5 where the sink failed, and 6 where it is out of
 /// memory.
+///
+/// It is the whole work of a process, so it leaves the tree of the document to the system, which
+/// takes a process's memory back as a whole. Where work goes on after a document, `answer` frees
+/// what it read.
 pub fn run<S: Source, K: Sink>(alloc: Global, words: &[String], source: &mut S, sink: &mut K) -> u8
     ensures range { result ≤ 6 }
 
@@ -78,8 +83,10 @@ pub fn run<S: Source, K: Sink>(alloc: Global, words: &[String], source: &mut S, 
     let Ok(response) = respond(alloc, subcommand, bytes.as_slice()) else {
         return 6;
     };
-    match write_report(sink, response.text.as_bytes()) {
-        Ok(()) => response.status,
+    let Response { status, text, tree } = response;
+    forget(tree);
+    match write_report(sink, text.as_bytes()) {
+        Ok(()) => status,
         Err(_) => 5,
     }
 }

@@ -86,15 +86,15 @@ fn is_want_of_memory(kind: &ReflectErrorKind) -> bool
     matches!(kind, ReflectErrorKind::OutOfMemory)
 }
 
-/// The status and the whole report on a document.
+/// The status and the whole report on a document, and the tree that the document was read from.
 ///
-/// The tree that the document was read from is let go after them. Any earlier that costs more: what
-/// is freed in many small parts is joined as soon as a large part is asked for or freed.
+/// Whoever has it lets the tree go last, or leaves it to the system. Any earlier that costs more:
+/// what is freed in many small parts is joined as soon as a large part is asked for or freed.
 #[derive(Drop)]
 pub struct Response {
     pub status: u8,
     pub text: String,
-    tree: Option<Json>,
+    pub tree: Option<Json>,
 }
 
 /// The status and the whole report on a document, under a subcommand.
