@@ -1,3 +1,0 @@
-pub mod SetLaws
-pub mod SlotLaws
-pub mod TestLaws

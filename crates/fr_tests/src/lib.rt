@@ -1,8 +1,20 @@
-//! The tests of public calls, each crate's as a user's crate makes them: the builder, plans, slots,
-//! forms and devices.
+//! Tests of what the builder stands on, over public calls alone, as a user's crate makes them:
+//! arenas, paths, tables of shapes, their lookups and rules, forms and devices.
 #![tactic(auto)]
 
 #[cfg(test)]
-mod builder_tests;
+mod arena_tests;
+#[cfg(test)]
+mod fill_tests;
 #[cfg(test)]
 mod form_tests;
+#[cfg(test)]
+mod lookup_tests;
+#[cfg(test)]
+mod path_tests;
+#[cfg(test)]
+mod table_tests;
+#[cfg(test)]
+mod texts;
+#[cfg(test)]
+mod validator_tests;

@@ -1,4 +1,5 @@
 //! The forms of tables: each is read once, and each broken one is refused once.
+use crate::texts::check_text;
 use fr_doc::{DocFault, DocPlace, ReadError, json_of, shapes_of};
 use fr_shape::{
     Def, DefaultSource, EnumRepr, Field, FormatProxy, HookId, Items, KnownPointer, ProxyDef,
@@ -306,7 +307,7 @@ fn definitions_of_a_name_are_read(rt: HostRuntime) -> Result<(), Fail> {
         (r#"{"array":[9,10]}"#, " array 9 10"),
     ] {
         let read = told(rt.alloc(), rest)?;
-        assert_eq!(rt; read.as_str(), want);
+        check_text(&rt, read.as_str(), want);
     }
     Ok(())
 }
@@ -329,7 +330,7 @@ fn definitions_of_parts_are_read(rt: HostRuntime) -> Result<(), Fail> {
         ),
     ] {
         let read = told(rt.alloc(), rest)?;
-        assert_eq!(rt; read.as_str(), want);
+        check_text(&rt, read.as_str(), want);
     }
     Ok(())
 }
@@ -362,7 +363,7 @@ fn all_keys_are_read(rt: HostRuntime) -> Result<(), Fail> {
         ),
     ] {
         let read = told(rt.alloc(), rest)?;
-        assert_eq!(rt; read.as_str(), want);
+        check_text(&rt, read.as_str(), want);
     }
     Ok(())
 }
@@ -384,7 +385,7 @@ fn words_name_what_they_say(rt: HostRuntime) -> Result<(), Fail> {
         (r#"{"enum":{"repr":"USize","variants":[]}}"#, " USize"),
     ] {
         let read = told(rt.alloc(), rest)?;
-        assert_eq!(rt; read.as_str(), want);
+        check_text(&rt, read.as_str(), want);
     }
     Ok(())
 }

@@ -1,5 +1,6 @@
 //! The forms of the prose as texts, read and printed, and the details of errors.
-use fr_doc::{detail_of, json_of, shapes_of, value_of};
+use crate::texts::{check_text, table_of};
+use fr_doc::{detail_of, json_of, value_of};
 use fr_shape::{
     AllocError, Expected, FieldRef, InitCall, Invariant, Operation, PlanFault, Reason,
     ReflectErrorKind, ShapeId, ShapeTable, Text, TrackerKind, TryFromFault,
@@ -51,7 +52,7 @@ fn values_come_back(rt: HostRuntime) -> Result<(), Fail> {
         "{\"d\":{\"o\":[[\"k\",1],[\"j\",[]]]}}",
     ] {
         let printed = reprinted(rt.alloc(), text)?;
-        assert_eq!(rt; printed.as_str(), text);
+        check_text(&rt, printed.as_str(), text);
     }
     Ok(())
 }
@@ -68,7 +69,7 @@ fn other_spellings_print_as_one(rt: HostRuntime) -> Result<(), Fail> {
         ),
     ] {
         let printed = reprinted(rt.alloc(), text)?;
-        assert_eq!(rt; printed.as_str(), want);
+        check_text(&rt, printed.as_str(), want);
     }
     Ok(())
 }
@@ -126,30 +127,22 @@ const fn field_of_point(index: u32) -> FieldRef {
     }
 }
 
-/// The table of these shapes.
-fn read_table(alloc: Global) -> Result<ShapeTable, Fail> {
-    let json = Json::from_str(alloc, SHAPES)?;
-    match shapes_of(alloc, &json) {
-        Ok(shapes) => Ok(ShapeTable::new(alloc, shapes)),
-        Err(_) => Err(Fail::from("not read")),
-    }
-}
-
 /// Compares the detail of an error of this kind, over that table.
 fn check_detail(
     rt: &(impl Abort + AllocGlobal),
     table: &ShapeTable,
     kind: ReflectErrorKind,
     want: &str,
-) -> Result<(), Fail> {
-    let detail = detail_of(rt.alloc(), table, &kind)?;
-    assert_eq!(rt; detail.as_str(), want);
-    Ok(())
+) {
+    match detail_of(rt.alloc(), table, &kind) {
+        Ok(detail) => check_text(rt, detail.as_str(), want),
+        Err(_) => panic!(rt; "no memory"),
+    }
 }
 
 #[test]
-fn details_name_what_the_place_is(rt: HostRuntime) -> Result<(), Fail> {
-    let table = read_table(rt.alloc())?;
+fn details_name_what_the_place_is(rt: HostRuntime) {
+    let table = table_of(&rt, rt.alloc(), SHAPES);
     check_detail(
         &rt,
         &table,
@@ -158,7 +151,7 @@ fn details_name_what_the_place_is(rt: HostRuntime) -> Result<(), Fail> {
             actual: U32,
         },
         "expected enum, got u32",
-    )?;
+    );
     check_detail(
         &rt,
         &table,
@@ -167,7 +160,7 @@ fn details_name_what_the_place_is(rt: HostRuntime) -> Result<(), Fail> {
             actual: POINT,
         },
         "expected Option, got Point",
-    )?;
+    );
     check_detail(
         &rt,
         &table,
@@ -176,7 +169,7 @@ fn details_name_what_the_place_is(rt: HostRuntime) -> Result<(), Fail> {
             actual: NO_SHAPE,
         },
         "expected Result, got ",
-    )?;
+    );
     check_detail(
         &rt,
         &table,
@@ -185,13 +178,13 @@ fn details_name_what_the_place_is(rt: HostRuntime) -> Result<(), Fail> {
             actual: STRING,
         },
         "expected u32, got String",
-    )?;
+    );
     check_detail(
         &rt,
         &table,
         ReflectErrorKind::FieldError { shape: POINT },
         "no such field",
-    )?;
+    );
     check_detail(
         &rt,
         &table,
@@ -199,7 +192,7 @@ fn details_name_what_the_place_is(rt: HostRuntime) -> Result<(), Fail> {
             field: field_of_point(0),
         },
         "x",
-    )?;
+    );
     check_detail(
         &rt,
         &table,
@@ -207,31 +200,30 @@ fn details_name_what_the_place_is(rt: HostRuntime) -> Result<(), Fail> {
             field: field_of_point(1),
         },
         "",
-    )?;
+    );
     check_detail(
         &rt,
         &table,
         ReflectErrorKind::UninitializedValue { shape: STRING },
         "String",
-    )?;
+    );
     check_detail(
         &rt,
         &table,
         ReflectErrorKind::DefaultAttrButNoDefaultImpl { shape: U32 },
         "u32",
-    )?;
+    );
     check_detail(
         &rt,
         &table,
         ReflectErrorKind::ParseFailed { shape: U32 },
         "u32",
-    )?;
-    Ok(())
+    );
 }
 
 #[test]
-fn details_tell_what_was_wrong(rt: HostRuntime) -> Result<(), Fail> {
-    let table = read_table(rt.alloc())?;
+fn details_tell_what_was_wrong(rt: HostRuntime) {
+    let table = table_of(&rt, rt.alloc(), SHAPES);
     check_detail(
         &rt,
         &table,
@@ -240,7 +232,7 @@ fn details_tell_what_was_wrong(rt: HostRuntime) -> Result<(), Fail> {
             operation: PlanFault::NotSized,
         }),
         "type is not sized",
-    )?;
+    );
     check_detail(
         &rt,
         &table,
@@ -249,7 +241,7 @@ fn details_tell_what_was_wrong(rt: HostRuntime) -> Result<(), Fail> {
             operation: Operation::NoDefault,
         },
         "type does not implement Default",
-    )?;
+    );
     check_detail(
         &rt,
         &table,
@@ -258,7 +250,7 @@ fn details_tell_what_was_wrong(rt: HostRuntime) -> Result<(), Fail> {
             current: TrackerKind::Map,
         },
         "init_set called but tracker isn't something set-like",
-    )?;
+    );
     check_detail(
         &rt,
         &table,
@@ -266,7 +258,7 @@ fn details_tell_what_was_wrong(rt: HostRuntime) -> Result<(), Fail> {
             invariant: Invariant::BuildDeferred,
         },
         "build() called but deferred mode is enabled",
-    )?;
+    );
     check_detail(
         &rt,
         &table,
@@ -274,7 +266,7 @@ fn details_tell_what_was_wrong(rt: HostRuntime) -> Result<(), Fail> {
             reason: Reason::NoSuchField,
         },
         "no such field",
-    )?;
+    );
     check_detail(
         &rt,
         &table,
@@ -282,51 +274,50 @@ fn details_tell_what_was_wrong(rt: HostRuntime) -> Result<(), Fail> {
             reason: Reason::NotAProduct,
         },
         "not a struct, enum, option or result",
-    )?;
-    check_detail(&rt, &table, ReflectErrorKind::OutOfMemory, "out of memory")?;
-    Ok(())
+    );
+    check_detail(&rt, &table, ReflectErrorKind::OutOfMemory, "out of memory");
 }
 
 /// A copy of a message.
-fn message(rt: &impl AllocGlobal, text: &str) -> Result<Text, Fail> {
+fn message(rt: &(impl Abort + AllocGlobal), text: &str) -> Text {
     match Text::new(rt.alloc(), text) {
-        Ok(message) => Ok(message),
-        Err(_) => Err(Fail::from("no memory for a message")),
+        Ok(message) => message,
+        Err(_) => panic!(rt; "no memory for a message"),
     }
 }
 
 #[test]
-fn details_repeat_messages(rt: HostRuntime) -> Result<(), Fail> {
-    let table = read_table(rt.alloc())?;
+fn details_repeat_messages(rt: HostRuntime) {
+    let table = table_of(&rt, rt.alloc(), SHAPES);
     check_detail(
         &rt,
         &table,
         ReflectErrorKind::ValidationFailed {
             field: field_of_point(0),
-            message: message(&rt, "must be >= 5, got 3")?,
+            message: message(&rt, "must be >= 5, got 3"),
         },
         "must be >= 5, got 3",
-    )?;
+    );
     check_detail(
         &rt,
         &table,
         ReflectErrorKind::CustomDeserializationError {
-            message: message(&rt, "refused")?,
+            message: message(&rt, "refused"),
             src_shape: U32,
             dst_shape: POINT,
         },
         "refused",
-    )?;
+    );
     check_detail(
         &rt,
         &table,
         ReflectErrorKind::TryFromError {
             src_shape: U32,
             dst_shape: POINT,
-            inner: TryFromFault::Generic(message(&rt, "must not be zero")?),
+            inner: TryFromFault::Generic(message(&rt, "must not be zero")),
         },
         "must not be zero",
-    )?;
+    );
     check_detail(
         &rt,
         &table,
@@ -336,6 +327,5 @@ fn details_repeat_messages(rt: HostRuntime) -> Result<(), Fail> {
             inner: TryFromFault::UnsupportedSourceType,
         },
         "",
-    )?;
-    Ok(())
+    );
 }

@@ -1,0 +1,6 @@
+use Rattle.fr_builder_tests.proofs.SlotLaws.{room_at}
+use Rattle.fr_builder_tests.proofs.builder_tests.slots.release.Goals as goal
+
+pub release_frame-requires-clause-room : goal.release_frame-requires-clause-room
+release_frame-requires-clause-room g c =
+    room_at c.args.slots.now c.args.id.0 c.args.ledger.now c.requires c.check_used.ensures

@@ -1,0 +1,17 @@
+//! Each call of the builder with ample memory, whole builds, and where the token is after each
+//! refusal; then the places, plans and lookups that the builder stands on.
+mod bench;
+mod calls;
+mod contents;
+mod deferring;
+mod dynamics;
+mod grounds;
+mod lists;
+mod lookups;
+mod paths;
+mod plans;
+mod records;
+mod sets;
+mod slots;
+mod structs;
+mod validators;

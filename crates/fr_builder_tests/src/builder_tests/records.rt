@@ -1,0 +1,147 @@
+//! The example's struct of texts: a person with a name, an email and an age, of which the age has a
+//! default.
+ghost use Rattle.std.specs.Prelude.{◌≡◌, true};
+ghost use Rattle.fr_shape.specs.declared.shape.Def.{Def};
+ghost use Rattle.fr_shape.specs.declared.shape.ScalarKind.{ScalarKind};
+ghost use Rattle.fr_shape.specs.Look.{def_of};
+ghost use Rattle.fr_example.specs.Meant.{is_struct};
+
+use super::bench::{check_value, ledger};
+use super::grounds::ground_of;
+use fr_example::{Pair, record_of};
+use fr_partial::{Built, ReflectError};
+use fr_shape::{Def, FieldRef, Items, ReflectErrorKind, ScalarKind, ShapeId, ShapeTable, Text};
+use std::alloc::Global;
+use std::process::Abort;
+
+const PERSON: &str = r#"{"shapes":[
+    {"name":"String","def":"String"},
+    {"name":"u8","def":"u8"},
+    {"name":"Person","def":{"struct":[
+        {"name":"name","shape":0},
+        {"name":"email","shape":0},
+        {"name":"age","shape":1,"default":{"custom":30}}
+    ]}}
+],"root":2,"commands":[]}"#;
+
+/// Whether a shape is that of texts.
+fn is_string(table: &ShapeTable, id: ShapeId) -> bool
+    ensures { result ≡ true → def_of table.now id.0 ≡ Def.Scalar ScalarKind.String }
+{
+    match table.get(id) {
+        Some(shape) => matches!(shape.def, Def::Scalar(ScalarKind::String)),
+        None => false,
+    }
+}
+
+/// Whether a shape is that of a struct.
+fn has_fields(table: &ShapeTable, id: ShapeId) -> bool
+    ensures { result ≡ true → is_struct (def_of table.now id.0) ≡ true }
+{
+    match table.get(id) {
+        Some(shape) => matches!(shape.def, Def::Struct(_)),
+        None => false,
+    }
+}
+
+/// The person of these pairs.
+fn person(rt: &(impl Abort + AllocGlobal), pairs: Items<Pair>) -> Result<Built, ReflectError> {
+    let ground = ground_of(rt, PERSON);
+    let mut ledger = ledger(rt, rt.alloc(), 0);
+    assert!(rt; has_fields(&ground.table, ShapeId(2)) && is_string(&ground.table, ShapeId(0)));
+    record_of(
+        rt.alloc(),
+        &ground.table,
+        ShapeId(2),
+        ShapeId(0),
+        pairs,
+        &mut ledger,
+    )
+}
+
+fn text(rt: &impl Abort, alloc: Global, s: &str) -> Text {
+    match Text::new(alloc, s) {
+        Ok(text) => text,
+        Err(_) => panic!(rt; "no memory"),
+    }
+}
+
+fn pairs_of(rt: &impl Abort, alloc: Global, pairs: &[(&str, &str)]) -> Items<Pair> {
+    let mut items = Items::new(alloc);
+    for (name, said) in pairs {
+        let pair = Pair {
+            name: text(rt, alloc, *name),
+            text: text(rt, alloc, *said),
+        };
+        let pushed = items.push(pair);
+        assert!(rt; pushed.is_ok());
+    }
+    items
+}
+
+/// Ends the test where the person of these pairs is printed otherwise.
+fn check_person(rt: &(impl Abort + AllocGlobal), pairs: &[(&str, &str)], want: &str) {
+    match person(rt, pairs_of(rt, rt.alloc(), pairs)) {
+        Ok(built) => check_value(rt, rt.alloc(), built.value(), want),
+        Err(_) => panic!(rt; "refused"),
+    }
+}
+
+/// Why there is no person of these pairs.
+fn refusal_of(rt: &(impl Abort + AllocGlobal), pairs: &[(&str, &str)]) -> ReflectErrorKind {
+    match person(rt, pairs_of(rt, rt.alloc(), pairs)) {
+        Ok(_) => panic!(rt; "not refused"),
+        Err(error) => error.kind,
+    }
+}
+
+#[test]
+fn builds_out_of_order(rt: HostRuntime) {
+    check_person(
+        &rt,
+        &[("email", "ana@example.org"), ("name", "Ana")],
+        r#"["Ana","ana@example.org",30]"#,
+    );
+}
+
+#[test]
+fn last_of_a_name_wins(rt: HostRuntime) {
+    check_person(
+        &rt,
+        &[
+            ("name", "Ana"),
+            ("email", "ana@example.org"),
+            ("name", "Eva"),
+        ],
+        r#"["Eva","ana@example.org",30]"#,
+    );
+}
+
+#[test]
+fn refuses(rt: HostRuntime) {
+    let kind = refusal_of(&rt, &[("nam", "?")]);
+    assert!(rt; matches!(kind, ReflectErrorKind::FieldError { shape: ShapeId(2) }));
+    let kind = refusal_of(&rt, &[("age", "?")]);
+    assert!(rt;
+        matches!(
+            kind,
+            ReflectErrorKind::WrongShape {
+                expected: ShapeId(1),
+                actual: ShapeId(0)
+            }
+        )
+    );
+    let kind = refusal_of(&rt, &[("name", "?")]);
+    assert!(rt;
+        matches!(
+            kind,
+            ReflectErrorKind::UninitializedField {
+                field: FieldRef {
+                    shape: ShapeId(2),
+                    variant: None,
+                    index: 1
+                },
+            }
+        )
+    );
+}

@@ -1,0 +1,231 @@
+//! Deferred mode in documents: places are left half done, entered again, overwritten and completed
+//! at the end.
+use crate::cases::check_each;
+use crate::run_tests::check;
+use std::test::Fail;
+
+/// The shapes u32, String, Inner (x and b) and Outer (name and inner), with Outer as the root.
+const NESTED: &str = r#"{"shapes":[
+    {"name":"u32","def":"u32"},
+    {"name":"String","def":"String"},
+    {"name":"Inner","def":{"struct":[{"name":"x","shape":0},{"name":"b","shape":0}]}},
+    {"name":"Outer","def":{"struct":[{"name":"name","shape":1},{"name":"inner","shape":2}]}}
+],"#;
+
+const COMING_BACK: &str = r#"
+    # a field that is left half done and entered again keeps what it has
+    "root":3,"commands":[
+        ["begin_deferred"],["begin_nth_field",1],["begin_nth_field",0],["set",0,42],["end"],
+        ["end"],["begin_nth_field",0],["set",1,"Hello, world!"],["end"],
+        ["begin_nth_field",1],["begin_nth_field",1],["set",0,43],["end"],["end"],
+        ["finish_deferred"]
+    ]}
+    = 0 {"ok":["Hello, world!",[42,43]],"released":[]}
+    # deferred mode has to end before the value is built
+    "root":3,"commands":[
+        ["begin_deferred"],["begin_nth_field",1],["begin_nth_field",0],["set",0,42],["end"],
+        ["end"],["begin_nth_field",0],["set",1,"Hello, world!"],["end"],
+        ["begin_nth_field",1],["begin_nth_field",1],["set",0,43],["end"],["end"]
+    ]}
+    = 1 {"error":{"command":14,"detail":"build() called but deferred mode is enabled",
+        "kind":"InvariantViolation","path":""},"released":[]}
+    # the deepest failing place is told, though a shallower one comes first
+    "root":3,"commands":[
+        ["begin_deferred"],["begin_nth_field",0],["end"],
+        ["begin_nth_field",1],["begin_nth_field",1],["end"],["end"],["finish_deferred"]
+    ]}
+    = 1 {"error":{"command":7,"detail":"u32","kind":"UninitializedValue","path":""},"released":[]}
+    # deferred mode ends where the builder works, and strict mode goes on
+    "root":3,"commands":[
+        ["begin_nth_field",1],["begin_deferred"],["begin_nth_field",0],["set",0,1],["end"],
+        ["begin_nth_field",1],["set",0,2],["end"],["finish_deferred"],["end"],
+        ["begin_nth_field",0],["set",1,"s"],["end"]
+    ]}
+    = 0 {"ok":["s",[1,2]],"released":[]}
+    # it needn't have come back, and what is above stays open
+    "root":3,"commands":[
+        ["begin_deferred"],["begin_nth_field",1],["begin_nth_field",0],["set",0,1],["end"],
+        ["begin_nth_field",1],["set",0,2],["finish_deferred"],["end"],["end"],
+        ["begin_nth_field",0],["set",1,"s"],["end"]
+    ]}
+    = 0 {"ok":["s",[1,2]],"released":[]}
+    # no place is left above the one at which deferred mode began
+    "root":3,"commands":[["begin_nth_field",1],["begin_deferred"],["end"]]}
+    = 1 {"error":{"command":2,
+        "detail":"Partial::end() called but would pop below deferred start depth",
+        "kind":"InvariantViolation","path":"inner"},"released":[]}
+    # a hole is found at the end
+    "root":3,"commands":[
+        ["begin_deferred"],["begin_nth_field",1],["begin_nth_field",0],["set",0,1],["end"],
+        ["end"],["finish_deferred"]
+    ]}
+    = 1 {"error":{"command":6,"detail":"b","kind":"UninitializedField","path":""},"released":[]}
+"#;
+
+/// The shapes u32, Res, Cell (a Res and a u32) and Pair (p and q, two cells), before the root.
+const CELLS: &str = r#"{"shapes":[
+    {"name":"u32","def":"u32"},
+    {"name":"Res","def":"opaque"},
+    {"name":"Cell","def":{"struct":[{"name":"a","shape":1},{"name":"k","shape":0}]}},
+    {"name":"Pair","def":{"struct":[{"name":"p","shape":2},{"name":"q","shape":2}]}}
+],"#;
+
+const OVERWRITTEN: &str = r#"
+    # a whole value releases what was left beneath it
+    "root":3,"tokens":3,"commands":[
+        ["begin_deferred"],["begin_nth_field",0],["begin_nth_field",0],["set",1,{"t":0}],
+        ["end"],["end"],["set",3,[[{"t":1},1],[{"t":2},2]]],["finish_deferred"]
+    ]}
+    = 0 {"ok":[[{"t":1},1],[{"t":2},2]],"released":[0]}
+    # a refusal releases what was left
+    "root":3,"tokens":2,"commands":[
+        ["begin_deferred"],["begin_nth_field",0],["begin_nth_field",0],["set",1,{"t":0}],
+        ["end"],["end"],
+        ["begin_nth_field",1],["begin_nth_field",0],["set",1,{"t":1}],["end"],["end"],
+        ["begin_nth_field",2]
+    ]}
+    = 1 {"error":{"command":11,"detail":"field index out of bounds","kind":"OperationFailed","path":""},"released":[0,1]}
+    # the end that fails releases all
+    "root":3,"tokens":2,"commands":[
+        ["begin_deferred"],["begin_nth_field",1],["set",2,[{"t":0},1]],["end"],
+        ["begin_nth_field",0],["begin_nth_field",0],["set",1,{"t":1}],["end"],["end"],
+        ["finish_deferred"]
+    ]}
+    = 1 {"error":{"command":9,"detail":"k","kind":"UninitializedField","path":""},"released":[0,1]}
+"#;
+
+/// The shapes u32, Nums (a list with a default), Empty (a struct without fields, with a default),
+/// HasList and HasEmpty, before the root.
+const DEFAULTS: &str = r#"{"shapes":[
+    {"name":"u32","def":"u32"},
+    {"name":"Nums","def":{"list":0},"preset":{"l":[]}},
+    {"name":"Empty","def":{"unit":[]},"preset":[]},
+    {"name":"HasList","def":{"struct":[{"name":"l","shape":1}]}},
+    {"name":"HasEmpty","def":{"struct":[{"name":"e","shape":2},{"name":"k","shape":0}]}}
+],"#;
+
+const FILLED_AT_THE_END: &str = r#"
+    # the end fills a list that has a default
+    "root":3,"commands":[["begin_deferred"],["finish_deferred"]]}
+    = 0 {"ok":[{"l":[]}],"released":[]}
+    # it doesn't fill a struct without fields
+    "root":4,"commands":[["begin_deferred"],["begin_nth_field",1],["set",0,1],["end"],["finish_deferred"]]}
+    = 1 {"error":{"command":4,"detail":"e","kind":"UninitializedField","path":""},"released":[]}
+    # which is whole as soon as it is entered
+    "root":4,"commands":[
+        ["begin_deferred"],["begin_nth_field",0],["end"],
+        ["begin_nth_field",1],["set",0,1],["end"],["finish_deferred"]
+    ]}
+    = 0 {"ok":[[],1],"released":[]}
+"#;
+
+/// The shapes u32 (with the default 0), Dd (a field that is marked with 5) and Ss (two fields, with
+/// a default), before the root.
+const MARKED: &str = r#"{"shapes":[
+    {"name":"u32","def":"u32","preset":0},
+    {"name":"Dd","def":{"struct":[{"name":"a","shape":0,"default":{"custom":5}}]}},
+    {"name":"Ss","def":{"struct":[{"name":"x","shape":0},{"name":"y","shape":0}]},"preset":[1,2]}
+],"#;
+
+const MARKED_AT_THE_END: &str = r#"
+    # a field that was entered takes no default at the end either
+    "root":1,"commands":[["begin_deferred"],["begin_nth_field",0],["end"],["finish_deferred"]]}
+    = 1 {"error":{"command":3,"detail":"u32","kind":"UninitializedValue","path":""},"released":[]}
+    # a marked field is filled at the end
+    "root":1,"commands":[["begin_deferred"],["finish_deferred"]]}
+    = 0 {"ok":[5],"released":[]}
+    # the default of the struct doesn't fill its fields at the end
+    "root":2,"commands":[["begin_deferred"],["begin_nth_field",0],["set",0,9],["end"],["finish_deferred"]]}
+    = 1 {"error":{"command":4,"detail":"y","kind":"UninitializedField","path":""},"released":[]}
+"#;
+
+/// The shapes u32, A64 and A3 (arrays of so many), before the root.
+const ARRAYS: &str = r#"{"shapes":[
+    {"name":"u32","def":"u32"},
+    {"name":"A64","def":{"array":[0,64]}},
+    {"name":"A3","def":{"array":[0,3]}}
+],"#;
+
+const ELEMENTS: &str = r#"
+    # an element that was only entered is set later
+    "root":2,"commands":[
+        ["begin_deferred"],["begin_nth_field",0],["set",0,1],["end"],
+        ["begin_nth_field",1],["end"],["begin_nth_field",2],["set",0,3],["end"],
+        ["begin_nth_field",1],["set",0,2],["end"],["finish_deferred"]
+    ]}
+    = 0 {"ok":[1,2,3],"released":[]}
+    # a missing element is found at the end
+    "root":2,"commands":[["begin_deferred"],["begin_nth_field",0],["set",0,1],["end"],["finish_deferred"]]}
+    = 1 {"error":{"command":4,"detail":"A3","kind":"UninitializedValue","path":""},"released":[]}
+"#;
+
+#[test]
+fn places_that_were_left_are_entered_again(rt: HostRuntime) -> Result<(), Fail> {
+    check_each(&rt, NESTED, 7, COMING_BACK)
+}
+
+#[test]
+fn what_was_left_is_released_once(rt: HostRuntime) -> Result<(), Fail> {
+    check_each(&rt, CELLS, 3, OVERWRITTEN)
+}
+
+#[test]
+fn the_end_fills_by_its_own_rules(rt: HostRuntime) -> Result<(), Fail> {
+    check_each(&rt, DEFAULTS, 3, FILLED_AT_THE_END)?;
+    check_each(&rt, MARKED, 3, MARKED_AT_THE_END)?;
+    check_each(&rt, ARRAYS, 2, ELEMENTS)
+}
+
+#[test]
+fn elements_come_backwards_in_deferred_mode(rt: HostRuntime) -> Result<(), Fail> {
+    let alloc = rt.alloc();
+    let mut document = String::from_str(alloc, ARRAYS)?;
+    let mut want = String::from_str(alloc, r#"{"ok":[0"#)?;
+    document.push_str(r#""root":1,"commands":[["begin_deferred"],"#)?;
+    for i in (0..64).rev() {
+        let element = format!(in alloc; "[\"begin_nth_field\",{i}],[\"set\",0,{i}],[\"end\"],")?;
+        document.push_str(element.as_str())?;
+    }
+    document.push_str(r#"["finish_deferred"]]}"#)?;
+    for i in 1..64 {
+        let element = format!(in alloc; ",{i}")?;
+        want.push_str(element.as_str())?;
+    }
+    want.push_str(r#"],"released":[]}"#)?;
+    check(&rt, "descending", document.as_bytes(), 0, want.as_str())
+}
+
+/// The settings of a program, as examples/settings.json has them: the lines of its groups come in
+/// turn.
+const SETTINGS: &str = r#"{"shapes":[
+    {"name":"u16","def":"u16"},
+    {"name":"String","def":"String"},
+    {"name":"Server","def":{"struct":[{"name":"host","shape":1},{"name":"port","shape":0}]}},
+    {"name":"Log","def":{"struct":[{"name":"level","shape":1},{"name":"file","shape":1}]}},
+    {"name":"Limits","def":{"array":[0,3]}},
+    {"name":"Settings","def":{"struct":[
+        {"name":"name","shape":1},{"name":"server","shape":2},{"name":"log","shape":3},
+        {"name":"limits","shape":4}
+    ]}}
+],"root":5,"commands":[
+    ["begin_deferred"],["begin_field","server"],["begin_field","host"],["set",1,"localhost"],
+    ["end"],["end"],["begin_field","log"],["begin_field","level"],["set",1,"info"],["end"],["end"],
+    ["begin_field","server"],["begin_field","port"],["set",0,8080],["end"],["end"],
+    ["begin_field","limits"],["begin_nth_field",2],["set",0,30],["end"],["end"],
+    ["begin_field","log"],["begin_field","file"],["set",1,"demo.log"],["end"],["end"],
+    ["begin_field","limits"],["begin_nth_field",0],["set",0,10],["end"],
+    ["begin_nth_field",1],["set",0,20],["end"],["end"],
+    ["begin_field","server"],["set",2,["example.org",443]],["end"],
+    ["begin_field","name"],["set",1,"demo"],["end"],["finish_deferred"]
+]}"#;
+
+#[test]
+fn a_loader_reads_settings_whose_groups_are_interleaved(rt: HostRuntime) -> Result<(), Fail> {
+    check(
+        &rt,
+        "settings",
+        SETTINGS.as_bytes(),
+        0,
+        r#"{"ok":["demo",["example.org",443],["info","demo.log"],[10,20,30]],"released":[]}"#,
+    )
+}

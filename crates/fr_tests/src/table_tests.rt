@@ -1,0 +1,6 @@
+//! Values and tables of shapes, by worked cases: what fits, tables that break a rule, many items,
+//! each call that allocates with ample memory, and hooks.
+mod calls;
+mod fits_rows;
+mod malformed;
+mod many;
