@@ -1,7 +1,7 @@
 use Rattle.std.proofs.Common.{◌≡◌, ℕ, ◌+◌, List, [], ap, ◌∙◌, arith}
 use Rattle.fr_shape.specs.Released.{Room}
 use Rattle.fr_shape.specs.Tokens.{occurs, tokens, times}
-use Rattle.fr_shape.specs.TokenLaws.{Room_same, occurs_times}
+use Rattle.fr_shape.specs.TokenLaws.{Room_conserved, Room_same, occurs_times}
 use Rattle.fr_shape.specs.Val.{Val}
 use Rattle.fr_shape.specs.View.{view}
 use Rattle.fr_builder_tests.proofs.builder_tests.bench.Bench.put_bytes.Goals as goal
@@ -21,3 +21,11 @@ pub set_shape-requires-clause-room : goal.set_shape-requires-clause-room
 set_shape-requires-clause-room g c =
     room_with _ c.shaped-bytes.result.value (view c.two_bytes.result) _ c.shaped-bytes.ensures.value c.two_bytes.ensures
     c.args.self.room
+
+pub invariant_of-result : goal.invariant_of-result
+invariant_of-result g c = record {
+  room =
+      Room_conserved _ _ _ _ c.in-Ok.ensures.call.tokens
+      (room_with _ c.shaped-bytes.result.value (view c.two_bytes.result) _ c.shaped-bytes.ensures.value c.two_bytes.ensures
+      c.args.self.room);
+}
