@@ -12,7 +12,7 @@ use std::cmp::Ordering;
 
 /// A value that is told from others by what it holds.
 #[derive(Clone, Copy)]
-pub(crate) struct ByContents<'a>(pub &'a Value);
+pub struct ByContents<'a>(pub &'a Value);
 
 impl PartialEq for ByContents<'_> {
     ghost eq = { λ a b. same (view a.0.now) (view b.0.now) };

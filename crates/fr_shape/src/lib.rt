@@ -30,6 +30,7 @@ mod value;
 
 pub use checking::TableFault;
 pub use comparing::same;
+pub use contents::ByContents;
 pub use copying::clone_template;
 pub use error::{
     AllocError, Expected, InitCall, Invariant, Operation, PlanError, PlanFault, Reason,

@@ -16,6 +16,7 @@ pub use Rattle.fr_shape.specs.TokenLaws.{Room_fewer, Room_risen, Room_same, Rose
 pub use Rattle.fr_shape.specs.Tokens.{entries_occur, occurs, tokens, vals_occur}
 pub use Rattle.fr_shape.specs.Val.{Entries, Val, Vals, dyn, entry, first, list_of, nat, no_entries, no_vals, unit}
 pub use Rattle.fr_shape.specs.View.{dyn_view, entries_view, vals_view, view}
+pub use Rattle.fr_shape.specs.declared.contents.ByContents.{ByContents}
 pub use Rattle.fr_shape.specs.declared.error.Operation.{Operation}
 pub use Rattle.fr_shape.specs.declared.error.ReflectErrorKind.{ReflectErrorKind}
 pub use Rattle.fr_shape.specs.declared.shape.Def.{Def}
@@ -32,7 +33,6 @@ pub use Rattle.fr_values.specs.Indexing.{Indexes, IsRun, has_number, is_held, jo
 pub use Rattle.fr_values.specs.KeyNames.{names_of}
 pub use Rattle.fr_values.specs.KeyPlaces.{Holds, Knows, entry_place, entry_places, first_keys, item_place, item_places, keys_among, parts_of_entries, place, place_known, places_of, turn_keys, with_key}
 pub use Rattle.fr_values.specs.declared.bases.Base.{Base}
-pub use Rattle.fr_values.specs.declared.contents.ByContents.{ByContents}
 pub use Rattle.std.specs.List.{All}
 pub use Rattle.std.specs.List.Sorted.{IsPermutation}
 pub use Rattle.std.specs.Option.{option_and_then, option_copied, option_map, option_or}

@@ -9,7 +9,7 @@ use Rattle.fr_shape.specs.Same.{same}
 use Rattle.fr_shape.specs.View.{view}
 use Rattle.fr_shape.specs.declared.value.Value.{Value}
 use Rattle.fr_model.specs.Gathering.{with_item_in, with_entry_in}
-use Rattle.fr_values.specs.declared.contents.ByContents.{ByContents}
+use Rattle.fr_shape.specs.declared.contents.ByContents.{ByContents}
 use Rattle.fr_values.specs.declared.key_places.KeyedParts.{KeyedParts}
 use Rattle.fr_values.specs.declared.key_places.KeyedParts.TheVariants.{Items, Entries as Parts}
 

@@ -2,8 +2,7 @@
 ghost use Rattle.std.specs.Prelude.{None, OnOk, Some, drop, if◌then◌else◌, length, slice_get, take, ◌≡◌, ◌≤◌, ◌<◌};
 ghost use Rattle.fr_values.specs.Common.{ByContents, Holds, IfOk, Knows, keys_among, option_or, place, place_known, places_of, same, view};
 
-use crate::contents::ByContents;
-use fr_shape::{OutOfMemory, Value};
+use fr_shape::{ByContents, OutOfMemory, Value};
 use std::alloc::Global;
 use std::collections::{BTreeMap, BTreeSet};
 

@@ -4,7 +4,6 @@
 
 mod bases;
 mod children;
-mod contents;
 mod converting;
 mod dynamics;
 mod gathering;

@@ -4,8 +4,7 @@ ghost use Rattle.std.specs.Prelude.{◌-◌, map, take, drop, ◌++◌, ◌+◌,
 ghost use Rattle.fr_shape.specs.declared.value.Value.{Value as TheValue};
 ghost use Rattle.fr_values.specs.ChildIndex.{IsCutAt};
 
-use crate::contents::ByContents;
-use fr_shape::{OutOfMemory, Value, compare};
+use fr_shape::{ByContents, OutOfMemory, Value, compare};
 use std::alloc::Global;
 use std::cmp::Ordering;
 
