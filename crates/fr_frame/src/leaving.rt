@@ -4,7 +4,7 @@ ghost use Rattle.fr_frame.specs.Common.{Conserved, FrameOwner, IfInUse, IfOk, Is
 ghost use Rattle.fr_frame.specs.Handing.{handed, unhanded, IsHanded, IsMadeWhole, IsTakenWhole, IsWhole, MayTake};
 ghost use Rattle.fr_frame.specs.declared.places.Taker.{Taker};
 
-use crate::making::{make_whole, value_of};
+use crate::assembling::{make_whole, value_of};
 use crate::partial_values::{end_child, release_partial};
 use crate::places::{FrameOwner, PartialValue, Place, SlotId, Taker};
 use crate::slots::Slots;

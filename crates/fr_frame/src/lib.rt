@@ -6,6 +6,7 @@
 #![tactic(auto)]
 
 mod admitting;
+mod assembling;
 mod changing;
 mod completing;
 mod defaulting;
@@ -20,11 +21,10 @@ mod items;
 mod lacking;
 mod leaving;
 mod linking;
-mod making;
-mod opening;
 mod partial_values;
 mod places;
 mod slots;
+mod splitting;
 mod storing;
 mod validating;
 

@@ -9,8 +9,8 @@ ghost use Rattle.fr_frame.specs.Growing.{grown, MayGrow};
 ghost use Rattle.fr_frame.specs.declared.places.SlotId.{SlotId as Number};
 
 use crate::dynamic_values::add_entry_for;
-use crate::opening::children_of;
 use crate::places::{Growth, PartialValue, SlotId, Tracker};
+use crate::splitting::children_of;
 use fr_shape::{Items, Ledger, OutOfMemory, ShapeId, ShapeTable, Value, release};
 use fr_values::Children;
 use std::alloc::Global;

@@ -2,9 +2,9 @@
 //! the next.
 #![tactic(auto)]
 
+mod ascending;
 mod beneath;
-mod ending;
-mod entering;
+mod descending;
 mod finishing;
 mod listing;
 mod pruning;

@@ -1,6 +1,6 @@
 use Rattle.std.proofs.Common.{sym, subst}
 use Rattle.fr_frame.specs.Common.{Conserved, Val, occurs, vals_occur, vals_view}
-use Rattle.fr_frame.proofs.making.map_of.Goals as goal
+use Rattle.fr_frame.proofs.assembling.map_of.Goals as goal
 
 pub returns-in-Ok-clause-conserved : goal.returns-in-Ok-clause-conserved
 returns-in-Ok-clause-conserved c =

@@ -2,8 +2,8 @@ use Rattle.std.proofs.Common.{◌≡◌, ℕ, ◌*◌, List, Some, length, map, 
 use Rattle.fr_values.specs.Cells.{HasNumbers}
 use Rattle.fr_frame.specs.Common.{Cell, EntriesKind, HoldsNothingTwice, Val, Value, as_entries, cells_of_vals, entries_of, entries_view, first_keys, given, map_of, none_twice, vals_view, view}
 use Rattle.fr_frame.proofs.EntryLaws.{base_counted, entries_counted, parts_count, parts_given, parts_keys}
-use Rattle.fr_frame.proofs.opening.children_of_map.Goals as goal
-use Rattle.fr_frame.proofs.opening.children_of_map.Goals.{After-entries_of-entries, After-put_in_turn}
+use Rattle.fr_frame.proofs.splitting.children_of_map.Goals as goal
+use Rattle.fr_frame.proofs.splitting.children_of_map.Goals.{After-entries_of-entries, After-put_in_turn}
 
 -- the map has these entries
 has_entries : (c : After-entries_of-entries) → view c.args.value.now ≡ map_of (entries_view c.entries_of-entries.result.items)

@@ -2,7 +2,7 @@ use Rattle.std.proofs.Common.{◌≡◌, Some, length, option_map, ap, sym, subs
 use Rattle.fr_frame.specs.Common.{HoldsNothingTwice, cells_of_vals, set_items_of, the_lemmas, vals_view, view}
 use Rattle.fr_shape.specs.Val.{set_of}
 use Rattle.fr_values.specs.CellLaws.{cells_of_given}
-use Rattle.fr_frame.proofs.opening.children_of_set.Goals as goal
+use Rattle.fr_frame.proofs.splitting.children_of_set.Goals as goal
 
 pub all_there-requires : goal.all_there-requires
 all_there-requires c =

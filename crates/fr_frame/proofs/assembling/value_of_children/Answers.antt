@@ -3,7 +3,7 @@ use Rattle.fr_frame.specs.Common.{Room_same, Value, as_tracker, cells_occur, giv
 use Rattle.fr_shape.specs.TokenLaws.{Conserved_same}
 use Rattle.fr_frame.proofs.BodyLaws.{as_before, begun_occurs, boxless_value}
 use Rattle.fr_values.specs.CellLaws.{values_occur, cells_by_values}
-use Rattle.fr_frame.proofs.making.value_of_children.Goals as goal
+use Rattle.fr_frame.proofs.assembling.value_of_children.Goals as goal
 
 pub returns-then-not-gathers-clause-conserved : goal.returns-then-not-gathers-clause-conserved
 returns-then-not-gathers-clause-conserved c =
