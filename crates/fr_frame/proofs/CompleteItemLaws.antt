@@ -2,7 +2,7 @@
 use Rattle.std.proofs.Common.{◌≡◌, ◌≢◌, ◌⊎◌, ℕ, ◌+◌, ◌-◌, Bool, List, length, Option, Some, None, IsSomeAnd, get_or, slice_get, set, length-set, option_map, inl, inr, refl, sym, ◌∙◌, ap, subst, arith, if◌then◌else◌}
 use Rattle.fr_frame.specs.Common.{Body, Cell, FrameOwner, Heap, Held, IfInUse, IsSeenAs, Item, Node, PartialValue, Place, SameTokens, Shows, Slot, SlotId, Val, Value, as_tracker, body_occurs, body_of, cell_at, children_with, given, gives, heap_of, held_by, item_in, item_or, items_of, node_in, node_of, occurs, option_and_then, partial_with, placed, slot_occurs, slot_seen, slots_occur, slots_seen, unlinked, value_held, value_of, view, with_cell, with_slot, without}
 use Rattle.fr_frame.specs.Handing.{handed, IsHanded, IsWhole}
-use Rattle.fr_frame.specs.Items.{seen_from}
+use Rattle.fr_frame.specs.ListItems.{seen_from}
 use Rattle.fr_frame.specs.RawItems.{IsKeptItem, IsListed}
 use Rattle.fr_frame.specs.declared.places.Taker.{Taker}
 use Rattle.fr_frame.proofs.AddItemLaws.{seen_kept}

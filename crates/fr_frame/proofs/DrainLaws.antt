@@ -3,7 +3,7 @@ use Rattle.std.proofs.Common.{◌≡◌, ◌≢◌, ◌⊎◌, ℕ, zero, suc, �
 use Rattle.fr_frame.specs.Common.{Box, Cell, FreesItem, FreesItems, Global, Held, IsPlain, IsPlainAt, Item, PartialValue, Place, Rope, Slot, SlotId, Val, is_list, item_cell, item_in, item_or, items_of, option_and_then, partial_with, slot_seen, slots_seen, value_held, view, with_items}
 use Rattle.std.proofs.lemmas.Bool.{eq-eqb, false≢true}
 use Rattle.std.proofs.lemmas.Option.{get_or_from_slice_get, slice_get_read}
-use Rattle.fr_frame.specs.Items.{IsItemFreed}
+use Rattle.fr_frame.specs.ListItems.{IsItemFreed}
 use Rattle.fr_frame.proofs.SeenLaws.{HoldSame, items_set, seen_as_same, slot_seen_same}
 use Rattle.fr_values.specs.SliceLaws.{number_cases, other_number, set_gets, set_keeps}
 

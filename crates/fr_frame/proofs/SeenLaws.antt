@@ -1,7 +1,7 @@
 -- Slots as contracts see them: what one change of a slot does to that.
 use Rattle.std.proofs.Common.{◌≡◌, ℕ, zero, suc, ◌+◌, ◌-◌, List, [], ◌∷◌, ◌++◌, length, Option, Some, None, slice_get, set, option_map, if◌then◌else◌, refl, sym, ◌∙◌, ap, ap₂, subst, add-zero, zero-add, arith}
 use Rattle.fr_frame.specs.Common.{Cell, Held, PartialValue, Slot, SlotId, Val, children_with, heap_of, item_in, item_or, items_of, keeps_items, node_in, option_and_then, partial_with, slot_seen, slots_seen, value_held, with_items}
-use Rattle.fr_frame.specs.Items.{seen_from}
+use Rattle.fr_frame.specs.ListItems.{seen_from}
 use Rattle.fr_values.specs.SliceLaws.{same_lists}
 
 -- what two hold of the items of the list in slot n is the same

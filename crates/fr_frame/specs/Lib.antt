@@ -11,8 +11,8 @@ pub mod Filling
 pub mod Growing
 pub mod Handing
 pub mod Heap
-pub mod Items
 pub mod Kids
+pub mod ListItems
 pub mod OutlineLaws
 pub mod Outlines
 pub mod RawItems

@@ -14,7 +14,7 @@ use Rattle.fr_frame.specs.Outlines.{is_list_body}
 use Rattle.fr_frame.specs.Bodies.{Body, whole_body}
 use Rattle.fr_values.specs.Cells.{absent, placed}
 use Rattle.fr_frame.specs.Heap.{Node, node_in}
-use Rattle.fr_frame.specs.Items.{Held, item_in, slot_seen, IsListedIn}
+use Rattle.fr_frame.specs.ListItems.{Held, item_in, slot_seen, IsListedIn}
 
 -- the place in slot m is item i of this list, whose items are in slots of their own
 pub record IsListed (slots : List Slot) (m : ℕ) (list : SlotId) (i : ℕ) : Type 0 where

@@ -10,7 +10,7 @@ use Rattle.fr_frame.specs.declared.places.Slot.{Slot}
 use Rattle.fr_frame.specs.declared.places.SlotId.{SlotId}
 use Rattle.fr_frame.specs.Bodies.{Body, entered_body, whole_body, begun_body, reformed}
 use Rattle.fr_frame.specs.Heap.{as_tracker, body_of}
-use Rattle.fr_frame.specs.Items.{Held, children_with, keeps_items}
+use Rattle.fr_frame.specs.ListItems.{Held, children_with, keeps_items}
 use Rattle.fr_frame.specs.Outlines.{has_items, is_list_body}
 
 -- the place in the slot, where one is there, is marked so

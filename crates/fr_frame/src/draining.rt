@@ -1,7 +1,7 @@
 //! Lists whose items lie in slots of their own: all items go into their list, behind its base.
 ghost use Rattle.std.specs.Prelude.{◌<◌, ◌≡◌, ◌≢◌, ◌⊎◌};
 ghost use Rattle.fr_frame.specs.Common.{FreesItem, FreesItems, IfNone, IfSome, IsPlainAt, IsUsedAt, children_with, false, is_some, item_cell, items_of, length, option_map, partial_with, slice_get, slice_set, slots_seen, true, value_held, view, ℕ};
-ghost use Rattle.fr_frame.specs.Items.{IsItemFreed, IsListAt};
+ghost use Rattle.fr_frame.specs.ListItems.{IsItemFreed, IsListAt};
 
 use crate::places::{ItemsKind, PartialValue, Slot, SlotId, Tracker};
 use fr_arena::{Arena, ListRope};

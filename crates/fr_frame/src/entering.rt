@@ -7,8 +7,8 @@ ghost use Rattle.fr_frame.specs.Growing.{grown_above, number_by, widened, IsNarr
 ghost use Rattle.fr_frame.specs.Kids.{child_owner};
 ghost use Rattle.fr_frame.specs.declared.places.ChildWay.{ChildWay as Way};
 
-use crate::dynamic_values::entry_number;
 use crate::growing::narrow;
+use crate::object_entries::entry_number;
 use crate::partial_values::fresh;
 use crate::places::{ChildWay, FrameOwner, Growth, PartialValue, Place, SlotId};
 use crate::slots::Slots;

@@ -8,7 +8,7 @@ ghost use Rattle.fr_values.specs.Cells.{held_value};
 ghost use Rattle.fr_frame.specs.Growing.{grown, MayGrow};
 ghost use Rattle.fr_frame.specs.declared.places.SlotId.{SlotId as Number};
 
-use crate::dynamic_values::add_entry_for;
+use crate::object_entries::add_entry_for;
 use crate::places::{Growth, PartialValue, SlotId, Tracker};
 use crate::splitting::children_of;
 use fr_shape::{Items, Ledger, OutOfMemory, ShapeId, ShapeTable, Value, release};

@@ -115,7 +115,7 @@ impl Tracker {
     ghost use Rattle.fr_model.specs.Trackers.{base_of_tracker, keys_of_tracker, tracker_number, same_keys, same_tracker};
     ghost use Rattle.fr_frame.specs.Bodies.{boxes, gathers};
     ghost use Rattle.fr_frame.specs.Heap.{as_tracker, fields_of_tracker};
-    ghost use Rattle.fr_frame.specs.Items.{keeps_items};
+    ghost use Rattle.fr_frame.specs.ListItems.{keeps_items};
     ghost use Rattle.fr_frame.specs.Outlines.{has_items};
 
     /// The step to child `i` of a place that is begun so. A content, a side or a pointee is child
@@ -322,7 +322,7 @@ impl Slot {
     ghost use Rattle.fr_frame.specs.contracts.places.Slot.{the_row};
     ghost use Rattle.fr_frame.specs.contracts.places.Place as place;
     ghost use Rattle.fr_frame.specs.declared.places.Slot.{Slot as Entry};
-    ghost use Rattle.fr_frame.specs.Items.{IsPlain};
+    ghost use Rattle.fr_frame.specs.ListItems.{IsPlain};
 
     /// The place in a slot that is in use, but by no list with items, for writing.
     pub(crate) fn place_mut(&mut self) -> &mut Place

@@ -29,7 +29,7 @@ impl Model for Slots {
     ghost use Rattle.std.specs.Coded.{coded_list};
     ghost use Rattle.fr_frame.specs.declared.places.Slot.{Slot};
     ghost use Rattle.fr_frame.specs.contracts.places.Slot as slot;
-    ghost use Rattle.fr_frame.specs.Items.{slots_seen};
+    ghost use Rattle.fr_frame.specs.ListItems.{slots_seen};
 
     ghost Value = { List Slot };
 

@@ -29,7 +29,7 @@ pub use Rattle.fr_model.specs.Entering.{Way, enters, opened, enter_child, enter,
 pub use Rattle.fr_model.specs.Failing.{unmet_mark, first_unmet, first_missing, first_invalid, lack_of_begun, Failure, failure_at, or_itself, failures, failures_among, unmet_by, unmet_mark_of, own_lack, first_by_walk, earlier_by, earlier}
 pub use Rattle.fr_model.specs.FailingLaws.{IsHalfDone, LackingFails, NothingFailsOfDone, FinishOfDone, FailsAt, FailsOff, FailuresLieThere, EachFailureHasItsPlace, EachFailureOfATreeHasItsPlace, IsOrAfter}
 pub use Rattle.fr_model.specs.Finish.{finished, closed, one_more_tree, closed_all, closed_but, begun_with, failures_but, failures_off, finished_here, is_closed_slice, kind_of}
-pub use Rattle.fr_model.specs.Finishing.{IsOffTheWay, IsAbove, IsLeft, IsHole, IsCursor, IsDue, StuckOrNoted, NotesWhatIsDue, AreApart, LieApart, NotesLieApart}
+pub use Rattle.fr_model.specs.DueNotes.{IsOffTheWay, IsAbove, IsLeft, IsHole, IsCursor, IsDue, StuckOrNoted, NotesWhatIsDue, AreApart, LieApart, NotesLieApart}
 pub use Rattle.fr_model.specs.Gathering.{left_out, is_there, and_last_val, items_in, items_left_out, with_entry_in, entry_leaves_out, entries_in, entries_left_out, with_item_in}
 pub use Rattle.fr_model.specs.Items.{init_array_refusal, item_refusal, is_open_slice, closed_slice, shared_slice_refusal, unless_list, whole_array_refusal, begun_item_refusal, with_item, shared_slice_by}
 pub use Rattle.fr_model.specs.Journal.{Note, entered_at, wrote_at, Journal, Held, in_parts, written, just_entered, untouched, held, longest, entered_struct, by_entered, entered_value, by_held, by_parts, child_makes, completes_within, completes, journal_run, beside, standing, after_write, at_least_entered, after_entry, is_written, may_enter_children, Standing, covers, beneath, both_notes, each_notes, writing, closing_by, closing, closing_beside, closing_parts, closing_here_by, closing_here, finish_notes, place_of, Progress, initial_progress, rule, then_rules, rules, outcome_in, outcome, may_enter, goes_to_child, goes_to_found, writes, ends, goes_up, end_rule, begin_deferred_rule, finishes_with, finish_rule}

@@ -1,7 +1,7 @@
 -- What the end of deferred mode notes is what is due, and it can't end exactly where something due isn't there.
 use Rattle.std.proofs.Common.{◌≡◌, ◌≢◌, ◌⊎◌, ◌+◌, ◌<◌, ◌≤◌, ◌==◌, if◌then◌else◌, ◌∷◌, ◌++◌, ◌↔◌}
 use Rattle.fr_model.proofs.Common.{inl, inr, ⊎_elim, ℕ, zero, suc, Bool, true, false, eqb-true, eq-eqb, [], append_assoc, append-nil, get_or, Option, Some, None, refl, sym, ◌∙◌, ap, subst, arith, Contains, Contains-append_left, Contains-append_right, Contains-append_cases, Table, Val, IsAbove, IsLeft, IsHole, IsCursor, IsDue, StuckOrNoted, NotesWhatIsDue, Note, wrote_at, Journal, Held, in_parts, written, just_entered, untouched, held, child_makes, completes, both_notes, each_notes, writing, closing_by, closing, closing_here_by, closing_here, finish_notes, Place, deferred_column, child_count, child_shape, shape_at, fill_at}
-use Rattle.fr_model.specs.Finishing.{IsStuck}
+use Rattle.fr_model.specs.DueNotes.{IsStuck}
 
 -- a note writes the value that is due at its place
 pub record IsNoteOf (Due : Place → Option Val → Type 0) (note : Note) : Type 0 where

@@ -8,7 +8,7 @@ pub mod Closing
 pub mod Collections
 pub mod Common
 pub mod Completing
-pub mod Conversions
+pub mod Converting
 pub mod Covering
 pub mod Cursor
 pub mod DefaultRefused

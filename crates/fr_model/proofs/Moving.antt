@@ -7,7 +7,7 @@ use Rattle.fr_model.proofs.Becoming.{Placed, Becoming, content_becomes, option_b
 use Rattle.fr_model.proofs.Defaulting.{putting, field_there}
 use Rattle.fr_model.proofs.Basis.{at_cursor, suits_at, up_long, began_strict, entry_at, Enterable, enterable_apart, opening, opened_rests, enter_child_rests, item_rests, key_rests, closed_rests, settled_as, preset_template, template_holds, field_default_template, opened_holds, enter_child_holds, completing_makes}
 use Rattle.fr_model.proofs.Collections.{set_opens, map_opens, IsMap, takes_a_key, takes_a_value, key_placed, key_holds, value_enterable}
-use Rattle.fr_model.proofs.Conversions.{converted_is}
+use Rattle.fr_model.proofs.Converting.{converted_is}
 use Rattle.fr_model.proofs.Dynamics.{dynamic_def, array_becomes, object_becomes, IsObject, takes_an_entry, entry_placed, entry_holds, entry_rests}
 use Rattle.fr_model.proofs.Ending.{began_up}
 use Rattle.fr_model.specs.Step.{ends_item as end_of_item}

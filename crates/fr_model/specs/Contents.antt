@@ -1,7 +1,7 @@
 -- Options, results, pointers and enums as places: what is kept of one at which something is begun, and how it starts anew.
 use Rattle.std.specs.Prelude.{if◌then◌else◌}
 use Rattle.fr_model.specs.Common.{ℕ, Bool, true, false, length, Option, Some, None, option_map, Def, KnownPointer, ShapeId, Operation, Table, def_of, Val, some}
-use Rattle.fr_path.specs.Places.{owns}
+use Rattle.fr_path.specs.StepShapes.{owns}
 use Rattle.fr_model.specs.Places.{pointee_shape}
 use Rattle.fr_model.specs.Trackers.{Tracker, as_fields, as_content, ContentKind, as_items, ItemsKind, same_tracker}
 use Rattle.fr_model.specs.Tree.{Tree, whole, begun, Trees, no_trees, branch, child_as, holes, fresh, Mode, strict, deferred}

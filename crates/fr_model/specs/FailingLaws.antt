@@ -3,7 +3,7 @@ use Rattle.std.specs.Prelude.{◌≡◌, ◌⊎◌, ◌++◌}
 use Rattle.fr_model.specs.Common.{ℕ, false, List, [], is_none, is_some, Some, Contains, option_map, option_or, Ordering, ReflectErrorKind, Meanings, Table, PathStep, walk_order}
 use Rattle.fr_model.specs.Basis.{Failure, failures, first_by_walk, own_lack, steps_in, Place, Mode, strict, Tree, entered, begun, child_tree, tree_at, change_at, shape_below, shape_in, AtCursor, Leads}
 use Rattle.fr_model.specs.Finish.{closed, finished, finished_here, failures_off, kind_of}
-use Rattle.fr_model.specs.Finishing.{IsOffTheWay}
+use Rattle.fr_model.specs.DueNotes.{IsOffTheWay}
 use Rattle.fr_model.specs.Relation.{HasPlace}
 
 -- a place is neither a hole nor whole

@@ -3,7 +3,7 @@ use Rattle.std.specs.Prelude.{◌≡◌, ◌≢◌}
 use Rattle.fr_model.specs.Common.{ℕ, List, Some, Meanings, Table, Val, PathStep}
 use Rattle.fr_model.specs.Basis.{complete, failures, Place, deferred_column, Tree, hole, whole, tree_at, change_at, shape_in}
 use Rattle.fr_model.specs.Finish.{finished, failures_off}
-use Rattle.fr_model.specs.Finishing.{IsOffTheWay}
+use Rattle.fr_model.specs.DueNotes.{IsOffTheWay}
 use Rattle.fr_model.specs.Relation.{HasPlace}
 
 -- at this place of a tree stands no hole, and it makes this value at the end of deferred mode

@@ -12,6 +12,7 @@ pub mod Covering
 pub mod DefaultExamples
 pub mod DefaultLaws
 pub mod Dropping
+pub mod DueNotes
 pub mod DynamicExamples
 pub mod DynamicPlaces
 pub mod Dynamics
@@ -22,7 +23,6 @@ pub mod FailingLaws
 pub mod Finish
 pub mod FinishExamples
 pub mod FinishLaws
-pub mod Finishing
 pub mod Gathering
 pub mod GatheringLaws
 pub mod Items

@@ -9,7 +9,7 @@ use Rattle.fr_frame.specs.OutlineLaws.{found_outline, none_found as no_outline}
 use Rattle.fr_frame.specs.Kids.{cells_in, child_owner, Holds}
 use Rattle.fr_store.specs.HoldLaws.{holds_at}
 use Rattle.fr_store.specs.LeaveLaws.{below_root, owner_append, up_append}
-use Rattle.fr_store.specs.Moves.{tree_in_slots}
+use Rattle.fr_store.specs.StackMoves.{tree_in_slots}
 use Rattle.fr_store.specs.Ways.{Leads, kid_at, owner_along, owner_below}
 use Rattle.fr_store.specs.WayLaws.{leads_at, leads_reach, tree_of_at}
 use Rattle.fr_partial.proofs.PlaceLaws.{found_is, Tells}

@@ -7,7 +7,7 @@ use Rattle.fr_frame.specs.Bodies.{boxes, gathers}
 use Rattle.fr_values.specs.Cells.{values_of}
 use Rattle.fr_frame.specs.Completing.{takes_template, WhyNot as WhyNotAt}
 pub use Rattle.fr_store.specs.TurnedLaws.{count_of}
-use Rattle.fr_partial.specs.Filling.{has_no_hole}
+use Rattle.fr_partial.specs.WithoutMemory.{has_no_hole}
 
 -- What takes a template has a hole.
 

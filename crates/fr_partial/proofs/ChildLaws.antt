@@ -3,7 +3,7 @@ use Rattle.std.proofs.Common.{◌≡◌, ℕ, true, refl, sym}
 use Rattle.fr_model.specs.Trackers.{EntriesKind}
 use Rattle.fr_partial.specs.Common.{NodeId, Plan, Tracker, Tree, as_entries, begun, child_node}
 use Rattle.fr_model.specs.DynamicPlaces.{is_begun_object, is_object_tracker}
-use Rattle.fr_store.specs.Moves.{tracker_in, HasChild, HasTracker}
+use Rattle.fr_store.specs.StackMoves.{tracker_in, HasChild, HasTracker}
 
 pub tracker_there : (tracker : Tracker) (i : ℕ) (tree : Tree) → HasChild tracker i tree → tracker ≡ tracker_in tree
 tracker_there tracker i (begun made ts) has = sym has.0

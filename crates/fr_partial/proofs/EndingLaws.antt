@@ -7,7 +7,7 @@ use Rattle.fr_frame.specs.Completing.{FillsAt, MayComplete, WhyNot as WhyNotAt}
 use Rattle.fr_frame.specs.Heap.{slots_occur, stored_in, with_body, with_slot}
 use Rattle.fr_store.specs.HereLaws.{body_back, closed_plot, tree_back, value_closed}
 use Rattle.fr_store.specs.MoveLaws.{closed_open, same_last, so_top, top_changed, top_node, top_so, top_tokens}
-use Rattle.fr_store.specs.Moves.{node_here as node_on_top}
+use Rattle.fr_store.specs.StackMoves.{node_here as node_on_top}
 use Rattle.fr_store.specs.TopLaws.{closed_tree, held_may_have, keeps_closed, loses_none, marked_body, slot_here}
 use Rattle.fr_store.specs.TurnedLaws.{may_complete as node_may_complete, shape_along}
 use Rattle.fr_partial.specs.Ending.{column_of}

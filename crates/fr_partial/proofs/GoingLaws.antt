@@ -7,7 +7,7 @@ use Rattle.fr_model.specs.Dynamics.{keys_apart}
 use Rattle.fr_model.specs.Entering.{entered_on, number_on}
 use Rattle.fr_model.specs.PathLaws.{step_on, HasBegun, IsAdmittedOn}
 use Rattle.fr_frame.specs.declared.places.ChildWay.{ChildWay}
-use Rattle.fr_store.specs.Moves.{child_number, tree_here, with_entry_of, with_item_of, with_key_of}
+use Rattle.fr_store.specs.StackMoves.{child_number, tree_here, with_entry_of, with_item_of, with_key_of}
 use Rattle.fr_store.specs.ShapeLaws.{child_shaped}
 use Rattle.fr_partial.specs.Moving.{step_told}
 use Rattle.fr_partial.proofs.BeginLaws.{opened_within}

@@ -6,7 +6,7 @@ use Rattle.fr_model.specs.PathLaws.{ChangingKeepsThePath, LeadAbove, LeavingDrop
 use Rattle.fr_model.specs.Paths.{steps_in}
 use Rattle.fr_store.specs.LeaveLaws.{below_root}
 use Rattle.fr_frame.specs.declared.places.Taker.{Taker}
-use Rattle.fr_store.specs.Moves.{place_then, tree_then}
+use Rattle.fr_store.specs.StackMoves.{place_then, tree_then}
 use Rattle.fr_partial.specs.Ending.{column_of, Handed, IsCompleted, IsHandedOver, IsPathThen, IsUncompleted}
 use Rattle.fr_partial.specs.Moving.{completes, handed, handed_if, is_late_by, MayTake}
 use Rattle.fr_partial.proofs.HereLaws.{top_body}

@@ -3,7 +3,7 @@ use Rattle.std.proofs.Common.{◌≡◌, ℕ, ◌+◌, List, Result, Ok, Err, On
 use Rattle.fr_partial.specs.Common.{AreOpen, Became, Changed, Conserved, Conserved_same, Frames, IsAtWork, IsKept, IsOpen, IsOpenAt, Place, Plan, Room, RoseBy, SameMarks, SameTokens, Slot, Tree, change_at, cursor_in, deferred, heap_of, hole, kid_shown, mode_of, slots_tokens, top_place, top_tree, tree_here, tree_occurs, whole_tree}
 use Rattle.fr_shape.specs.TokenLaws.{Room_fewer}
 use Rattle.fr_frame.specs.Heap.{slots_occur}
-use Rattle.fr_store.specs.Moves.{changed_here, tokens_here, tree_in_slots}
+use Rattle.fr_store.specs.StackMoves.{changed_here, tokens_here, tree_in_slots}
 use Rattle.fr_store.specs.Stored.{StoresNoMore}
 use Rattle.fr_partial.proofs.ReachLaws.{tree_leads}
 use Rattle.fr_partial.proofs.StateLaws.{became_through, stores_after}

@@ -3,7 +3,7 @@ use Rattle.std.proofs.Common.{◌≡◌, ℕ, None, refl, ap, subst}
 use Rattle.fr_partial.specs.Common.{Def, HasItems, IsFullAs, ItemsKind, PointsRightly, Suits, Table, Tracker, Tree, Trees, and_last, as_items, begun, child_as, count_below, count_trees, def_of, fresh, item_refusal, step_as, tracker_at}
 use Rattle.fr_model.specs.Items.{begun_item_refusal, with_item}
 use Rattle.fr_frame.specs.Bodies.{TakesItems}
-use Rattle.fr_store.specs.Moves.{with_item_of, HasTracker}
+use Rattle.fr_store.specs.StackMoves.{with_item_of, HasTracker}
 use Rattle.fr_store.specs.ShapeLaws.{points_rightly}
 
 -- Items.

@@ -5,7 +5,7 @@ use Rattle.fr_model.specs.Collections.{ends_in_hole, is_hole, last_of, with_key}
 use Rattle.fr_model.specs.Places.{is_key}
 use Rattle.fr_model.specs.Step.{enter_child}
 use Rattle.fr_values.specs.Cells.{slot_of_cell, value_of_cell}
-use Rattle.fr_store.specs.Moves.{with_key_of}
+use Rattle.fr_store.specs.StackMoves.{with_key_of}
 use Rattle.fr_partial.specs.Looks.{is_absent}
 use Rattle.fr_partial.proofs.ListLaws.{by_items}
 

@@ -5,7 +5,7 @@ use Rattle.fr_model.specs.DynamicPlaces.{entry_found, entry_number, is_begun_obj
 use Rattle.fr_model.specs.Dynamics.{keys_apart}
 use Rattle.fr_model.specs.Tree.{change_nth}
 use Rattle.fr_model.specs.Well.{AreTouched, HasEntries, IsTouched}
-use Rattle.fr_store.specs.Moves.{with_entry_of}
+use Rattle.fr_store.specs.StackMoves.{with_entry_of}
 use Rattle.fr_partial.proofs.LookLaws.{AsBegun}
 use Rattle.fr_partial.proofs.SeenLaws.{seen_by}
 

@@ -5,7 +5,7 @@ use Rattle.fr_partial.specs.Common.{Call, Change, ComesTo, Def, IsChecked, IsRef
 use Rattle.fr_shape.specs.Fits.{keys_once}
 use Rattle.fr_shape.specs.Val.{Dynamic, dyn, text}
 use Rattle.fr_model.specs.Step.{is_str, is_owned_string, set, set_refusal, puts, puts_default, puts_dynamic}
-use Rattle.fr_partial.specs.Setting.{copies_at}
+use Rattle.fr_partial.specs.SettingDynamic.{copies_at}
 use Rattle.fr_values.proofs.MadeDynamic.{settled_plain}
 use Rattle.fr_values.proofs.ConvertedLaws.{converted_once}
 use Rattle.fr_partial.proofs.DecidingLaws.{remains}

@@ -7,7 +7,7 @@ use Rattle.fr_shape.specs.Val.{ptr}
 use Rattle.fr_model.specs.Contents.{is_slice}
 use Rattle.fr_model.specs.Items.{shared_slice_by, shared_slice_refusal}
 use Rattle.fr_model.specs.Step.{puts, set_empty_shared_slice}
-use Rattle.fr_store.specs.Moves.{IsBegunSlice}
+use Rattle.fr_store.specs.StackMoves.{IsBegunSlice}
 use Rattle.fr_values.proofs.MadeDynamic.{settled_plain}
 use Rattle.fr_partial.proofs.PutLaws.{admits}
 use Rattle.fr_partial.proofs.SeenLaws.{shape_of_number}

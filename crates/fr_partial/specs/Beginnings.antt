@@ -7,7 +7,7 @@ use Rattle.fr_model.specs.Contents.{content_of, is_entered_in_place}
 use Rattle.fr_model.specs.Trackers.{Tracker, as_content, ContentKind, same_tracker}
 use Rattle.fr_model.specs.Tree.{Tree, hole, entered, whole, begun, holes, Mode, strict, deferred}
 use Rattle.fr_model.specs.Entering.{opened_as, parts_as}
-use Rattle.fr_store.specs.Moves.{HasChild}
+use Rattle.fr_store.specs.StackMoves.{HasChild}
 use Rattle.fr_partial.specs.declared.beginning.Beginning.{Beginning}
 
 -- what is kept of what stands there, where it comes to be begun so

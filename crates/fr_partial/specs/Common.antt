@@ -26,18 +26,18 @@ pub use Rattle.fr_model.specs.Variants.{field_found, variant_fields, variant_nam
 pub use Rattle.fr_model.specs.Well.{IsFullAs, IsInOrder, Leads, OffBut, RestsAround, Suits}
 pub use Rattle.fr_partial.specs.Beginnings.{IsWholeWith, beginning_in, beginning_of_some, beginning_so, begun_by, side_call}
 pub use Rattle.fr_partial.specs.Builder.{Builder, IsCall, IsNotOutOfMemory, holds}
-pub use Rattle.fr_values.specs.Conversions.{IsUnconverted, are_octets, copies_to_convert}
+pub use Rattle.fr_values.specs.ConversionNeeds.{IsUnconverted, are_octets, copies_to_convert}
 pub use Rattle.fr_partial.specs.DynamicBeginnings.{anew_as, kept_as}
 pub use Rattle.fr_partial.specs.Ending.{HoldsItsValue, MayReceive, WhyNot, needs_none_by}
 pub use Rattle.fr_frame.specs.Admitting.{Describes}
-pub use Rattle.fr_partial.specs.Filling.{takes_no_memory}
+pub use Rattle.fr_partial.specs.WithoutMemory.{takes_no_memory}
 pub use Rattle.fr_partial.specs.HeldPlan.{plan_in}
 pub use Rattle.fr_partial.specs.Looks.{LooksLike, Sees, ends_absent, lacks_last}
 pub use Rattle.fr_partial.specs.Making.{IsMade}
 pub use Rattle.fr_partial.specs.Modes.{mode_of}
 pub use Rattle.fr_partial.specs.Moving.{ComesTo, Decides, IsMeant, IsRefusedWith, MayGo, MayStay, NeedsNone, carried, carried_by, changed, meant_by, number_told, onward}
 pub use Rattle.fr_partial.specs.Openings.{HasItems, MayOpenAs, is_begun}
-pub use Rattle.fr_partial.specs.Setting.{converts}
+pub use Rattle.fr_partial.specs.SettingDynamic.{converts}
 pub use Rattle.fr_partial.specs.Sites.{Site, held_at, shape_at}
 pub use Rattle.fr_partial.specs.Starting.{IsPlanFrom}
 pub use Rattle.fr_partial.specs.Underway.{AreOpen, AreOpened, Became, Changed, IsAtWork, StoresNothing, held_in, top_place, top_shape, top_tree, whole_tree}
@@ -78,7 +78,7 @@ pub use Rattle.fr_shape.specs.declared.shape.ShapeId.{ShapeId}
 pub use Rattle.fr_shape.specs.declared.shape.VariantDef.{VariantDef}
 pub use Rattle.fr_shape.specs.declared.value.Value.{Value}
 pub use Rattle.fr_store.specs.MoveLaws.{open_top, slots_tokens}
-pub use Rattle.fr_store.specs.Moves.{AtTop, HasChild, IsOpenAt, begun_as, cursor_in, node_here, takes_at_end, tree_here}
+pub use Rattle.fr_store.specs.StackMoves.{AtTop, HasChild, IsOpenAt, begun_as, cursor_in, node_here, takes_at_end, tree_here}
 pub use Rattle.fr_store.specs.Numbers.{IsLast}
 pub use Rattle.fr_store.specs.ShapeLaws.{Along, IsOfShape, PointsRightly}
 pub use Rattle.fr_store.specs.Stands.{IsOpen, kid_shown}

@@ -18,10 +18,10 @@ use Rattle.fr_frame.specs.Completing.{IsOfValidator}
 use Rattle.fr_partial.specs.declared.moves.Rules.{Rules}
 use Rattle.fr_frame.specs.declared.places.Taker.{Taker}
 use Rattle.fr_partial.specs.declared.work.Frames.{Frames}
-use Rattle.fr_partial.specs.Filling.{takes_no_memory}
+use Rattle.fr_partial.specs.WithoutMemory.{takes_no_memory}
 use Rattle.fr_partial.specs.Modes.{is_below_start, IsBelowStart}
 use Rattle.fr_partial.specs.Underway.{top_place, top_shape, top_tree, whole_tree, Became, Changed}
-use Rattle.fr_store.specs.Moves.{AtTop, place_then, tree_then, MayHandOver}
+use Rattle.fr_store.specs.StackMoves.{AtTop, place_then, tree_then, MayHandOver}
 
 abbrev pub column_of : Rules → Column
 column_of Rules.Strict = strict_column

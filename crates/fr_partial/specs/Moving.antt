@@ -26,7 +26,7 @@ use Rattle.fr_model.specs.Well.{IsFullAs}
 use Rattle.fr_frame.specs.Bodies.{is_around, TakesItems}
 use Rattle.fr_frame.specs.Heap.{as_tracker}
 use Rattle.fr_frame.specs.Kids.{MayHave}
-use Rattle.fr_store.specs.Moves.{takes_at_end}
+use Rattle.fr_store.specs.StackMoves.{takes_at_end}
 use Rattle.fr_partial.specs.declared.moves.Change.{Change}
 use Rattle.fr_partial.specs.declared.moves.Move.{Move}
 use Rattle.fr_partial.specs.declared.moves.Rules.{Rules}

@@ -8,8 +8,8 @@ ghost use Rattle.fr_partial.specs.Ending.{IsCompleted, IsHandedOver, IsPathThen,
 ghost use Rattle.fr_partial.specs.Modes.{IsBelowStart};
 ghost use Rattle.fr_partial.specs.Moving.{is_late_by};
 
+use crate::kept_path::step_back;
 use crate::moves::Rules;
-use crate::paths::step_back;
 use crate::work::{Frames, Parts};
 use fr_frame::Taker;
 use fr_model::{law_paths, law_well};

@@ -4,7 +4,7 @@ ghost use Rattle.fr_partial.specs.Common.{Call, Decides, IfOk, IsCall, None, Roo
 ghost use Rattle.fr_shape.specs.Val.{ptr};
 ghost use Rattle.fr_model.specs.Contents.{inside_refusal, is_slice};
 ghost use Rattle.fr_model.specs.Items.{shared_slice_by, shared_slice_refusal};
-ghost use Rattle.fr_path.specs.Places.{owns};
+ghost use Rattle.fr_path.specs.StepShapes.{owns};
 
 use crate::beginning::beginning_in;
 use crate::moves::{Change, Move, Way};

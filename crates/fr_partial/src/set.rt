@@ -4,7 +4,7 @@ ghost use Rattle.fr_partial.specs.Common.{Call, Decides, IfOk, IsCall, IsNotOutO
 ghost use Rattle.fr_shape.specs.Val.{dyn};
 ghost use Rattle.fr_model.specs.Step.{is_str, is_owned_string};
 ghost use Rattle.fr_partial.specs.Builder.{here};
-ghost use Rattle.fr_partial.specs.Setting.{copies_at};
+ghost use Rattle.fr_partial.specs.SettingDynamic.{copies_at};
 
 use crate::dynamic_places::is_dynamic;
 use crate::moves::{Change, Move};

@@ -1,4 +1,4 @@
 pub mod Order
 pub mod OrderLaws
 pub mod PathText
-pub mod Places
+pub mod StepShapes

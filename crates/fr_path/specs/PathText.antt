@@ -4,7 +4,7 @@ use Rattle.fr_shape.specs.declared.shape.ShapeId.{ShapeId}
 use Rattle.fr_shape.specs.declared.shape.Field.{Field}
 use Rattle.fr_shape.specs.Look.{Table, def_of, field_in}
 use Rattle.fr_path.specs.declared.path_steps.PathStep.{PathStep}
-use Rattle.fr_path.specs.Places.{shape_after}
+use Rattle.fr_path.specs.StepShapes.{shape_after}
 
 -- the field that a step means, where the place is known to be a struct that has it
 abbrev pub field_meant : Table → (known : Option ShapeId) → ℕ → Option Field

@@ -8,7 +8,7 @@ mod laws;
 mod path_steps;
 mod path_text;
 mod paths;
-mod places;
+mod step_shapes;
 
 pub use laws::{law_longer_path_first, law_pop_undoes_push, law_walk_order};
 pub use path_steps::PathStep;

@@ -3,7 +3,7 @@ ghost use Rattle.std.specs.Prelude.{◌≡◌, ◌++◌, IfOk, OnOk, string_byte
 ghost use Rattle.fr_path.specs.PathText.{field_text, step_text, path_text};
 
 use crate::PathStep;
-use crate::places::shape_after;
+use crate::step_shapes::shape_after;
 use fr_shape::{FieldRef, OutOfMemory, ShapeId, ShapeTable};
 use std::alloc::{AllocError, Global};
 use std::fmt::Write;

@@ -16,7 +16,7 @@ use Rattle.fr_plan.specs.declared.nodes.TypePlanNode.{TypePlanNode}
 use Rattle.fr_plan.specs.declared.nodes.TypePlanNodeKind.{TypePlanNodeKind}
 use Rattle.fr_plan.specs.declared.outlines.Outline.{Outline}
 use Rattle.fr_plan.specs.declared.outlines.Role.{Role}
-use Rattle.fr_plan.specs.declared.lists.PlanLists.{PlanLists}
+use Rattle.fr_plan.specs.declared.plan_lists.PlanLists.{PlanLists}
 use Rattle.fr_plan.specs.declared.plans.EnumPlan.{EnumPlan}
 use Rattle.fr_plan.specs.declared.plans.FieldPlan.{FieldPlan}
 use Rattle.fr_plan.specs.declared.plans.StructPlan.{StructPlan}

@@ -22,7 +22,7 @@ use Rattle.fr_rules.specs.FillRules.{told_strict}
 use Rattle.fr_rules.specs.Pools.{part_of}
 use Rattle.fr_rules.specs.VariantLookups.{IsVariantLookupOf}
 use Rattle.fr_plan.specs.declared.nodes.NodeId.{NodeId}
-use Rattle.fr_plan.specs.declared.lists.PlanLists.{PlanLists}
+use Rattle.fr_plan.specs.declared.plan_lists.PlanLists.{PlanLists}
 use Rattle.fr_plan.specs.declared.plans.EnumPlan.{EnumPlan}
 use Rattle.fr_plan.specs.declared.plans.FieldPlan.{FieldPlan}
 use Rattle.fr_plan.specs.declared.plans.StructPlan.{StructPlan}

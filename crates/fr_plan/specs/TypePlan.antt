@@ -6,7 +6,7 @@ use Rattle.fr_plan.specs.declared.shape_fields.ShapeFields.{ShapeFields}
 use Rattle.fr_plan.specs.declared.nodes.NodeId.{NodeId}
 use Rattle.fr_plan.specs.declared.nodes.TypePlanNode.{TypePlanNode}
 use Rattle.fr_plan.specs.declared.outlines.Walk.{Walk}
-use Rattle.fr_plan.specs.declared.lists.PlanLists.{PlanLists}
+use Rattle.fr_plan.specs.declared.plan_lists.PlanLists.{PlanLists}
 use Rattle.fr_plan.specs.Build.{planned}
 use Rattle.fr_plan.specs.Nodes.{AreNodes}
 use Rattle.fr_plan.specs.ShapeFields.{AreAllKept}

@@ -6,8 +6,8 @@ ghost use Rattle.fr_plan.specs.Build.{fields_from};
 ghost use Rattle.fr_plan.specs.Lists.{ListsGrow};
 ghost use Rattle.fr_plan.specs.Plans.{Names, NamesFields, AreFieldsOf, IsFieldPlan, nth_node, kind_of, precomputed, validators_of, has_flatten};
 
-use crate::lists::PlanLists;
 use crate::nodes::NodeId;
+use crate::plan_lists::PlanLists;
 use crate::plans::{FieldPlan, FieldRange, ValidatorRange};
 use crate::strategies::{nth_node, scalar_of};
 use crate::walking::Container;

@@ -1,14 +1,14 @@
 //! Plans: what is known of a type, and of all that it is made of, before a value of it is built.
 #![tactic(auto)]
 
-mod building;
-mod children;
 mod fields;
 mod laws;
-mod lists;
 mod lookups;
+mod node_building;
+mod node_children;
 mod nodes;
 mod outlines;
+mod plan_lists;
 mod plans;
 mod shape_fields;
 mod strategies;

@@ -6,9 +6,9 @@ ghost use Rattle.fr_shape.specs.Checked.{IsChecked};
 ghost use Rattle.fr_plan.specs.Lists.{ListsGrow};
 ghost use Rattle.fr_plan.specs.Nodes.{AreProxyNodes, AreNodes, IsNode, IsKindBy, IsKindOf, opaque_kind, pointer_kind, proxies_in};
 
-use crate::lists::PlanLists;
 use crate::nodes::{NodeId, ProxyNodes, TypePlanNode, TypePlanNodeKind};
 use crate::outlines::{Outline, Role};
+use crate::plan_lists::PlanLists;
 use crate::strategies::{is_built_from, nth_node, strategy_of};
 use crate::variants::{enum_plan, struct_plan};
 use fr_arena::{Arena, Idx};

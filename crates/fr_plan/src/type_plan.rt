@@ -12,10 +12,10 @@ ghost use Rattle.fr_plan.specs.Names.{declared_field, variant_told_by};
 ghost use Rattle.fr_plan.specs.Results.{IsMeant};
 ghost use Rattle.fr_plan.specs.declared.outlines.Mark.{Mark as TheMark};
 
-use crate::building::build_shape;
-use crate::lists::PlanLists;
+use crate::node_building::build_shape;
 use crate::nodes::{NodeId, TypePlanNode};
 use crate::outlines::{Mark, Walk};
+use crate::plan_lists::PlanLists;
 use crate::plans::{FieldPlan, FieldRange, ValidatorRange, VariantPlanMeta, VariantRange};
 use crate::shape_fields::{
     ShapeFields, all_kept, are_validated, find_declared, find_named, find_told_by,

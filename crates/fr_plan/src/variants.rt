@@ -8,8 +8,8 @@ ghost use Rattle.fr_plan.specs.Lists.{ListsGrow};
 ghost use Rattle.fr_plan.specs.Plans.{AreFieldsOf, IsStructPlan, IsVariantPlan, IsEnumPlan, NamesVariants, variants_from};
 
 use crate::fields::{field_plans, has_flatten};
-use crate::lists::PlanLists;
 use crate::nodes::NodeId;
+use crate::plan_lists::PlanLists;
 use crate::plans::{EnumPlan, StructPlan, VariantPlanMeta, VariantRange};
 use crate::walking::Container;
 use fr_rules::{build_field_lookup, build_variant_lookup, law_lookups_stay};

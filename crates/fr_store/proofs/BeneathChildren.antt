@@ -5,7 +5,7 @@ use Rattle.std.proofs.lemmas.Bool.{ltb-true, ltb-false}
 use Rattle.std.proofs.lemmas.List.Elements.{All-nil, All-cons, All-append, All-weaker, All-map, Contains-append_left, Contains-append_right}
 use Rattle.fr_values.specs.Cells.{slot_at}
 use Rattle.fr_store.specs.Beneath.{is_map_body, number_if, slot_if, slotted_numbers}
-use Rattle.fr_store.specs.Places.{IsAfterBelow, slot_at as slot_of_place}
+use Rattle.fr_store.specs.PlaceOrder.{IsAfterBelow, slot_at as slot_of_place}
 use Rattle.fr_store.specs.Prunes.{kids_below}
 use Rattle.fr_store.proofs.ChildOrder.{from_last_within, from_last_onto, listed_after}
 use Rattle.fr_store.proofs.EarlierLaws.{siblings}

@@ -3,7 +3,7 @@ use Rattle.std.proofs.Common.{◌≡◌, ◌≢◌, ℕ, suc, zero, ◌+◌, ◌
 use Rattle.fr_store.specs.Common.{AtCursor, Meanings, Place, Table, Tracker, Tree, Trees, Val, begun, branch, closed_at, finished, hole, no_trees, option_map, shape_in, strict, tree_at, tree_nth, whole}
 use Rattle.fr_model.specs.Finish.{closed, closed_all, closed_but, one_more_tree}
 use Rattle.fr_model.specs.FinishLaws.{Closes, ClosingKeepsFinish}
-use Rattle.fr_model.specs.Finishing.{IsOffTheWay}
+use Rattle.fr_model.specs.DueNotes.{IsOffTheWay}
 use Rattle.fr_model.specs.Tree.{child_as, count_below, count_trees}
 use Rattle.fr_model.specs.Well.{AllOff}
 use Rattle.fr_store.specs.Beneath.{completed_beneath}

@@ -2,7 +2,7 @@
 use Rattle.std.proofs.Common.{◌≡◌, ◌⊎◌, ℕ, zero, suc, ◌-◌, ◌*◌, ◌<◌, ◌≤◌, Bool, true, false, ltb, inl, inr, refl, sym, ◌∙◌, ap, subst, arith, if◌then◌else◌}
 use Rattle.fr_store.specs.Common.{EntriesKind, Tracker, as_entries, entry_of, from_last, is_key, is_map_tracker}
 use Rattle.std.proofs.lemmas.Bool.{lt-ltb, le-ltb, ltb-true, ltb-false}
-use Rattle.fr_store.specs.Places.{IsAfter, IsLater}
+use Rattle.fr_store.specs.PlaceOrder.{IsAfter, IsLater}
 
 -- Keys and values.
 

@@ -28,7 +28,7 @@ use Rattle.fr_store.specs.ValueLaws.{made_of, made_value, more_is, values_count}
 use Rattle.fr_store.specs.HereLaws.{body_back, closed_plot, tree_back, value_closed}
 use Rattle.fr_store.specs.LeftLaws.{left_at, left_end, left_value}
 use Rattle.fr_store.specs.MoveLaws.{closed_open, open_reach, open_top, so_top, top_changed, top_found, top_node, top_so}
-use Rattle.fr_store.specs.Moves.{IsOpenAt, cursor_in, tree_in_slots}
+use Rattle.fr_store.specs.StackMoves.{IsOpenAt, cursor_in, tree_in_slots}
 use Rattle.fr_store.specs.Numbers.{IsLast}
 use Rattle.fr_store.specs.ShapeLaws.{Along}
 use Rattle.fr_store.specs.Stands.{IsOpen}

@@ -1,7 +1,7 @@
 -- The order of ways by their length and, among ways of one length, from the last to the first; and the order of the walk.
 use Rattle.std.proofs.Common.{◌≡◌, ◌≢◌, ℕ, suc, List, [], ◌∷◌, ◌++◌, length, length-append, inl, inr, refl, ◌∙◌, ap, arith}
 use Rattle.fr_store.specs.Common.{All, AreInWalkOrder, AreLeftRightly, ComesBefore, ComesEarlier, FrameOwner, Heap, Holds, IsPlaced, Kid, NodeId, Ordering, Pairs, Place, Plan, at, begun_plot, kid_at, kid_below, ordering_then, slice_cmp, step_order, steps_in, tree_of}
-use Rattle.fr_store.specs.Places.{IsAbove, IsAfterBelow}
+use Rattle.fr_store.specs.PlaceOrder.{IsAbove, IsAfterBelow}
 use Rattle.fr_store.proofs.HeadLaws.{steps_count}
 use Rattle.fr_store.proofs.PairLaws.{pairs_weaker}
 use Rattle.fr_store.proofs.PathOrder.{number_less, number_equal}

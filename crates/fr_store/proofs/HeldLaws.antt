@@ -7,7 +7,7 @@ use Rattle.std.specs.Prelude.{is_none}
 use Rattle.fr_model.specs.Complete.{missing_value}
 use Rattle.fr_model.specs.FailingLaws.{FailsOff, IsHalfDone, IsOrAfter}
 use Rattle.fr_model.specs.Finish.{finish_cause, refusal_or}
-use Rattle.fr_model.specs.Finishing.{IsOffTheWay}
+use Rattle.fr_model.specs.DueNotes.{IsOffTheWay}
 use Rattle.fr_model.specs.Tree.{deferred}
 use Rattle.fr_model.specs.Well.{AllOff, OffBut, Leads as LeadsIn}
 use Rattle.fr_store.specs.HoldLaws.{no_marks}

@@ -3,7 +3,7 @@ use Rattle.std.proofs.Common.{◌≡◌, ◌≢◌, ◌⊎◌, ℕ, suc, ◌+◌
 use Rattle.fr_store.specs.Common.{All, AreAllStored, AreOnce, ComesEarlier, Contains, IsNarrow, IsNonDecreasingBy, IsPlaced, IsStoredChildOf, IsStoredHere, Kid, Leads, Pairs, Place, StoredPlace, at, begun_plot, counts_if, counts_same, filter, first_key, is_between, key_of, kid_at, order_below, same_front, same_last, same_or_other, slot_at, slot_of, slots_between, slots_of, stored_here, uses}
 use Rattle.std.proofs.lemmas.List.{map-append}
 use Rattle.std.proofs.lemmas.List.Elements.{All-cons, All-append, All-contains, All-contains_itself, All-filter, All-head, All-map, All-tail, filter_passes, Contains-append_left, Contains-append_right, Contains-get_or}
-use Rattle.fr_store.specs.Places.{IsAfterBelow, child_of}
+use Rattle.fr_store.specs.PlaceOrder.{IsAfterBelow, child_of}
 use Rattle.fr_store.proofs.EarlierLaws.{siblings}
 use Rattle.fr_store.proofs.PairLaws.{first_in, later_in, in_counted, in_filter, in_map, of_map, pairs_append, pairs_filter, pairs_map, pairs_weaker}
 use Rattle.fr_store.proofs.PlaceLaws.{open_unstored, placed_above, same_place, stored_or_open}

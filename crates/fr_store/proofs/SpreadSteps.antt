@@ -5,7 +5,7 @@ use Rattle.std.proofs.lemmas.List.{get_or-take, length-map, length-take-le}
 use Rattle.std.proofs.lemmas.List.Elements.{All-contains}
 use Rattle.std.proofs.lemmas.Option.{none-some, slice_get-get_or, slice_get_past}
 use Rattle.fr_store.specs.Numbers.{number_of}
-use Rattle.fr_store.specs.Places.{child_of}
+use Rattle.fr_store.specs.PlaceOrder.{child_of}
 use Rattle.fr_store.proofs.PairLaws.{fits, in_map, of_map}
 use Rattle.fr_store.proofs.PlaceLaws.{along_long, along_nth, open_placed, open_unstored}
 use Rattle.fr_store.proofs.QueueLaws.{FirstStored, IsQueue, OpenAhead, ahead_now, all_written, first_placed, first_read, first_stored, first_within, last_next, open_next, queue_starts, stored_next, written_of, written_once}

@@ -6,7 +6,7 @@ use Rattle.std.specs.List.Sorted.{IsPermutation}
 use Rattle.std.proofs.lemmas.List.Elements.{Contains-get_or}
 use Rattle.std.proofs.lemmas.List.Sorted.{All-permutation, Contains-permutation, IsPermutation-map, sum_by-IsPermutation}
 use Rattle.std.proofs.lemmas.List.Sums.{sum_by-cons}
-use Rattle.fr_store.specs.Places.{order_at}
+use Rattle.fr_store.specs.PlaceOrder.{order_at}
 use Rattle.fr_store.proofs.PairLaws.{in_map}
 use Rattle.fr_store.proofs.PlaceLaws.{mark_at, open_unstored, place_of, placed_above, placed_child}
 

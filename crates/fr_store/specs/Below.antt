@@ -20,7 +20,7 @@ pub use Rattle.fr_model.specs.Failing.{Failure, failure_at, failures, failures_a
 pub use Rattle.fr_model.specs.FailingLaws.{EachFailureHasItsPlace, FinishesOrRefuses, FirstByWalkIs, LackingFails}
 pub use Rattle.fr_model.specs.Finish.{closed, failures_but, failures_off, finish_cause, finished, finished_here, is_closed_slice, kind_of}
 pub use Rattle.fr_model.specs.FinishLaws.{Closes, ClosingKeepsCompletion, ClosingKeepsFailures, ClosingKeepsFailuresOff, ClosingKeepsFinish, closed_at}
-pub use Rattle.fr_model.specs.Finishing.{IsAbove, IsOffTheWay}
+pub use Rattle.fr_model.specs.DueNotes.{IsAbove, IsOffTheWay}
 pub use Rattle.fr_model.specs.Paths.{step_as, steps_in}
 pub use Rattle.fr_model.specs.Places.{Place, base_in, count_entries, deferred_column, entries_of, entry_of, in_turn, is_key, is_root, one_more, up}
 pub use Rattle.fr_model.specs.Relation.{HasPlace}

@@ -18,7 +18,7 @@ use Rattle.fr_frame.specs.Bodies.{Body, entered_body, whole_body, begun_body, Is
 use Rattle.fr_values.specs.Cells.{Cell, slot_at}
 use Rattle.fr_frame.specs.Heap.{Node}
 use Rattle.fr_frame.specs.Kids.{Kid}
-use Rattle.fr_store.specs.Moves.{cursor_in, tree_here, tree_in_slots, AtTop, IsOpenAt}
+use Rattle.fr_store.specs.StackMoves.{cursor_in, tree_here, tree_in_slots, AtTop, IsOpenAt}
 use Rattle.fr_store.specs.Stands.{kid_here}
 use Rattle.fr_store.specs.Turns.{root_shape, CompletesAsBefore}
 use Rattle.fr_store.specs.Ways.{kid_at}

@@ -1,7 +1,7 @@
 -- Laws of what is never stored, for proofs: items of a set, parts of a dynamic value, and what a map had when it was begun.
 use Rattle.std.proofs.Common.{◌≡◌, ℕ, zero, suc, ◌+◌, ◌≤◌, Bool, true, false, ◌∷◌, [], refl, sym, subst, arith}
 use Rattle.fr_store.specs.Below.{AreLeftAll, AreLeftRightly, EntriesKind, IsLeftRightly, IsThere, ItemsKind, Kid, Kids, Place, Plot, Tracker, Val, as_entries, as_items, at, base_of_tracker, begun_plot, entry_of, gone, is_map_tracker, is_stored, kid, no_kids, there}
-use Rattle.fr_store.specs.Moves.{takes_at_end_as}
+use Rattle.fr_store.specs.StackMoves.{takes_at_end_as}
 use Rattle.fr_store.specs.Ways.{count_kids, kid_nth, kid_at, put_nth, put_at}
 
 -- One child.

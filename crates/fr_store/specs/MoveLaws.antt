@@ -3,7 +3,7 @@ use Rattle.std.proofs.Common.{◌≡◌, ◌≢◌, ℕ, false, List, [], ◌∷
 use Rattle.std.specs.Prelude.{is_some, IsSome, IsSomeAnd}
 use Rattle.std.proofs.lemmas.List.{same_from_push}
 use Rattle.fr_store.specs.Below.{Body, FrameOwner, Heap, IfInUse, IsClosed, IsInUse, Kid, Node, Place, Plan, Plot, Room, Room_same, Shows, Slot, Tree, at, body_in, body_occurs, change_at, heap_of, kid_occurs, slots_occur, tree_in, tree_occurs, tree_of, with_body}
-use Rattle.fr_store.specs.Moves.{IsOpenAt, cursor_in, tree_in_slots, tree_here, tokens_here}
+use Rattle.fr_store.specs.StackMoves.{IsOpenAt, cursor_in, tree_in_slots, tree_here, tokens_here}
 use Rattle.fr_store.specs.Numbers.{IsLast}
 use Rattle.fr_store.specs.HoldLaws.{none_stored}
 use Rattle.fr_store.specs.StandLaws.{all_kept, stands_reach, open_from, cursor_is, tree_is, AllServe}

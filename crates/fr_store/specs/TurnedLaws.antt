@@ -7,7 +7,7 @@ use Rattle.fr_values.specs.Cells.{given}
 use Rattle.fr_store.specs.ClosingLaws.{closes_with, completes_still}
 use Rattle.fr_store.specs.LeaveLaws.{cell_of_child}
 use Rattle.fr_store.specs.MoveLaws.{open_at_from, open_reach}
-use Rattle.fr_store.specs.Moves.{IsOpenAt, cursor_in, tree_in_slots}
+use Rattle.fr_store.specs.StackMoves.{IsOpenAt, cursor_in, tree_in_slots}
 use Rattle.fr_store.specs.OffLaws.{reach_place}
 use Rattle.fr_store.specs.ShapeLaws.{IsOfShape, Along, along, root_shaped}
 use Rattle.fr_store.specs.StandLaws.{kid_is}

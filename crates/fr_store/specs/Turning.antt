@@ -2,10 +2,10 @@
 use Rattle.std.specs.Prelude.{◌≡◌, ◌≢◌, ℕ, Bool, true, false, List, [], ◌∷◌, ◌++◌, is_some, Some, None}
 use Rattle.std.specs.List.{Contains}
 use Rattle.fr_store.specs.Below.{Body, IsClosed, Kid, Meanings, PathStep, Place, Plan, Plot, ReflectErrorKind, Slot, Suits, Table, Tree, Val, at, begun_body, body_in, change_at, complete, deferred_column, entered_body, failures_off, finished, finished_here, heap_of, is_closed_slice, marked, own_lack, shape_in, steps_in, there, tree_at, whole, whole_body}
-use Rattle.fr_store.specs.Moves.{IsOpenAt, cursor_in, tree_in_slots}
+use Rattle.fr_store.specs.StackMoves.{IsOpenAt, cursor_in, tree_in_slots}
 pub use Rattle.fr_store.specs.Stands.{kid_here}
 use Rattle.fr_store.specs.Stands.{IsOpen}
-use Rattle.fr_store.specs.Staying.{StaysPut}
+use Rattle.fr_store.specs.StayPut.{StaysPut}
 use Rattle.fr_store.specs.Turns.{root_shape, CompletesAsBefore, KeepThoseLeft, Turned}
 use Rattle.fr_store.specs.Walks.{IsStoredAt, AreInWalkOrder, IsWalk}
 use Rattle.fr_store.specs.Ways.{kid_at, put_at, Reaches}

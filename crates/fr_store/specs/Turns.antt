@@ -2,7 +2,7 @@
 use Rattle.std.specs.Prelude.{◌≡◌, ℕ, List, [], ◌∷◌, ◌++◌, Some, None}
 use Rattle.std.specs.List.{All}
 use Rattle.fr_store.specs.Below.{Meanings, PathStep, Place, Plan, ReflectErrorKind, Slot, Table, Tree, Val, change_at, complete, deferred_column, failures, finish_cause, finished, shape_in, shape_of, tree_at, whole}
-use Rattle.fr_store.specs.Moves.{IsOpenAt, cursor_in, tree_in_slots}
+use Rattle.fr_store.specs.StackMoves.{IsOpenAt, cursor_in, tree_in_slots}
 
 -- The places that had their turn: each, at its own turn, made a value by the rules of the end of deferred mode, and became whole
 -- with it in the place above.

@@ -3,7 +3,7 @@ use Rattle.std.specs.Prelude.{◌≡◌, ℕ, true, List, [], ◌∷◌}
 use Rattle.std.specs.List.{Contains}
 use Rattle.std.specs.declared.cmp.Ordering.{Ordering}
 use Rattle.fr_store.specs.Below.{Kid, Place, Plot, Tree, at, steps_in, tree_of, walk_order}
-use Rattle.fr_store.specs.Places.{Pairs}
+use Rattle.fr_store.specs.PlaceOrder.{Pairs}
 use Rattle.fr_store.specs.Ways.{kid_at, Reaches}
 
 -- at this place lies a stored place, in this slot

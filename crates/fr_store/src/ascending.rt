@@ -3,8 +3,8 @@
 ghost use Rattle.fr_store.specs.Common.{AllStayPut, AtTop, Conserved, IsKept, IsOpen, IsOpenAt, IsOpened, Plan, IsSome, OnErr, OnOk, Room, SameMarks, SameTokens, Shows, Some, Val, [], cursor_in, false, heap_of, is_root, kid_here, slots_occur, tokens_here, tree_at, tree_in_slots, up, value_of};
 ghost use Rattle.std.specs.Prelude.{IfSome, IsNone, IsOk, ◌≡◌};
 ghost use Rattle.fr_frame.specs.Bodies.{takes_memory};
-ghost use Rattle.fr_store.specs.Moves.{place_then, takes_at_end, tree_then, IsLeftBy, MayHandOver};
-ghost use Rattle.fr_store.specs.Staying.{StayPutAs};
+ghost use Rattle.fr_store.specs.StackMoves.{place_then, takes_at_end, tree_then, IsLeftBy, MayHandOver};
+ghost use Rattle.fr_store.specs.StayPut.{StayPutAs};
 ghost use Rattle.fr_frame.specs.declared.places.Taker.{Taker as By};
 
 use crate::{FrameStore, Stack};

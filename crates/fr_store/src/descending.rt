@@ -3,7 +3,7 @@ ghost use Rattle.fr_store.specs.Common.{AllStayPut, AtTop, IsKept, IsOpen, IsOpe
 ghost use Rattle.fr_frame.specs.Bodies.{MayOpen};
 ghost use Rattle.std.specs.Prelude.{IfSome, IsNone, ◌++◌, ◌<◌, ◌∷◌, ◌≡◌};
 ghost use Rattle.fr_frame.specs.Heap.{with_mark};
-ghost use Rattle.fr_store.specs.Moves.{child_number, entered_by, node_by, MayEnter};
+ghost use Rattle.fr_store.specs.StackMoves.{child_number, entered_by, node_by, MayEnter};
 ghost use Rattle.fr_store.specs.Stored.{IsStoredBy};
 ghost use Rattle.fr_frame.specs.declared.places.ChildWay.{ChildWay as Way};
 

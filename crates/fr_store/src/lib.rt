@@ -15,7 +15,7 @@ mod spreading;
 mod stack;
 mod store;
 mod turning;
-mod walking;
+mod walk_order;
 
 pub use stack::Stack;
 pub use store::FrameStore;

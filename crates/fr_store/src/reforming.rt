@@ -1,6 +1,6 @@
 //! A pointer to a slice that is closed for further items or opened again.
 ghost use Rattle.fr_store.specs.Common.{AllStayPut, IsOpen, IsOpenAt, IsOpened, Plan, SameMarks, SameTokens, as_tracker, changed_here, cursor_in, kid_here, tree_here};
-ghost use Rattle.fr_store.specs.Moves.{begun_as, IsBegunSlice, IsSlice};
+ghost use Rattle.fr_store.specs.StackMoves.{begun_as, IsBegunSlice, IsSlice};
 
 use crate::Stack;
 use fr_frame::{Slots, Tracker};

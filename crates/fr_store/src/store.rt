@@ -6,7 +6,7 @@ ghost use Rattle.fr_store.specs.Stored.{child_slot};
 
 use crate::Stack;
 use crate::turning::StoredPlace;
-use crate::walking::order_walk;
+use crate::walk_order::order_walk;
 use fr_frame::{SlotId, Slots};
 use fr_shape::OutOfMemory;
 use std::alloc::Global;

@@ -2,7 +2,7 @@
 ghost use Rattle.fr_store.specs.Common.{BelongsTo, HasOwner, IfInUse, IsNarrow, IsNonDecreasingBy, IsNoted, as_entries, as_tracker, body_of, heap_of, key_of, order_as, slots_of};
 ghost use Rattle.std.specs.Prelude.{All, IsPermutation, ◌≡◌};
 ghost use Rattle.fr_model.specs.Trackers.{EntriesKind as TreeEntriesKind};
-ghost use Rattle.fr_store.specs.Places.{order_at, order_in};
+ghost use Rattle.fr_store.specs.PlaceOrder.{order_at, order_in};
 
 use fr_frame::{EntriesKind, FrameOwner, PartialValue, SlotId, Slots, Tracker};
 

@@ -13,7 +13,7 @@ use Rattle.fr_shape.specs.Tokens.{times}
 use Rattle.fr_shape.specs.Val.{int, first}
 use Rattle.fr_shape.specs.View.{view_step}
 use Rattle.std.proofs.lemmas.Bool.{and_parts}
-use Rattle.fr_values.specs.Conversions.{has_octets, in_range, is_octet}
+use Rattle.fr_values.specs.ConversionNeeds.{has_octets, in_range, is_octet}
 
 -- past the end nothing follows the bytes so far
 pub bytes_at_end : (items whole : List Value) (i : ℕ) (bytes : List ℕ) → length items ≤ i

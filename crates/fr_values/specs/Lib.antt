@@ -3,7 +3,7 @@ pub mod CellLaws
 pub mod Cells
 pub mod ChildIndex
 pub mod Common
-pub mod Conversions
+pub mod ConversionNeeds
 pub mod Indexing
 pub mod ItemLaws
 pub mod KeyNames

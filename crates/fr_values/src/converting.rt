@@ -6,7 +6,7 @@ ghost use Rattle.fr_shape.specs.declared.error.ReflectErrorKind.{ReflectErrorKin
 ghost use Rattle.fr_shape.specs.declared.shape.Def.{Def as Described};
 ghost use Rattle.fr_shape.specs.Tokens.{vals_tokens};
 ghost use Rattle.fr_model.specs.Converting.{from_scalar, from_bool, from_char, from_int, from_nat, from_text, takes_bytes};
-ghost use Rattle.fr_values.specs.Conversions.{has_octets, in_range, is_narrow, is_octet};
+ghost use Rattle.fr_values.specs.ConversionNeeds.{has_octets, in_range, is_narrow, is_octet};
 
 use fr_shape::{
     Def, Dyn, Items, Ledger, Operation, OutOfMemory, ReflectErrorKind, ScalarKind, ShapeId,

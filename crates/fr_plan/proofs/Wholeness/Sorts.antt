@@ -9,7 +9,7 @@ use Rattle.fr_shape.specs.Look.{Table}
 use Rattle.fr_shape.specs.Plannable.{children_by}
 use Rattle.fr_plan.specs.declared.nodes.NodeId.{NodeId}
 use Rattle.fr_plan.specs.declared.nodes.TypePlanNodeKind.{TypePlanNodeKind}
-use Rattle.fr_plan.specs.declared.lists.PlanLists.{PlanLists}
+use Rattle.fr_plan.specs.declared.plan_lists.PlanLists.{PlanLists}
 use Rattle.fr_plan.specs.declared.plans.EnumPlan.{EnumPlan}
 use Rattle.fr_plan.specs.declared.plans.StructPlan.{StructPlan}
 use Rattle.fr_plan.specs.LookupLaws.{item_of, set_item_of, key_of, value_of, some_of, ok_of, err_of, pointee_of}

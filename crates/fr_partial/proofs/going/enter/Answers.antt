@@ -1,7 +1,7 @@
 use Rattle.std.proofs.Common.{◌≡◌, false, refl, ap, sym, subst, ◌∙◌}
 use Rattle.fr_partial.specs.Common.{Changed, MayHave, Tracker, Way, as_tracker, base_of_tracker, child_node, is_map_tracker, node_here, opened_as}
 use Rattle.fr_frame.specs.Bodies.{TakesItems}
-use Rattle.fr_store.specs.Moves.{count_here}
+use Rattle.fr_store.specs.StackMoves.{count_here}
 use Rattle.fr_partial.proofs.ChildLaws.{child_there, object_node, tracker_has, tracker_is, tracker_there}
 use Rattle.fr_partial.proofs.BelowLaws.{around_base, around_map}
 use Rattle.fr_partial.proofs.GoingLaws.{has_then, is_object, is_planned, keys_are_apart, keys_are_counted, may_go, node_after, node_is, none_then, of_opening, opened_has, opens, went, went_after, went_entry, Goes}

@@ -1,7 +1,7 @@
 use Rattle.std.proofs.Common.{◌≡◌, ap, sym, ◌∙◌, subst, List, ◌∷◌, ◌+◌, take, drop, length, ℕ, min, arith}
 use Rattle.std.specs.List.{AllZip}
 use Rattle.std.proofs.lemmas.List.{take_all}
-use Rattle.fr_plan.specs.declared.lists.PlanLists.{PlanLists}
+use Rattle.fr_plan.specs.declared.plan_lists.PlanLists.{PlanLists}
 use Rattle.fr_plan.specs.declared.nodes.NodeId.{NodeId}
 use Rattle.fr_plan.specs.declared.plans.VariantPlanMeta.{VariantPlanMeta}
 use Rattle.fr_plan.specs.Plans.{IsVariantPlan, PlacedVariant, variants_from}

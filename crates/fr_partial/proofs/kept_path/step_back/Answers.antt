@@ -1,5 +1,5 @@
 use Rattle.fr_partial.proofs.WayLaws.{went_back}
-use Rattle.fr_partial.proofs.paths.step_back.Goals as goal
+use Rattle.fr_partial.proofs.kept_path.step_back.Goals as goal
 
 pub returns : goal.returns
 returns c before last is =

@@ -1,7 +1,7 @@
 use Rattle.std.proofs.Common.{Some, ap, sym, ◌∙◌, subst, arith}
 use Rattle.fr_frame.specs.Common.{IsListedIn, Slot, node_of}
 use Rattle.fr_values.specs.SliceLaws.{read}
-use Rattle.fr_frame.proofs.items.list_of.Goals as goal
+use Rattle.fr_frame.proofs.list_items.list_of.Goals as goal
 
 pub returns-in-List : goal.returns-in-List
 returns-in-List c = record {

@@ -2,7 +2,7 @@
 -- one above or is released.
 use Rattle.std.specs.Prelude.{◌≡◌, ◌≢◌}
 use Rattle.fr_store.specs.Below.{IsAbove, Kid, Place, Taker}
-use Rattle.fr_store.specs.Places.{slot_at, IsPlaced}
+use Rattle.fr_store.specs.PlaceOrder.{slot_at, IsPlaced}
 
 -- the place, where it lay in a slot, lies in the same slot still
 abbrev pub StaysPut : (before after : Kid) → Place → Type 0

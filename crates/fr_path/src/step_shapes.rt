@@ -1,6 +1,6 @@
 //! Which shape a step leads to.
 ghost use Rattle.std.specs.Prelude.{◌≡◌};
-ghost use Rattle.fr_path.specs.Places.{owns, inside_of, item_behind, pointee_behind, element_of, no_parts, parts_of, source_of, shape_after};
+ghost use Rattle.fr_path.specs.StepShapes.{owns, inside_of, item_behind, pointee_behind, element_of, no_parts, parts_of, source_of, shape_after};
 
 use crate::PathStep;
 use fr_shape::{Def, FieldRef, KnownPointer, PointerDef, Shape, ShapeId, ShapeTable};

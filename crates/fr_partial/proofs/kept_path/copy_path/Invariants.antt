@@ -1,5 +1,5 @@
 use Rattle.std.proofs.Common.{◌≡◌, take}
-use Rattle.fr_partial.proofs.paths.copy_path.Given as goal
+use Rattle.fr_partial.proofs.kept_path.copy_path.Given as goal
 
 -- the steps so far are copied
 abbrev pub invariant-loop-step : goal.invariant-loop-step

@@ -1,6 +1,6 @@
 use Rattle.std.proofs.Common.{◌≡◌, ◌+◌, ◌*◌, drop}
 use Rattle.fr_plan.specs.Build.{build, each_built, fields_built, fields_from, variant_fields_from, none_yet}
-use Rattle.fr_plan.proofs.building.+building.Given as goal
+use Rattle.fr_plan.proofs.node_building.+building.Given as goal
 
 abbrev pub decreases-build_shape : goal.decreases-build_shape
 decreases-build_shape l = 7 * l.depth

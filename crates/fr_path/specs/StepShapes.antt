@@ -10,9 +10,9 @@ use Rattle.fr_shape.specs.declared.shape.KnownPointer.{KnownPointer}
 use Rattle.fr_shape.specs.Fills.{is_option}
 use Rattle.fr_shape.specs.Look.{Table, def_of, field_in}
 use Rattle.fr_path.specs.declared.path_steps.PathStep.{PathStep}
-use Rattle.fr_path.specs.declared.places.TheConstants.{MOST_ELEMENTS}
-use Rattle.fr_path.specs.declared.places.Inside.{Inside}
-use Rattle.fr_path.specs.declared.places.Parts.{Parts}
+use Rattle.fr_path.specs.declared.step_shapes.TheConstants.{MOST_ELEMENTS}
+use Rattle.fr_path.specs.declared.step_shapes.Inside.{Inside}
+use Rattle.fr_path.specs.declared.step_shapes.Parts.{Parts}
 
 -- ---- what is behind a pointer
 

@@ -5,7 +5,7 @@ use Rattle.fr_store.proofs.PairLaws.{in_map}
 use Rattle.std.proofs.lemmas.List.Elements.{Contains-get_or}
 use Rattle.fr_store.proofs.StoredLaws.{are_all_stored, stored_owned}
 use Rattle.fr_store.proofs.WalkLaws.{walk_of}
-use Rattle.fr_store.proofs.walking.order_walk.Goals as goal
+use Rattle.fr_store.proofs.walk_order.order_walk.Goals as goal
 
 pub note_all-requires : goal.note_all-requires
 note_all-requires c = record {

@@ -2,7 +2,7 @@ use Rattle.std.proofs.Common.{◌≡◌, ◌++◌, ◌∷◌, [], List, ap, subs
 use Rattle.std.specs.Box.{with_value}
 use Rattle.fr_frame.specs.Common.{HasRoomIn, IsSeenAs, Slot, SlotId}
 use Rattle.fr_frame.proofs.AddItemLaws.{added_in, ok_three}
-use Rattle.fr_frame.proofs.items.add_item_in.Goals as goal
+use Rattle.fr_frame.proofs.list_items.add_item_in.Goals as goal
 
 pub returns-clause-added : goal.returns-clause-added
 returns-clause-added c =

@@ -2,7 +2,7 @@
 use Rattle.std.specs.Prelude.{ℕ, ◌==◌, Bool, not, ◌&&◌}
 use Rattle.fr_shape.specs.Look.{Table, def_of}
 use Rattle.fr_shape.specs.Plannable.{is_dynamic}
-use Rattle.fr_values.specs.Conversions.{copies_to_convert}
+use Rattle.fr_values.specs.ConversionNeeds.{copies_to_convert}
 
 -- a place converts what it is set to: it is dynamic, and the value is of another shape
 abbrev pub converts : Table → (s given : ℕ) → Bool

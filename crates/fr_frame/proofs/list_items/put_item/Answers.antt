@@ -1,7 +1,7 @@
 use Rattle.std.proofs.Common.{◌≡◌, Option, Some, None, IsSomeAnd, sym, subst}
 use Rattle.fr_frame.specs.Common.{Body, Node, PartialValue, Slot, SlotId, body_of, node_in, ℕ}
 use Rattle.fr_frame.specs.RawItems.{IsKeptItem}
-use Rattle.fr_frame.proofs.items.put_item.Goals as goal
+use Rattle.fr_frame.proofs.list_items.put_item.Goals as goal
 
 kept : (found : Option Node) (partial : PartialValue) (list : SlotId) (number : ℕ) (now : Slot)
     → IsSomeAnd found (λ (at : Node). at.body ≡ body_of partial) → IsKeptItem list number (body_of partial) now

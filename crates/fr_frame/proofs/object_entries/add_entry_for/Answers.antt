@@ -1,7 +1,7 @@
 use Rattle.std.proofs.Common.{[], ◌∷◌, refl, ap, ◌∙◌}
 use Rattle.fr_frame.specs.Common.{PartialValue, absent, body_occurs, body_of}
 use Rattle.fr_frame.proofs.GrowLaws.{pushed_occur}
-use Rattle.fr_frame.proofs.dynamic_values.add_entry_for.Goals as goal
+use Rattle.fr_frame.proofs.object_entries.add_entry_for.Goals as goal
 
 pub returns-clause-tokens : goal.returns-clause-tokens
 returns-clause-tokens c t =

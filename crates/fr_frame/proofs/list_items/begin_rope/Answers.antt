@@ -1,7 +1,7 @@
 use Rattle.std.proofs.Common.{ap, subst, ◌∙◌}
 use Rattle.fr_frame.specs.Common.{IsSeenAs, Slot}
 use Rattle.fr_frame.proofs.AddItemLaws.{seen_made}
-use Rattle.fr_frame.proofs.items.begin_rope.Goals as goal
+use Rattle.fr_frame.proofs.list_items.begin_rope.Goals as goal
 
 pub returns-clause-seen : goal.returns-clause-seen
 returns-clause-seen c =
