@@ -1,7 +1,7 @@
 -- An item that comes to a list: the list has room for it in its partial value, and its slot behind those of the others.
 use Rattle.std.proofs.Common.{◌≡◌, ℕ, zero, suc, ◌+◌, ◌-◌, ◌≤◌, Bool, true, false, List, [], ◌∷◌, ◌++◌, length, length-append, Option, Some, None, IsSomeAnd, get_or, slice_get, set, refl, sym, ◌∙◌, ap, ap₂, subst, arith, if◌then◌else◌}
 use Rattle.std.proofs.lemmas.Result.{on_ok_weaker, IfErr-weaker}
-use Rattle.fr_frame.specs.Common.{Box, Cell, Err, Global, HasRoomIn, Held, IfInUse, IsReserved, IsSeenAs, Item, KeepsReserved, Node, Ok, OnErr, OnOk, PartialValue, Place, Result, Rope, SameTokens, Shows, Slot, SlotId, absent, body_occurs, body_of, cells_occur, children_with, heap_of, is_list_body, item_in, item_or, items_of, keeps_items, node_in, option_and_then, partial_with, place_with, placed, slot_seen, slots_occur, slots_seen, value_held, with_body, with_items, with_placed}
+use Rattle.fr_frame.specs.Common.{Box, Cell, Err, Global, HasRoomIn, HeldItems, IfInUse, IsReserved, IsSeenAs, Item, KeepsReserved, Node, Ok, OnErr, OnOk, PartialValue, Place, Result, Rope, SameTokens, Shows, Slot, SlotId, absent, body_occurs, body_of, cells_occur, children_with, heap_of, held_items, is_list_body, item_in, item_or, keeps_items, node_in, option_and_then, partial_with, place_with, placed, slot_seen, slots_occur, slots_seen, value_held, with_body, with_items, with_placed}
 use Rattle.fr_frame.specs.declared.places.ItemsKind.{ItemsKind}
 use Rattle.fr_frame.specs.declared.places.Tracker.{Tracker}
 use Rattle.fr_frame.specs.RawItems.{partial_with_placed, with_room, IsAddedIn, IsListIn, IsSeenWith}
@@ -17,7 +17,8 @@ use Rattle.fr_frame.proofs.SlotLaws.{get_seen, node_seen, reserved_in, set_seen}
 -- Children.
 
 -- one child more, which is an item that hasn't completed
-with_more : (held : Held) (n i before : ℕ) (cells : List Cell) (items : List SlotId) (item : SlotId) → length cells ≡ before + length items
+with_more : (held : HeldItems) (n i before : ℕ) (cells : List Cell) (items : List SlotId) (item : SlotId)
+    → length cells ≡ before + length items
     → held item.0 ≡ None
     → with_items held n i before (cells ++ absent ∷ []) (items ++ item ∷ []) ≡ with_items held n i before cells items ++ placed item.0 ∷ []
 with_more held n i zero [] [] item long none = ap (λ (o : Option Item). item_or item.0 (value_held n i o) ∷ []) none
@@ -30,7 +31,7 @@ with_more held n i zero (c ∷ cells) (s ∷ items) item long none =
 with_more held n i (suc before) (c ∷ cells) items item long none =
     ap (λ (l : List Cell). c ∷ l) (with_more held n (suc i) before cells items item (omega (arith, long)) none)
 
-children_more : (held : Held) (n : ℕ) (cells : List Cell) (items : List SlotId) (item : SlotId) → length items ≤ length cells
+children_more : (held : HeldItems) (n : ℕ) (cells : List Cell) (items : List SlotId) (item : SlotId) → length items ≤ length cells
     → held item.0 ≡ None
     → children_with held n (cells ++ absent ∷ []) (items ++ item ∷ []) ≡ children_with held n cells items ++ placed item.0 ∷ []
 children_more held n cells items item room none =
@@ -40,7 +41,8 @@ children_more held n cells items item room none =
     before_same : length (cells ++ absent ∷ []) - length (items ++ item ∷ []) ≡ length cells - length items
     before_same = omega (arith, length-append cells (absent ∷ []), length-append items (item ∷ []))
 
-partial_more : (held : Held) (n : ℕ) (partial : PartialValue) (items : List SlotId) (item : SlotId) → is_list_body (body_of partial) ≡ true
+partial_more : (held : HeldItems) (n : ℕ) (partial : PartialValue) (items : List SlotId) (item : SlotId)
+    → is_list_body (body_of partial) ≡ true
     → HasRoomIn items partial → held item.0 ≡ None
     → partial_with held n (items ++ item ∷ []) (with_room partial) ≡ partial_with_placed item.0 (partial_with held n items partial)
 partial_more held n PartialValue.Entered items item list room none = cc
@@ -66,7 +68,7 @@ ok_three (Err e) A B C D so a b c = a
 
 -- Slots.
 
-partial_none : (held : Held) (n : ℕ) (partial : PartialValue) → partial_with held n [] partial ≡ partial
+partial_none : (held : HeldItems) (n : ℕ) (partial : PartialValue) → partial_with held n [] partial ≡ partial
 partial_none held n PartialValue.Entered = refl
 partial_none held n (PartialValue.Whole v) = refl
 partial_none held n (PartialValue.Begun tracker cells) = by (keeps_items tracker)
@@ -105,7 +107,7 @@ added_in before place items now partial item used same is are room = record {
     list : is_list_body (body_of place.partial) ≡ true
     list = subst (λ (o : Option Node). IsSomeAnd o (λ (at : Node). is_list_body at.body ≡ true)) (sym same.node) used
 
-list_of_partial : (held : Held) (n : ℕ) (items : List SlotId) (partial : PartialValue)
+list_of_partial : (held : HeldItems) (n : ℕ) (items : List SlotId) (partial : PartialValue)
     → is_list_body (body_of (partial_with held n items partial)) ≡ is_list_body (body_of partial)
 list_of_partial held n items PartialValue.Entered = refl
 list_of_partial held n items _ = refl
@@ -115,8 +117,8 @@ list_of_partial held n items _ = refl
 pub seen_kept : (raw : List Slot) (n : ℕ) (was now : Slot) → slice_get raw n ≡ Some was → IsSeenAs was now
     → slots_seen (set raw n now) ≡ slots_seen raw
 seen_kept raw n was now here same =
-    seen_set raw n was now here (sym same.item) ∙ ap (set (slots_seen raw) n) (same.seen (items_of raw) n)
-    ∙ set_as_was (slots_seen raw) n (slot_seen (items_of raw) n was) (get_seen raw (slots_seen raw) refl n was here)
+    seen_set raw n was now here (sym same.item) ∙ ap (set (slots_seen raw) n) (same.seen (held_items raw) n)
+    ∙ set_as_was (slots_seen raw) n (slot_seen (held_items raw) n was) (get_seen raw (slots_seen raw) refl n was here)
 
 body_placed : (item : ℕ) (partial : PartialValue) → body_of (partial_with_placed item partial) ≡ with_placed item (body_of partial)
 body_placed item PartialValue.Entered = refl
@@ -143,10 +145,10 @@ module _ (raw slots : List Slot) (view_is : slots_seen raw ≡ slots) (n at : �
       go was
       (subst (λ (o : Option Node). IsSomeAnd o (λ (above : Node). is_list_body above.body ≡ true)) (node_seen raw slots view_is n was here) list)
     where
-      go : (slot : Slot) → IsSomeAnd (node_in (slot_seen (items_of raw) n slot)) (λ (above : Node). is_list_body above.body ≡ true)
+      go : (slot : Slot) → IsSomeAnd (node_in (slot_seen (held_items raw) n slot)) (λ (above : Node). is_list_body above.body ≡ true)
           → IsListIn slot
       go (Slot.Used place) h = h
-      go (Slot.List place items) h = sym (list_of_partial (items_of raw) n items.value.items place.partial) ∙ h
+      go (Slot.List place items) h = sym (list_of_partial (held_items raw) n items.value.items place.partial) ∙ h
       go _ h = absurd h
 
   module _ (now : Slot) (item : ℕ) (reserved : IsReserved slots item) where
@@ -156,8 +158,8 @@ module _ (raw slots : List Slot) (view_is : slots_seen raw ≡ slots) (n at : �
 
     -- it has one more
     module _ (added : IsAddedIn item was now) where
-      abbrev with_it : IsSeenWith item (items_of raw) n was now
-      with_it = added.seen (items_of raw) n (ap (option_and_then item_in) (reserved_in raw slots view_is item reserved))
+      abbrev with_it : IsSeenWith item (held_items raw) n was now
+      with_it = added.seen (held_items raw) n (ap (option_and_then item_in) (reserved_in raw slots view_is item reserved))
 
       there : slice_get slots n ≡ Some (Slot.Used with_it.at)
       there = get_seen raw slots view_is n was here ∙ ap (λ (s : Slot). Some s) with_it.was

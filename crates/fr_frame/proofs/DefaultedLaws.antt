@@ -1,6 +1,6 @@
 -- A place in a slot that has taken its fills by the rules of either column: what is left of it, and what that says of the place as it was.
 use Rattle.std.proofs.Common.{◌≡◌, ◌⊎◌, ℕ, true, List, Option, Some, None, IsSomeAnd, refl, ◌∙◌, subst}
-use Rattle.fr_frame.specs.Common.{Becomes, Body, FillColumn, FillsAt, HasAllChildren, IfInUse, IsCauseOf, IsChecked, IsPlanFor, IsPlanned, IsUnfilled, KeepsTracker, MayComplete, Meanings, Node, OnOk, Plan, ReflectErrorKind, Result, Slot, Table, WhyNot, WhyNotDefault, asked, column_of, defaulted, deferred_column, heap_of, invalid, left_out, question_of, shape_of, strict_column, takes_template, unmet, Ok, Err}
+use Rattle.fr_frame.specs.Common.{Becomes, Body, FillColumn, FillsAt, HasAllChildren, IfInUse, IsCauseOf, IsChecked, IsPlanFor, IsPlanned, IsUnfilled, KeepsTracker, MayComplete, Meanings, Node, OnOk, Plan, ReflectErrorKind, Result, Slot, Table, WhyNot, WhyNotDefault, asked, column_of, defaulted, deferred_column, heap_of, invalid, first_hole_left, question_of, shape_of, strict_column, takes_template, unmet, Ok, Err}
 use Rattle.fr_frame.proofs.HeapLaws.{with_here}
 use Rattle.fr_frame.proofs.FillLaws.{HasFilled, has_filled}
 use Rattle.fr_frame.proofs.PlaceLaws.{of_node}
@@ -117,16 +117,16 @@ module _ {means : Meanings} {table : Table} {plan : Plan} {before after : List S
 
   -- at the end of deferred mode it may still lack something
   module _ (is : HasTaken FillColumn.Deferred means table plan before after n) where
-    pub left_so : (kind : ReflectErrorKind) → IfInUse after n (λ at. left_out (shape_of plan at.node) at.body ≡ Some kind)
+    pub left_so : (kind : ReflectErrorKind) → IfInUse after n (λ at. first_hole_left (shape_of plan at.node) at.body ≡ Some kind)
         → IfInUse before n (λ at. WhyNotDefault means table (shape_of plan at.node) at.body kind)
     left_so kind left =
         was_so checked is (λ x. WhyNotDefault means table (shape_of plan x.node) x.body kind)
         (why_left means table (s checked is) is.at.body checked is.may.full is.may.closed is.met kind
-        (of_now checked is (λ x. left_out (shape_of plan x.node) x.body ≡ Some kind) left))
+        (of_now checked is (λ x. first_hole_left (shape_of plan x.node) x.body ≡ Some kind) left))
 
-    module _ (full : IfInUse after n (λ at. left_out (shape_of plan at.node) at.body ≡ None)) where
-      nothing_left : left_out (s checked is) (then checked is) ≡ None
-      nothing_left = of_now checked is (λ x. left_out (shape_of plan x.node) x.body ≡ None) full
+    module _ (full : IfInUse after n (λ at. first_hole_left (shape_of plan at.node) at.body ≡ None)) where
+      nothing_left : first_hole_left (s checked is) (then checked is) ≡ None
+      nothing_left = of_now checked is (λ x. first_hole_left (shape_of plan x.node) x.body ≡ None) full
 
       pub there_so : IfInUse after n (λ at. HasAllChildren at.body)
       there_so = now_so checked is (λ x. HasAllChildren x.body) (all_there (s checked is) (then checked is) nothing_left)

@@ -1,6 +1,6 @@
 -- Lists whose items go into them, out of slots that are free then.
 use Rattle.std.proofs.Common.{◌≡◌, ◌≢◌, ◌⊎◌, ℕ, zero, suc, ◌+◌, ◌<◌, ◌≤◌, Bool, true, false, ◌&&◌, List, [], ◌∷◌, length, Option, Some, None, IsSomeAnd, slice_get, set, get_or, is_some, nat_eq, option_map, length-set, inl, inr, refl, sym, ◌∙◌, ap, subst, arith, add-one, if◌then◌else◌}
-use Rattle.fr_frame.specs.Common.{Box, Cell, FreesItem, FreesItems, Global, Held, IsPlain, IsPlainAt, Item, PartialValue, Place, Rope, Slot, SlotId, Val, is_list, item_cell, item_in, item_or, items_of, option_and_then, partial_with, slot_seen, slots_seen, value_held, view, with_items}
+use Rattle.fr_frame.specs.Common.{Box, Cell, FreesItem, FreesItems, Global, HeldItems, IsPlain, IsPlainAt, Item, PartialValue, Place, Rope, Slot, SlotId, Val, held_items, is_list, item_cell, item_in, item_or, option_and_then, partial_with, slot_seen, slots_seen, value_held, view, with_items}
 use Rattle.std.proofs.lemmas.Bool.{eq-eqb, false≢true}
 use Rattle.std.proofs.lemmas.Option.{get_or_from_slice_get, slice_get_read}
 use Rattle.fr_frame.specs.ListItems.{IsItemFreed}
@@ -9,19 +9,19 @@ use Rattle.fr_values.specs.SliceLaws.{number_cases, other_number, set_gets, set_
 
 -- Children that are filled in, from number `at` on.
 
-pub filled_past : (held : Held) (n i at : ℕ) (cells : List Cell) (items : List SlotId) → length cells ≤ at
+pub filled_past : (held : HeldItems) (n i at : ℕ) (cells : List Cell) (items : List SlotId) → length cells ≤ at
     → with_items held n i at cells items ≡ cells
 filled_past held n i at [] items h = refl
 filled_past held n i zero (c ∷ cells) items h = absurd (omega arith)
 filled_past held n i (suc at) (c ∷ cells) items h =
     ap (λ (l : List Cell). c ∷ l) (filled_past held n (suc i) at cells items (omega arith))
 
-pub none_to_come : (held : Held) (n i at : ℕ) (cells : List Cell) → with_items held n i at cells [] ≡ cells
+pub none_to_come : (held : HeldItems) (n i at : ℕ) (cells : List Cell) → with_items held n i at cells [] ≡ cells
 none_to_come held n i at [] = refl
 none_to_come held n i zero (c ∷ cells) = refl
 none_to_come held n i (suc at) (c ∷ cells) = ap (λ (l : List Cell). c ∷ l) (none_to_come held n (suc i) at cells)
 
-filled_from : (held : Held) (n i at k : ℕ) (cells : List Cell) (slot : SlotId) (items : List SlotId) → k ≡ i + at → at < length cells
+filled_from : (held : HeldItems) (n i at k : ℕ) (cells : List Cell) (slot : SlotId) (items : List SlotId) → k ≡ i + at → at < length cells
     → with_items held n i (suc at) (set cells at (item_cell held n k slot)) items ≡ with_items held n i at cells (slot ∷ items)
 filled_from held n i at k [] slot items e h = absurd (omega arith)
 filled_from held n i zero k (c ∷ cells) slot items e h =
@@ -30,7 +30,7 @@ filled_from held n i zero k (c ∷ cells) slot items e h =
 filled_from held n i (suc at) k (c ∷ cells) slot items e h =
     ap (λ (l : List Cell). c ∷ l) (filled_from held n (suc i) at k cells slot items (omega arith) (omega arith))
 
-filled_next : (held : Held) (n at : ℕ) (cells now : List Cell) (slot : SlotId) (items : List SlotId) → at < length cells
+filled_next : (held : HeldItems) (n at : ℕ) (cells now : List Cell) (slot : SlotId) (items : List SlotId) → at < length cells
     → now ≡ set cells at (item_cell held n at slot)
     → with_items held n 0 (at + 1) now items ≡ with_items held n 0 at cells (slot ∷ items)
 filled_next held n at cells now slot items h is = rw (add-one, is) (filled_from held n 0 at at cells slot items (omega arith) h)
@@ -59,7 +59,7 @@ item_held n i item list number =
 abbrev ItemThere : (slots : List Slot) (m n i : ℕ) → Type 0
 ItemThere slots m n i = (item : Item) × (slice_get slots m ≡ Some (Slot.Item item)) × (item.list.0 ≡ n) × (item.number ≡ i)
 
-item_there : (slots : List Slot) (m n i : ℕ) → is_some (value_held n i (items_of slots m)) ≡ true → ItemThere slots m n i
+item_there : (slots : List Slot) (m n i : ℕ) → is_some (value_held n i (held_items slots m)) ≡ true → ItemThere slots m n i
 item_there slots m n i e = go (slice_get slots m) refl e
   where
     go : (o : Option Slot) → slice_get slots m ≡ o → is_some (value_held n i (option_and_then item_in o)) ≡ true → ItemThere slots m n i
@@ -72,7 +72,7 @@ item_there slots m n i e = go (slice_get slots m) refl e
     ]
     go _ at h = absurd (false≢true h)
 
-module _ (slots : List Slot) (n i m at : ℕ) (slot : Slot) (is : is_some (value_held n i (items_of slots m)) ≡ true) (same : at ≡ m) (read : slot ≡ get_or slots at slot) where
+module _ (slots : List Slot) (n i m at : ℕ) (slot : Slot) (is : is_some (value_held n i (held_items slots m)) ≡ true) (same : at ≡ m) (read : slot ≡ get_or slots at slot) where
   there : ItemThere slots m n i
   there = item_there slots m n i is
 
@@ -82,7 +82,7 @@ module _ (slots : List Slot) (n i m at : ℕ) (slot : Slot) (is : is_some (value
   pub taken_is : (item : Item) × (slot ≡ Slot.Item item)
   taken_is = (there.0, is_there)
 
-  pub taken_value : (item : Item) → slot ≡ Slot.Item item → Some (view item.value) ≡ value_held n i (items_of slots m)
+  pub taken_value : (item : Item) → slot ≡ Slot.Item item → Some (view item.value) ≡ value_held n i (held_items slots m)
   taken_value item e =
       let both : Slot.Item item ≡ Slot.Item there.0 = sym e ∙ is_there in
       let one : item ≡ there.0 = cc in
@@ -126,7 +126,7 @@ frees_on n i m a b c before (inr next) = frees_more n i m a b c before next
 
 -- what is held of the items from number `i` on is as it was
 abbrev pub HoldsFrom : (n i : ℕ) (a b : List Slot) → Type 0
-HoldsFrom n i a b = (j m : ℕ) → i ≤ j → value_held n j (items_of b m) ≡ value_held n j (items_of a m)
+HoldsFrom n i a b = (j m : ℕ) → i ≤ j → value_held n j (held_items b m) ≡ value_held n j (held_items a m)
 
 holds_more : (n i m : ℕ) (a b c : List Slot) → HoldsFrom n i a b → IsItemFreed b c m n i → HoldsFrom n (i + 1) a c
 holds_more n i m a b c before next j k h = here k ∙ before j k (omega arith)
@@ -147,22 +147,23 @@ holds_more n i m a b c before next j k h = here k ∙ before j k (omega arith)
 
 pub holds_on : (n i m : ℕ) (a b c : List Slot) → HoldsFrom n i a b → (c ≡ b) ⊎ IsItemFreed b c m n i → HoldsFrom n (i + 1) a c
 holds_on n i m a b c before (inl same) j k h =
-    ap (λ (slots : List Slot). value_held n j (items_of slots k)) same ∙ before j k (omega arith)
+    ap (λ (slots : List Slot). value_held n j (held_items slots k)) same ∙ before j k (omega arith)
 holds_on n i m a b c before (inr next) j k h = holds_more n i m a b c before next j k h
 
 -- the next item goes in
 pub filled_on : (start now : List Slot) (n at : ℕ) (cells after : List Cell) (slot : SlotId) (items : List SlotId) → at < length cells
-    → HoldsFrom n at start now → after ≡ set cells at (item_cell (items_of now) n at slot)
-    → with_items (items_of start) n 0 (at + 1) after items ≡ with_items (items_of start) n 0 at cells (slot ∷ items)
+    → HoldsFrom n at start now → after ≡ set cells at (item_cell (held_items now) n at slot)
+    → with_items (held_items start) n 0 (at + 1) after items ≡ with_items (held_items start) n 0 at cells (slot ∷ items)
 filled_on start now n at cells after slot items h held is =
-    let as_held : item_cell (items_of now) n at slot ≡ item_cell (items_of start) n at slot = ap (item_or slot.0) (held at slot.0 (omega arith)) in
-    filled_next (items_of start) n at cells after slot items h (is ∙ ap (λ (c : Cell). set cells at c) as_held)
+    let as_held : item_cell (held_items now) n at slot ≡ item_cell (held_items start) n at slot
+    = ap (item_or slot.0) (held at slot.0 (omega arith)) in
+    filled_next (held_items start) n at cells after slot items h (is ∙ ap (λ (c : Cell). set cells at c) as_held)
 
 -- Slots whose items went into a list, as they are seen.
 
 -- what is held of another list's items is as it was
 others_hold : (n : ℕ) (a b : List Slot) (l : ℕ) → l ≢ n → ((m : ℕ) → m ≢ n → FreesItem n (slice_get a m) (slice_get b m))
-    → items_of a n ≡ items_of b n → HoldSame (items_of a) (items_of b) l
+    → held_items a n ≡ held_items b n → HoldSame (held_items a) (held_items b) l
 others_hold n a b l ne each here m i = elim (number_cases m n) [
   | inl same ↦ rw same (ap (value_held l i) here)
   | inr other ↦ freed (each m other)
@@ -178,8 +179,8 @@ others_hold n a b l ne each here m i = elim (number_cases m n) [
 
 -- all slots are seen as they were where the list's own is
 drained_seen : (n : ℕ) (a b : List Slot) → ((m : ℕ) → m ≢ n → FreesItem n (slice_get a m) (slice_get b m))
-    → items_of a n ≡ items_of b n
-    → option_map (slot_seen (items_of a) n) (slice_get a n) ≡ option_map (slot_seen (items_of b) n) (slice_get b n)
+    → held_items a n ≡ held_items b n
+    → option_map (slot_seen (held_items a) n) (slice_get a n) ≡ option_map (slot_seen (held_items b) n) (slice_get b n)
     → slots_seen a ≡ slots_seen b
 drained_seen n a b each here is = seen_as_same a b (λ m. elim (number_cases m n) [
   | inl same ↦ subst SeenSame (sym same) is
@@ -187,16 +188,17 @@ drained_seen n a b each here is = seen_as_same a b (λ m. elim (number_cases m n
 ])
   where
     SeenSame : ℕ → Type 0
-    SeenSame m = option_map (slot_seen (items_of a) m) (slice_get a m) ≡ option_map (slot_seen (items_of b) m) (slice_get b m)
+    SeenSame m = option_map (slot_seen (held_items a) m) (slice_get a m) ≡ option_map (slot_seen (held_items b) m) (slice_get b m)
 
-    seen : (m : ℕ) (o : Option Slot) → m ≢ n → option_map (slot_seen (items_of a) m) o ≡ option_map (slot_seen (items_of b) m) o
+    seen : (m : ℕ) (o : Option Slot) → m ≢ n → option_map (slot_seen (held_items a) m) o ≡ option_map (slot_seen (held_items b) m) o
     seen m None ne = refl
-    seen m (Some slot) ne = ap (λ (x : Slot). Some x) (slot_seen_same (items_of a) (items_of b) m slot (others_hold n a b m ne each here))
+    seen m (Some slot) ne = ap (λ (x : Slot). Some x)
+        (slot_seen_same (held_items a) (held_items b) m slot (others_hold n a b m ne each here))
 
     freed : (m : ℕ) → m ≢ n → FreesItem n (slice_get a m) (slice_get b m) → SeenSame m
-    freed m ne (inl same) = seen m (slice_get a m) ne ∙ ap (option_map (slot_seen (items_of b) m)) same
+    freed m ne (inl same) = seen m (slice_get a m) ne ∙ ap (option_map (slot_seen (held_items b) m)) same
     freed m ne (inr item) =
-        ap (option_map (slot_seen (items_of a) m)) item.2 ∙ sym (ap (option_map (slot_seen (items_of b) m)) item.4)
+        ap (option_map (slot_seen (held_items a) m)) item.2 ∙ sym (ap (option_map (slot_seen (held_items b) m)) item.4)
 
 -- slots where a list's items went into it
 pub record IsDrained (n : ℕ) (before after : List Slot) : Type 0 where
@@ -206,7 +208,7 @@ pub record IsDrained (n : ℕ) (before after : List Slot) : Type 0 where
   pub as_many : length after ≡ length before
 
 -- A list's place, taken out of its slot, in which it is again with its items.
-module _ (n : ℕ) (a b : List Slot) (place : Place) (items : Box (Rope SlotId) Global) (partial : PartialValue) (was : slice_get a n ≡ Some (Slot.List place items)) (frees : FreesItems n (set a n Slot.Reserved) b) (put : partial ≡ partial_with (items_of (set a n Slot.Reserved)) n items.value.items place.partial) where
+module _ (n : ℕ) (a b : List Slot) (place : Place) (items : Box (Rope SlotId) Global) (partial : PartialValue) (was : slice_get a n ≡ Some (Slot.List place items)) (frees : FreesItems n (set a n Slot.Reserved) b) (put : partial ≡ partial_with (held_items (set a n Slot.Reserved)) n items.value.items place.partial) where
   abbrev drained : List Slot
   drained = set b n (Slot.Used (record place { partial = partial }))
 
@@ -230,19 +232,19 @@ module _ (n : ℕ) (a b : List Slot) (place : Place) (items : Box (Rope SlotId) 
   drain_seen : slots_seen drained ≡ slots_seen a
   drain_seen = sym (drained_seen n a drained drain_others none same)
     where
-      none : items_of a n ≡ items_of drained n
+      none : held_items a n ≡ held_items drained n
       none = ap (option_and_then item_in) was ∙ sym (ap (option_and_then item_in) used)
 
-      as_was : HoldSame (items_of a) (items_of (set a n Slot.Reserved)) n
+      as_was : HoldSame (held_items a) (held_items (set a n Slot.Reserved)) n
       as_was m i = ap (value_held n i) (sym (items_set a n (Slot.List place items) Slot.Reserved was refl m))
 
-      same : option_map (slot_seen (items_of a) n) (slice_get a n)
-          ≡ option_map (slot_seen (items_of drained) n) (slice_get drained n)
+      same : option_map (slot_seen (held_items a) n) (slice_get a n)
+          ≡ option_map (slot_seen (held_items drained) n) (slice_get drained n)
       same =
-          ap (option_map (slot_seen (items_of a) n)) was
-          ∙ ap (λ (x : Slot). Some x) (slot_seen_same (items_of a) (items_of (set a n Slot.Reserved)) n (Slot.List place items) as_was)
+          ap (option_map (slot_seen (held_items a) n)) was
+          ∙ ap (λ (x : Slot). Some x) (slot_seen_same (held_items a) (held_items (set a n Slot.Reserved)) n (Slot.List place items) as_was)
           ∙ ap (λ (p : PartialValue). Some (Slot.Used (record place { partial = p }))) (sym put)
-          ∙ sym (ap (option_map (slot_seen (items_of drained) n)) used)
+          ∙ sym (ap (option_map (slot_seen (held_items drained) n)) used)
 
   drained_so : IsDrained n a drained
   drained_so = record {
@@ -254,7 +256,7 @@ module _ (n : ℕ) (a b : List Slot) (place : Place) (items : Box (Rope SlotId) 
 
 pub is_drained : (n : ℕ) (a b : List Slot) (at to : ℕ) (slot kept : Slot) (place : Place) (items : Box (Rope SlotId) Global) (partial : PartialValue)
     → at < length a → at ≡ n → slot ≡ get_or a at slot → slot ≡ Slot.List place items → kept ≡ Slot.Reserved
-    → FreesItems n (set a at kept) b → partial ≡ partial_with (items_of (set a at kept)) n items.value.items place.partial → to ≡ n
+    → FreesItems n (set a at kept) b → partial ≡ partial_with (held_items (set a at kept)) n items.value.items place.partial → to ≡ n
     → IsDrained n a (set b to (Slot.Used (record place { partial = partial })))
 is_drained n a b at to slot kept place items partial h at_is read is kept_is frees put to_is =
     rw to_is (drained_so n a b place items partial was (rw (at_is, kept_is) at frees) (rw (at_is, kept_is) at put))

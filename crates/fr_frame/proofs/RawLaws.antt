@@ -1,7 +1,7 @@
 -- One slot that is changed where a list's items lie in slots of their own, and what contracts see of that.
 use Rattle.std.proofs.Common.{◌≡◌, ℕ, zero, suc, ◌+◌, ◌-◌, ◌<◌, ◌≤◌, Bool, true, false, List, [], ◌∷◌, length, Option, Some, None, IsSomeAnd, is_some, get_or, slice_get, set, refl, sym, ◌∙◌, ap, ap₂, subst, arith, if◌then◌else◌}
 use Rattle.std.proofs.lemmas.Option.{slice_get_past}
-use Rattle.fr_frame.specs.Common.{Body, Box, Cell, Global, Held, IsInUse, Node, PartialValue, Place, Rope, SameTokens, Shows, Slot, SlotId, Val, as_tracker, begun_body, body_occurs, body_of, body_with, cell_at, children_with, count_cells, entered_body, heap_of, is_list_body, is_used, item_cell, item_in, item_or, items_of, keeps_items, node_in, option_and_then, partial_with, place_with, reformed, slot_of_cell, slot_seen, slots_occur, slots_seen, value_held, with_body, with_items, with_mark}
+use Rattle.fr_frame.specs.Common.{Body, Box, Cell, Global, HeldItems, IsInUse, Node, PartialValue, Place, Rope, SameTokens, Shows, Slot, SlotId, Val, as_tracker, begun_body, body_occurs, body_of, body_with, cell_at, children_with, count_cells, entered_body, heap_of, held_items, is_list_body, is_used, item_cell, item_in, item_or, keeps_items, node_in, option_and_then, partial_with, place_with, reformed, slot_of_cell, slot_seen, slots_occur, slots_seen, value_held, with_body, with_items, with_mark}
 use Rattle.fr_model.specs.Trackers.{Tracker as TreeTracker}
 use Rattle.fr_frame.specs.declared.places.ItemsKind.{ItemsKind}
 use Rattle.fr_frame.specs.declared.places.Tracker.{Tracker}
@@ -25,13 +25,13 @@ keeps_same (Tracker.Items ItemsKind.Set) = refl
 keeps_same (Tracker.Items ItemsKind.Array) = refl
 keeps_same _ = refl
 
-pub body_of_with : (held : Held) (n : ℕ) (items : List SlotId) (partial : PartialValue)
+pub body_of_with : (held : HeldItems) (n : ℕ) (items : List SlotId) (partial : PartialValue)
     → body_of (partial_with held n items partial) ≡ body_with held n items (body_of partial)
 body_of_with held n items (PartialValue.Begun tracker children) =
     ap (λ (kept : Bool). begun_body (as_tracker tracker) (if kept then children_with held n children items else children)) (keeps_same tracker)
 body_of_with held n items _ = refl
 
-reformed_with : (held : Held) (n : ℕ) (items : List SlotId) (tracker : TreeTracker) (body : Body) → has_items tracker ≡ true
+reformed_with : (held : HeldItems) (n : ℕ) (items : List SlotId) (tracker : TreeTracker) (body : Body) → has_items tracker ≡ true
     → is_list_body body ≡ true → body_with held n items (reformed tracker body) ≡ reformed tracker (body_with held n items body)
 reformed_with held n items tracker (begun_body before cells) kept list =
     ap (λ (has : Bool). begun_body tracker (if has then children_with held n cells items else cells)) (kept ∙ sym list)
@@ -43,14 +43,14 @@ reformed_occurs tracker _ t = refl
 
 -- Children.
 
-below : (held : Held) (n i before : ℕ) (cells : List Cell) (items : List SlotId) (k : ℕ) → k < before
+below : (held : HeldItems) (n i before : ℕ) (cells : List Cell) (items : List SlotId) (k : ℕ) → k < before
     → slice_get (with_items held n i before cells items) k ≡ slice_get cells k
 below held n i before [] items k h = refl
 below held n i zero (c ∷ cells) items k h = absurd (omega arith)
 below held n i (suc before) (c ∷ cells) items zero h = refl
 below held n i (suc before) (c ∷ cells) items (suc k) h = below held n (suc i) before cells items k (omega arith)
 
-behind : (held : Held) (n i before : ℕ) (cells : List Cell) (items : List SlotId) (k : ℕ) → length cells ≤ k
+behind : (held : HeldItems) (n i before : ℕ) (cells : List Cell) (items : List SlotId) (k : ℕ) → length cells ≤ k
     → slice_get (with_items held n i before cells items) k ≡ None
 behind held n i before [] items k h = refl
 behind held n i zero (c ∷ cells) items zero h = absurd (omega arith)
@@ -60,7 +60,7 @@ behind held n i (suc before) (c ∷ cells) items zero h = absurd (omega arith)
 behind held n i (suc before) (c ∷ cells) items (suc k) h = behind held n (suc i) before cells items k (omega arith)
 
 -- item j is the child of this number
-pub among : (held : Held) (n i before : ℕ) (cells : List Cell) (items : List SlotId) (j k m : ℕ) (slot : SlotId) → k ≡ before + j
+pub among : (held : HeldItems) (n i before : ℕ) (cells : List Cell) (items : List SlotId) (j k m : ℕ) (slot : SlotId) → k ≡ before + j
     → k < length cells → m ≡ i + k → slice_get items j ≡ Some slot
     → slice_get (with_items held n i before cells items) k ≡ Some (item_cell held n m slot)
 among held n i before [] items j k m slot at h number e = absurd (omega arith)
@@ -79,13 +79,13 @@ among held n i zero (c ∷ cells) (s ∷ items) (suc j) (suc k) m slot at h numb
 
 -- The child of a place that is no item of it, and one that is.
 
-pub cell_no_list : (held : Held) (n : ℕ) (items : List SlotId) (body : Body) (k : ℕ) → is_list_body body ≡ false
+pub cell_no_list : (held : HeldItems) (n : ℕ) (items : List SlotId) (body : Body) (k : ℕ) → is_list_body body ≡ false
     → cell_at (body_with held n items body) k ≡ cell_at body k
 cell_no_list held n items (begun_body tracker cells) k plain =
     ap (λ (has : Bool). slice_get (if has then children_with held n cells items else cells) k) plain
 cell_no_list held n items _ k plain = refl
 
-pub cell_before : (held : Held) (n : ℕ) (items : List SlotId) (body : Body) (k : ℕ) → k < count_cells body - length items
+pub cell_before : (held : HeldItems) (n : ℕ) (items : List SlotId) (body : Body) (k : ℕ) → k < count_cells body - length items
     → cell_at (body_with held n items body) k ≡ cell_at body k
 cell_before held n items (begun_body tracker cells) k h = go (has_items tracker)
   where
@@ -94,7 +94,7 @@ cell_before held n items (begun_body tracker cells) k h = go (has_items tracker)
     go false = refl
 cell_before held n items _ k h = refl
 
-pub cell_past : (held : Held) (n : ℕ) (items : List SlotId) (body : Body) (k : ℕ) → count_cells body ≤ k
+pub cell_past : (held : HeldItems) (n : ℕ) (items : List SlotId) (body : Body) (k : ℕ) → count_cells body ≤ k
     → cell_at (body_with held n items body) k ≡ None
 cell_past held n items (begun_body tracker cells) k h = go (has_items tracker)
   where
@@ -103,7 +103,7 @@ cell_past held n items (begun_body tracker cells) k h = go (has_items tracker)
     go false = slice_get_past cells k h
 cell_past held n items _ k h = refl
 
-cell_item : (held : Held) (n : ℕ) (items : List SlotId) (body : Body) (k : ℕ) (slot : SlotId) → is_list_body body ≡ true
+cell_item : (held : HeldItems) (n : ℕ) (items : List SlotId) (body : Body) (k : ℕ) (slot : SlotId) → is_list_body body ≡ true
     → count_cells body - length items ≤ k → k < count_cells body → slice_get items (k - (count_cells body - length items)) ≡ Some slot
     → cell_at (body_with held n items body) k ≡ Some (item_cell held n k slot)
 cell_item held n items (begun_body tracker cells) k slot list from to e =
@@ -115,13 +115,13 @@ cell_item held n items _ k slot list from to e = cc
 -- One slot of many.
 
 -- a place in use, seen before and after it is marked
-record Marked (held : Held) (n : ℕ) (stored : Bool) (slot : Slot) : Type 0 where
+record Marked (held : HeldItems) (n : ℕ) (stored : Bool) (slot : Slot) : Type 0 where
   place : Place
   was : slot_seen held n slot ≡ Slot.Used place
   now : slot_seen held n (with_stored stored slot) ≡ Slot.Used (record place { stored = stored })
   none : item_in slot ≡ item_in (with_stored stored slot)
 
-marked_as : (held : Held) (n : ℕ) (stored : Bool) (slot : Slot) → is_used slot ≡ true → Marked held n stored slot
+marked_as : (held : HeldItems) (n : ℕ) (stored : Bool) (slot : Slot) → is_used slot ≡ true → Marked held n stored slot
 marked_as held n stored (Slot.Used place) used = record { place = place; was = refl; now = refl; none = refl }
 marked_as held n stored (Slot.List place items) used = record {
   place = place_with held n place items.value.items;
@@ -135,14 +135,14 @@ marked_as held n stored _ used = cc
 module _ (raw : List Slot) (n : ℕ) (tracker : Tracker) (was now : Slot) (there : slice_get raw n ≡ Some was)
     (made : IsReformed tracker was now) where
   abbrev before : Place
-  before = place_with (items_of raw) n made.place made.items.value.items
+  before = place_with (held_items raw) n made.place made.items.value.items
 
   abbrev partial : PartialValue
-  partial = partial_with (items_of raw) n made.items.value.items made.partial
+  partial = partial_with (held_items raw) n made.items.value.items made.partial
 
   was_there : slice_get (slots_seen raw) n ≡ Some (Slot.Used before)
   was_there =
-      get_seen raw (slots_seen raw) refl n was there ∙ ap (λ (slot : Slot). Some (slot_seen (items_of raw) n slot)) made.was
+      get_seen raw (slots_seen raw) refl n was there ∙ ap (λ (slot : Slot). Some (slot_seen (held_items raw) n slot)) made.was
 
   seen_now : slots_seen (set raw n now) ≡ set (slots_seen raw) n (Slot.Used (record before { partial = partial }))
   seen_now =
@@ -152,10 +152,11 @@ module _ (raw : List Slot) (n : ℕ) (tracker : Tracker) (was now : Slot) (there
 
   body_is : body_of partial ≡ reformed (as_tracker tracker) (body_of before.partial)
   body_is =
-      body_of_with (items_of raw) n made.items.value.items made.partial
-      ∙ ap (body_with (items_of raw) n made.items.value.items) made.body
-      ∙ reformed_with (items_of raw) n made.items.value.items (as_tracker tracker) (body_of made.place.partial) (sym (keeps_same tracker) ∙ made.keeps) made.list
-      ∙ ap (reformed (as_tracker tracker)) (sym (body_of_with (items_of raw) n made.items.value.items made.place.partial))
+      body_of_with (held_items raw) n made.items.value.items made.partial
+      ∙ ap (body_with (held_items raw) n made.items.value.items) made.body
+      ∙ reformed_with (held_items raw) n made.items.value.items (as_tracker tracker) (body_of made.place.partial)
+      (sym (keeps_same tracker) ∙ made.keeps) made.list
+      ∙ ap (reformed (as_tracker tracker)) (sym (body_of_with (held_items raw) n made.items.value.items made.place.partial))
 
   reform_seen : Shows (slots_seen (set raw n now)) (with_body (heap_of (slots_seen raw)) n (reformed (as_tracker tracker)))
   reform_seen m =
@@ -183,7 +184,7 @@ no_item_slot : (slot : ℕ) (value : Option Val) → is_some value ≡ true → 
 no_item_slot slot (Some v) e = refl
 no_item_slot slot None e = cc
 
-module _ (held : Held) (n : ℕ) (items : List SlotId) (body : Body) (k : ℕ) (slot : SlotId) (list : is_list_body body ≡ true)
+module _ (held : HeldItems) (n : ℕ) (items : List SlotId) (body : Body) (k : ℕ) (slot : SlotId) (list : is_list_body body ≡ true)
     (from : count_cells body - length items ≤ k) (to : k < count_cells body)
     (there : slice_get items (k - (count_cells body - length items)) ≡ Some slot) where
   pub slot_taken : is_some (value_held n k (held slot.0)) ≡ true
@@ -204,20 +205,21 @@ module _ (raw seen : List Slot) (is : slots_seen raw ≡ seen) (n at i : ℕ) (s
   abbrev slot_in : Option Node → Option ℕ
   slot_in node = option_and_then slot_of_cell (option_and_then (λ (x : Node). cell_at x.body i) node)
 
-  pub child_seen : (s : Slot) → slot ≡ s → child_slot (heap_of seen) n i ≡ slot_in (node_in (slot_seen (items_of raw) n s))
+  pub child_seen : (s : Slot) → slot ≡ s → child_slot (heap_of seen) n i ≡ slot_in (node_in (slot_seen (held_items raw) n s))
   child_seen s same =
       ap slot_in (node_seen raw seen is n slot (read raw n at slot number inside found))
-      ∙ ap (λ (x : Slot). slot_in (node_in (slot_seen (items_of raw) n x))) same
+      ∙ ap (λ (x : Slot). slot_in (node_in (slot_seen (held_items raw) n x))) same
 
   pub child_of_list : (place : Place) (items : Box (Rope SlotId) Global) → slot ≡ Slot.List place items
       → child_slot (heap_of seen) n i
-      ≡ option_and_then slot_of_cell (cell_at (body_with (items_of raw) n items.value.items (body_of place.partial)) i)
+      ≡ option_and_then slot_of_cell (cell_at (body_with (held_items raw) n items.value.items (body_of place.partial)) i)
   child_of_list place items same =
       child_seen (Slot.List place items) same
-      ∙ ap (λ (body : Body). option_and_then slot_of_cell (cell_at body i)) (body_of_with (items_of raw) n items.value.items place.partial)
+      ∙ ap (λ (body : Body). option_and_then slot_of_cell (cell_at body i))
+      (body_of_with (held_items raw) n items.value.items place.partial)
 
   pub child_of_none : IsNoPlace slot → child_slot (heap_of seen) n i ≡ None
-  child_of_none none = child_seen slot refl ∙ ap slot_in (no_place slot none (items_of raw) n)
+  child_of_none none = child_seen slot refl ∙ ap slot_in (no_place slot none (held_items raw) n)
 
 -- Where it is read at an index, and changed.
 module _ (raw seen : List Slot) (is : slots_seen raw ≡ seen) (n at : ℕ) (slot now : Slot) (number : at ≡ n) (used : IsInUse seen n)
@@ -234,8 +236,8 @@ module _ (raw seen : List Slot) (is : slots_seen raw ≡ seen) (n at : ℕ) (slo
       ∙ ap (λ (slots : List Slot). slots_seen slots) (set_as_was raw n slot slot_there) ∙ is
 
   module _ (stored : Bool) (marked : now ≡ with_stored stored slot) where
-    seen_as : Marked (items_of raw) n stored slot
-    seen_as = marked_as (items_of raw) n stored slot slot_used
+    seen_as : Marked (held_items raw) n stored slot
+    seen_as = marked_as (held_items raw) n stored slot slot_used
 
     was_seen : slice_get seen n ≡ Some (Slot.Used seen_as.place)
     was_seen = get_seen raw seen is n slot slot_there ∙ ap (λ (s : Slot). Some s) seen_as.was

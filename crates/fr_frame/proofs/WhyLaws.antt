@@ -1,6 +1,6 @@
 -- Why a place isn't completed, and what it lacks, by the rules of either column.
 use Rattle.std.proofs.Common.{◌≡◌, ◌⊎◌, ℕ, suc, Bool, true, List, [], ◌∷◌, replicate, Option, Some, None, IsSome, IsSomeAnd, inl, inr, refl, sym, ◌∙◌, ap, subst}
-use Rattle.fr_frame.specs.Common.{AreUnplaced, Body, Cell, Def, Field, FillColumn, HasAllChildren, IsCauseOf, IsChecked, IsClosed, IsFilled, IsFull, IsUnfilled, Meanings, ReflectErrorKind, Table, Tracker, Trees, Val, WhyNot, WhyNotDefault, absent, as_fields, begun_body, child_count, complete, def_of, defaulted, defaulted_by, defaulted_cells, defaulted_struct, deferred_column, entered_body, failing_child, field_in, fill_of_field, first_asked, first_invalid, first_unmet, hole_takes, holes, invalid, is_some, lack, left_out, missing_child, missing_value, option_or, own_tree, preset_of, strict_column, takes_template, trees_of, unmet, unmet_child, unmet_mark, value_of_cell, whole_body}
+use Rattle.fr_frame.specs.Common.{AreUnplaced, Body, Cell, Def, Field, FillColumn, HasAllChildren, IsCauseOf, IsChecked, IsClosed, IsFilled, IsFull, IsUnfilled, Meanings, ReflectErrorKind, Table, Tracker, Trees, Val, WhyNot, WhyNotDefault, absent, as_fields, begun_body, child_count, complete, def_of, defaulted, defaulted_by, defaulted_cells, defaulted_struct, deferred_column, entered_body, failing_child, field_in, fill_of_field, first_asked, first_hole_left, first_invalid, first_unmet, hole_takes, holes, invalid, is_some, lack, missing_child, missing_value, option_or, own_tree, preset_of, strict_column, takes_template, trees_of, unmet, unmet_child, unmet_mark, value_of_cell, whole_body}
 use Rattle.fr_shape.specs.Fills.{DeferredRule, filled, marked_without_default, missing, deferred_rule, by_deferred_rule}
 use Rattle.fr_model.specs.Complete.{lack_by, unless_there}
 use Rattle.fr_model.specs.Failing.{first_missing, lack_of_begun, own_lack, unmet_by, unmet_mark_of}
@@ -106,11 +106,11 @@ module _ (means : Meanings) (table : Table) (s : ℕ) (tracker : Tracker) where
 
   begun_lacks_is : (cs : List Cell) → AreUnplaced cs → begun_lacks (trees_of cs)
       ≡ option_or (first_unmet table s tracker 0 (trees_of cs))
-      (option_or (left_out s (begun_body tracker (defaulted_cells deferred_column table s tracker 0 cs)))
+      (option_or (first_hole_left s (begun_body tracker (defaulted_cells deferred_column table s tracker 0 cs)))
       (invalid means table s (begun_body tracker (defaulted_cells deferred_column table s tracker 0 cs))))
   begun_lacks_is cs closed =
       let then : List Cell = defaulted_cells deferred_column table s tracker 0 cs in
-      let absent_then : first_missing table s tracker 0 (trees_of cs) ≡ left_out s (begun_body tracker then)
+      let absent_then : first_missing table s tracker 0 (trees_of cs) ≡ first_hole_left s (begun_body tracker then)
       = missing_is means table s tracker 0 cs
       ∙ sym (asked_then deferred_column table s tracker (λ k own. unless_there own (missing_child s tracker k)) 0 cs closed) in
       let invalid_then : first_invalid means table s tracker 0 (trees_of cs) ≡ first_invalid means table s tracker 0 (trees_of then)
@@ -154,13 +154,13 @@ module _ (means : Meanings) (table : Table) (s : ℕ) where
   by_def_lack : (def : Def) (preset : Option Val)
       → lack_by def preset (lack_of_begun means table s (as_fields None) (holes (child_count table s))) (missing_value s)
       ≡ option_or (unmet_entered def preset (first_unmet table s (as_fields None) 0 (holes (child_count table s))))
-      (option_or (left_out s (defaulted_by def preset (defaulted_struct deferred_column table s)))
+      (option_or (first_hole_left s (defaulted_by def preset (defaulted_struct deferred_column table s)))
       (invalid means table s (defaulted_by def preset (defaulted_struct deferred_column table s))))
   by_def_lack (Def.Struct struct) (Some v) = refl
   by_def_lack (Def.Struct struct) None =
       subst (λ (ts : Trees). lack_of_begun means table s (as_fields None) ts
       ≡ option_or (first_unmet table s (as_fields None) 0 ts)
-      (option_or (left_out s (defaulted_struct deferred_column table s)) (invalid means table s (defaulted_struct deferred_column table s))))
+      (option_or (first_hole_left s (defaulted_struct deferred_column table s)) (invalid means table s (defaulted_struct deferred_column table s))))
       (holes_are (child_count table s)) (begun_lacks_is means table s (as_fields None) no_fields
       (none_placed (child_count table s)))
   by_def_lack (Def.Option t) (Some v) = refl
@@ -169,14 +169,14 @@ module _ (means : Meanings) (table : Table) (s : ℕ) where
 
   -- what it lacks is what isn't met, then what its fills leave out, then what is invalid with them
   own_lack_is : (body : Body) → IsClosed body → own_lack means table s (own_tree body) ≡ option_or (unmet table s body)
-      (option_or (left_out s (defaulted deferred_column table s body))
+      (option_or (first_hole_left s (defaulted deferred_column table s body))
       (invalid means table s (defaulted deferred_column table s body)))
   own_lack_is entered_body closed = by_def_lack (def_of table s) (preset_of table s)
   own_lack_is (whole_body v) closed = refl
   own_lack_is (begun_body tracker cells) closed = begun_lacks_is means table s tracker cells closed
 
 -- a place that leaves nothing out has all its children
-pub all_there : (s : ℕ) (body : Body) → left_out s body ≡ None → HasAllChildren body
+pub all_there : (s : ℕ) (body : Body) → first_hole_left s body ≡ None → HasAllChildren body
 all_there s (begun_body tracker cells) h = passing_there (λ k own. unless_there own (missing_child s tracker k)) own_there 0 cells h
   where
     own_there : (i : ℕ) (own : Option Val) → unless_there own (missing_child s tracker i) ≡ None → IsSome own
@@ -213,16 +213,16 @@ module _ (means : Meanings) (table : Table) (s : ℕ) (body : Body) (checked : I
   why_unmet kind (inl h) = inr (record { memory = h.0; needed = inl h.1 })
   why_unmet kind (inr e) =
       lacks_this kind (own_lack_is means table s body closed
-      ∙ ap (λ (o : Option ReflectErrorKind). option_or o (option_or (left_out s then) (invalid means table s then))) e)
+      ∙ ap (λ (o : Option ReflectErrorKind). option_or o (option_or (first_hole_left s then) (invalid means table s then))) e)
 
   module _ (met : unmet table s body ≡ None) where
-    lacks_left : lacking_then ≡ option_or (left_out s then) (invalid means table s then)
+    lacks_left : lacking_then ≡ option_or (first_hole_left s then) (invalid means table s then)
     lacks_left = own_lack_is means table s body closed ∙ first_none met
 
-    pub why_left : (kind : ReflectErrorKind) → left_out s then ≡ Some kind → WhyNotDefault means table s body kind
+    pub why_left : (kind : ReflectErrorKind) → first_hole_left s then ≡ Some kind → WhyNotDefault means table s body kind
     why_left kind e = lacks_this kind (lacks_left ∙ ap (λ (o : Option ReflectErrorKind). option_or o (invalid means table s then)) e)
 
-    module _ (there : left_out s then ≡ None) where
+    module _ (there : first_hole_left s then ≡ None) where
       lacks_invalid : lacking_then ≡ invalid means table s then
       lacks_invalid = lacks_left ∙ first_none there
 

@@ -20,7 +20,7 @@ use Rattle.fr_frame.specs.declared.lacking.Question.{Question}
 use Rattle.fr_frame.specs.Bodies.{Body, own_tree}
 use Rattle.fr_values.specs.Cells.{Cell, absent}
 use Rattle.fr_frame.specs.Completing.{takes_template, IsPlanFor}
-use Rattle.fr_frame.specs.Defaults.{defaulted_cell, first_asked, left_out, unmet}
+use Rattle.fr_frame.specs.Defaults.{defaulted_cell, first_asked, first_hole_left, unmet}
 use Rattle.fr_frame.specs.Filling.{first_refused, lack_of_child, IsCauseOf}
 
 -- One child.
@@ -78,7 +78,7 @@ ask_holes Question.There means table s =
 abbrev pub asked : Question → Meanings → Table → ℕ → Body → Option ReflectErrorKind
 asked Question.Strict means table s body = lack means table s (own_tree body)
 asked Question.Marks means table s body = unmet table s body
-asked Question.There means table s body = left_out s body
+asked Question.There means table s body = first_hole_left s body
 
 -- this is what is lacking; only a value that fails needs memory to say why
 abbrev pub IsAnswer : Question → (lacking : Option ReflectErrorKind) → ReflectErrorKind → Type 0

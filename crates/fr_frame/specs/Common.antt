@@ -9,11 +9,11 @@ pub use Rattle.fr_frame.specs.Changes.{Becomes, IfInUse, IsInUse, SameTokens, Sh
 pub use Rattle.fr_values.specs.ChildIndex.{IsIndexed}
 pub use Rattle.fr_frame.specs.Closed.{IsClosedAt}
 pub use Rattle.fr_frame.specs.Completing.{FillsAt, IsFilled, IsFull, IsPlanFor, MayComplete, WhyNot, shape_of, takes_template}
-pub use Rattle.fr_frame.specs.Defaults.{KeepGiven, KeepsTracker, WhyNotDefault, defaulted, defaulted_by, defaulted_cell, defaulted_cells, defaulted_struct, first_asked, invalid, left_out, unmet}
+pub use Rattle.fr_frame.specs.Defaults.{KeepGiven, KeepsTracker, WhyNotDefault, defaulted, defaulted_by, defaulted_cell, defaulted_cells, defaulted_struct, first_asked, first_hole_left, invalid, unmet}
 pub use Rattle.fr_frame.specs.Filling.{AreTold, IsCauseOf, IsNamed, IsTold, column_of, field_fill, first_refused, lack_of_child}
 pub use Rattle.fr_frame.specs.Heap.{Heap, Node, as_tracker, body_of, depth_below, depth_limit, fields_of_tracker, gives, heap_of, held_by, item_owner, links, node_in, node_of, slot_occurs, slots_occur, unlinks, with_body, with_entered, with_mark, with_slot, without}
 pub use Rattle.fr_values.specs.Indexing.{Indexes, IsRun, has_number, is_held, joined, numbers_from, runs_of, val_at}
-pub use Rattle.fr_frame.specs.ListItems.{FreesItem, FreesItems, Held, IsListedIn, IsPlain, IsPlainAt, IsReserved, IsUsedAt, KeepsReserved, children_with, is_list, is_used, item_cell, item_in, item_or, items_of, keeps_items, partial_with, place_with, slot_seen, slots_seen, value_held, with_items, with_placed}
+pub use Rattle.fr_frame.specs.ListItems.{FreesItem, FreesItems, HeldItems, IsListedIn, IsPlain, IsPlainAt, IsReserved, IsUsedAt, KeepsReserved, children_with, held_items, is_list, is_used, item_cell, item_in, item_or, keeps_items, partial_with, place_with, slot_seen, slots_seen, value_held, with_items, with_placed}
 pub use Rattle.fr_values.specs.KeyNames.{names_of}
 pub use Rattle.fr_values.specs.KeyPlaces.{Holds, Knows, entry_place, entry_places, first_keys, item_place, item_places, keys_among, parts_of_entries, place, place_known, places_of, turn_keys, with_key}
 pub use Rattle.fr_frame.specs.OutlineLaws.{of_outline, same_body}

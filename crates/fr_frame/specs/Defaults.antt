@@ -78,10 +78,10 @@ first_asked ask i (c ∷ cs) = option_or (ask i (value_of_cell c)) (first_asked 
 
 -- the value of an entered place, the first hole of a begun one (a child in a slot of its own, which no place has that completes, counts as
 -- one)
-abbrev pub left_out : ℕ → Body → Option ReflectErrorKind
-left_out s entered_body = Some (missing_value s)
-left_out s (whole_body v) = None
-left_out s (begun_body tracker cells) = first_asked (λ i own. unless_there own (missing_child s tracker i)) 0 cells
+abbrev pub first_hole_left : ℕ → Body → Option ReflectErrorKind
+first_hole_left s entered_body = Some (missing_value s)
+first_hole_left s (whole_body v) = None
+first_hole_left s (begun_body tracker cells) = first_asked (λ i own. unless_there own (missing_child s tracker i)) 0 cells
 
 -- Validators.
 

@@ -103,8 +103,8 @@ abbrev pub slice_item_found : Plan → NodeId → Option NodeId
 slice_item_found plan node = option_and_then (by_id plan (list_item plan)) (by_id plan (pointer_pointee plan) node)
 
 -- the plan's node of the keys, or of the values, of the map at a place of this node, if it is one
-abbrev pub entry_found : Plan → NodeId → (of_key : Bool) → Option NodeId
-entry_found plan node of_key = if of_key then by_id plan (map_key plan) node else by_id plan (map_value plan) node
+abbrev pub entry_node_found : Plan → NodeId → (of_key : Bool) → Option NodeId
+entry_node_found plan node of_key = if of_key then by_id plan (map_key plan) node else by_id plan (map_value plan) node
 
 -- the plan's node of child i of a place that is begun so, if there is one
 abbrev pub child_found : Plan → NodeId → Tracker → ℕ → Option NodeId
@@ -119,7 +119,7 @@ child_found plan node (as_items ItemsKind.List) i = by_id plan (list_item plan) 
 child_found plan node (as_items ItemsKind.Slice) i = slice_item_found plan node
 child_found plan node (as_items ItemsKind.ClosedSlice) i = slice_item_found plan node
 child_found plan node (as_items ItemsKind.Set) i = by_id plan (set_item plan) node
-child_found plan node (as_entries (EntriesKind.Map base)) i = entry_found plan node (is_key i)
+child_found plan node (as_entries (EntriesKind.Map base)) i = entry_node_found plan node (is_key i)
 child_found plan node (as_items ItemsKind.Array) i = Some node
 child_found plan node (as_entries (EntriesKind.Object keys)) i = Some node
 

@@ -23,8 +23,8 @@ keeps_items _ = false
 
 -- What slots hold of items that have completed: under each number, what lies in that slot.
 
-abbrev pub Held : Type 0
-Held = ℕ → Option Item
+abbrev pub HeldItems : Type 0
+HeldItems = ℕ → Option Item
 
 abbrev pub item_in : Slot → Option Item
 item_in (Slot.Free next) = None
@@ -33,8 +33,8 @@ item_in (Slot.Used place) = None
 item_in (Slot.List place items) = None
 item_in (Slot.Item item) = Some item
 
-abbrev pub items_of : List Slot → Held
-items_of slots n = option_and_then item_in (slice_get slots n)
+abbrev pub held_items : List Slot → HeldItems
+held_items slots n = option_and_then item_in (slice_get slots n)
 
 -- the value of item i of the list in slot n, where this is what is held of it
 abbrev pub value_held : (n i : ℕ) → Option Item → Option Val
@@ -46,47 +46,47 @@ abbrev pub item_or : (slot : ℕ) → Option Val → Cell
 item_or slot (Some v) = given v
 item_or slot None = placed slot
 
-abbrev pub item_cell : Held → (n i : ℕ) → SlotId → Cell
+abbrev pub item_cell : HeldItems → (n i : ℕ) → SlotId → Cell
 item_cell held n i slot = item_or slot.0 (value_held n i (held slot.0))
 
 -- The children of the list in slot n from number i on: so many more that are as they are, and then its items, which are in these
 -- slots.
-abbrev pub with_items : Held → (n i : ℕ) → (before : ℕ) → List Cell → (items : List SlotId) → List Cell
+abbrev pub with_items : HeldItems → (n i : ℕ) → (before : ℕ) → List Cell → (items : List SlotId) → List Cell
 with_items held n i before [] items = []
 with_items held n i (suc before) (c ∷ cells) items = c ∷ with_items held n (suc i) before cells items
 with_items held n i zero (c ∷ cells) (slot ∷ items) = item_cell held n i slot ∷ with_items held n (suc i) zero cells items
 with_items held n i zero (c ∷ cells) [] = c ∷ cells
 
 -- the children of the list in slot n, the last of which are its items
-abbrev pub children_with : Held → (n : ℕ) → List Cell → (items : List SlotId) → List Cell
+abbrev pub children_with : HeldItems → (n : ℕ) → List Cell → (items : List SlotId) → List Cell
 children_with held n cells items = with_items held n 0 (length cells - length items) cells items
 
-abbrev pub partial_with : Held → (n : ℕ) → (items : List SlotId) → PartialValue → PartialValue
+abbrev pub partial_with : HeldItems → (n : ℕ) → (items : List SlotId) → PartialValue → PartialValue
 partial_with held n items PartialValue.Entered = PartialValue.Entered
 partial_with held n items (PartialValue.Whole v) = PartialValue.Whole v
 partial_with held n items (PartialValue.Begun tracker children) =
     PartialValue.Begun tracker (if keeps_items tracker then children_with held n children items else children)
 
-abbrev pub place_with : Held → (n : ℕ) → Place → (items : List SlotId) → Place
+abbrev pub place_with : HeldItems → (n : ℕ) → Place → (items : List SlotId) → Place
 place_with held n place items = record place { partial = partial_with held n items place.partial }
 
 -- What contracts see of slots. A list is seen with its items: one that has completed is a child with its value, any other a child in
 -- its slot. So where a clause speaks of the children of a place, or of the tokens that were put there, those of its items are among
 -- them. The slot of an item that has completed is seen as one that no place is in, and free slots without the order in which they come.
 
-abbrev pub slot_seen : Held → (n : ℕ) → Slot → Slot
+abbrev pub slot_seen : HeldItems → (n : ℕ) → Slot → Slot
 slot_seen held n (Slot.Free next) = Slot.Free None
 slot_seen held n Slot.Reserved = Slot.Reserved
 slot_seen held n (Slot.Used place) = Slot.Used place
 slot_seen held n (Slot.List place items) = Slot.Used (place_with held n place items.value.items)
 slot_seen held n (Slot.Item item) = Slot.Free None
 
-abbrev pub seen_from : Held → (n : ℕ) → List Slot → List Slot
+abbrev pub seen_from : HeldItems → (n : ℕ) → List Slot → List Slot
 seen_from held n [] = []
 seen_from held n (slot ∷ slots) = slot_seen held n slot ∷ seen_from held (suc n) slots
 
 abbrev pub slots_seen : List Slot → List Slot
-slots_seen slots = seen_from (items_of slots) 0 slots
+slots_seen slots = seen_from (held_items slots) 0 slots
 
 -- What becomes of slots where a list's items go into it.
 

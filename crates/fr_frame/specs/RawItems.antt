@@ -14,7 +14,7 @@ use Rattle.fr_frame.specs.Outlines.{is_list_body}
 use Rattle.fr_frame.specs.Bodies.{Body, whole_body}
 use Rattle.fr_values.specs.Cells.{absent, placed}
 use Rattle.fr_frame.specs.Heap.{Node, node_in}
-use Rattle.fr_frame.specs.ListItems.{Held, item_in, slot_seen, IsListedIn}
+use Rattle.fr_frame.specs.ListItems.{HeldItems, item_in, slot_seen, IsListedIn}
 
 -- the place in slot m is item i of this list, whose items are in slots of their own
 pub record IsListed (slots : List Slot) (m : ℕ) (list : SlotId) (i : ℕ) : Type 0 where
@@ -32,7 +32,7 @@ pub record IsListed (slots : List Slot) (m : ℕ) (list : SlotId) (i : ℕ) : Ty
 pub record IsSeenAs (before after : Slot) : Type 0 where
   pub node : node_in after ≡ node_in before
   pub item : item_in after ≡ item_in before
-  pub seen : (held : Held) (n : ℕ) → slot_seen held n after ≡ slot_seen held n before
+  pub seen : (held : HeldItems) (n : ℕ) → slot_seen held n after ≡ slot_seen held n before
 
 -- what was put at a whole place completed, as this item of this list, which is in the slot
 pub record IsKeptItem (list : SlotId) (i : ℕ) (body : Body) (after : Slot) : Type 0 where
@@ -52,7 +52,7 @@ partial_with_placed slot (PartialValue.Whole v) = PartialValue.Whole v
 partial_with_placed slot (PartialValue.Begun tracker children) = PartialValue.Begun tracker (children ++ placed slot ∷ [])
 
 -- contracts see in the slot a place with one more child, which is in slot m
-pub record IsSeenWith (m : ℕ) (held : Held) (n : ℕ) (before after : Slot) : Type 0 where
+pub record IsSeenWith (m : ℕ) (held : HeldItems) (n : ℕ) (before after : Slot) : Type 0 where
   pub at : Place
   pub was : slot_seen held n before ≡ Slot.Used at
   pub now : slot_seen held n after ≡ Slot.Used (record at { partial = partial_with_placed m at.partial })
@@ -61,7 +61,7 @@ pub record IsSeenWith (m : ℕ) (held : Held) (n : ℕ) (before after : Slot) : 
 pub record IsAddedIn (m : ℕ) (before after : Slot) : Type 0 where
   pub item_before : item_in before ≡ None
   pub item_after : item_in after ≡ None
-  pub seen : (held : Held) (n : ℕ) → held m ≡ None → IsSeenWith m held n before after
+  pub seen : (held : HeldItems) (n : ℕ) → held m ≡ None → IsSeenWith m held n before after
 
 -- a partial value has a child for each of these items
 abbrev pub HasRoomIn : List SlotId → PartialValue → Type 0

@@ -10,7 +10,7 @@ use Rattle.fr_frame.specs.declared.places.Slot.{Slot}
 use Rattle.fr_frame.specs.declared.places.SlotId.{SlotId}
 use Rattle.fr_frame.specs.Bodies.{Body, entered_body, whole_body, begun_body, reformed}
 use Rattle.fr_frame.specs.Heap.{as_tracker, body_of}
-use Rattle.fr_frame.specs.ListItems.{Held, children_with, keeps_items}
+use Rattle.fr_frame.specs.ListItems.{HeldItems, children_with, keeps_items}
 use Rattle.fr_frame.specs.Outlines.{has_items, is_list_body}
 
 -- the place in the slot, where one is there, is marked so
@@ -22,7 +22,7 @@ with_stored stored (Slot.List place items) = Slot.List (record place { stored = 
 with_stored stored (Slot.Item item) = Slot.Item item
 
 -- what was put at the place in slot n, where a list has its items, which are in these slots
-abbrev pub body_with : Held → (n : ℕ) → (items : List SlotId) → Body → Body
+abbrev pub body_with : HeldItems → (n : ℕ) → (items : List SlotId) → Body → Body
 body_with held n items entered_body = entered_body
 body_with held n items (whole_body v) = whole_body v
 body_with held n items (begun_body tracker cells) = begun_body tracker (if has_items tracker then children_with held n cells items else cells)

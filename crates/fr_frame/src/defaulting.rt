@@ -1,7 +1,7 @@
 //! Completing one place by the rules of the end of deferred mode: its holes take their fills, then
 //! none may be left, then its fields' validators run.
 ghost use Rattle.std.specs.Prelude.{◌≡◌, ◌≢◌, ◌⊎◌};
-ghost use Rattle.fr_frame.specs.Common.{Becomes, FillsAt, HasAllChildren, IfErr, IfInUse, IsCauseOf, IsChecked, IsClosedAt, IsInUse, IsPlanFor, IsPlanned, KeepsTracker, MayComplete, None, OnOk, SameTokens, Shows, Some, Table, WhyNotDefault, defaulted, deferred_column, heap_of, invalid, left_out, shape_of, takes_template, true, unmet, ℕ};
+ghost use Rattle.fr_frame.specs.Common.{Becomes, FillsAt, HasAllChildren, IfErr, IfInUse, IsCauseOf, IsChecked, IsClosedAt, IsInUse, IsPlanFor, IsPlanned, KeepsTracker, MayComplete, None, OnOk, SameTokens, Shows, Some, Table, WhyNotDefault, defaulted, deferred_column, first_hole_left, heap_of, invalid, shape_of, takes_template, true, unmet, ℕ};
 ghost use Rattle.fr_shape.specs.declared.error.ReflectErrorKind.{ReflectErrorKind as Kind};
 
 use crate::field_plans::FillColumn;
@@ -59,9 +59,9 @@ impl SlotId {
         requires plan { IsPlanFor table.now plan.now }
         requires place { IfInUse slots.old self.0 (MayComplete table.now plan.now) }
         ensures full { OnOk result (IfInUse slots.old self.0 (λ at.
-            left_out (shape_of plan.now at.node) at.body ≡ None)) }
+            first_hole_left (shape_of plan.now at.node) at.body ≡ None)) }
         ensures why { IfErr result (λ kind. IfInUse slots.old self.0 (λ at.
-            left_out (shape_of plan.now at.node) at.body ≡ Some kind)) }
+            first_hole_left (shape_of plan.now at.node) at.body ≡ Some kind)) }
         ensures unchanged { slots.new ≡ slots.old }
     {
         let alloc = slots.alloc();

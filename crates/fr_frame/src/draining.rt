@@ -1,6 +1,6 @@
 //! Lists whose items lie in slots of their own: all items go into their list, behind its base.
 ghost use Rattle.std.specs.Prelude.{◌<◌, ◌≡◌, ◌≢◌, ◌⊎◌};
-ghost use Rattle.fr_frame.specs.Common.{FreesItem, FreesItems, IfNone, IfSome, IsPlainAt, IsUsedAt, children_with, false, is_some, item_cell, items_of, length, option_map, partial_with, slice_get, slice_set, slots_seen, true, value_held, view, ℕ};
+ghost use Rattle.fr_frame.specs.Common.{FreesItem, FreesItems, IfNone, IfSome, IsPlainAt, IsUsedAt, children_with, false, held_items, is_some, item_cell, length, option_map, partial_with, slice_get, slice_set, slots_seen, true, value_held, view, ℕ};
 ghost use Rattle.fr_frame.specs.ListItems.{IsItemFreed, IsListAt};
 
 use crate::places::{ItemsKind, PartialValue, Slot, SlotId, Tracker};
@@ -10,7 +10,7 @@ use fr_values::Children;
 
 /// Whether an item of this list that has completed, of this number, lies in a slot.
 pub(crate) fn holds_item(entries: &Arena<Slot>, slot: SlotId, list: SlotId, number: usize) -> bool
-    ensures { result ≡ is_some (value_held list.0 number (items_of entries.now slot.0)) }
+    ensures { result ≡ is_some (value_held list.0 number (held_items entries.now slot.0)) }
 {
     if (slot.0 as usize) >= entries.len() {
         return false;
@@ -31,7 +31,7 @@ fn take_item(
     number: usize,
 ) -> Option<Value>
     ensures value { option_map view result
-        ≡ value_held list.0 number (items_of entries.old slot.0) }
+        ≡ value_held list.0 number (held_items entries.old slot.0) }
     ensures kept { IfNone result (entries.new ≡ entries.old) }
     ensures freed { IfSome result (λ v.
         IsItemFreed entries.old entries.new slot.0 list.0 number) }
@@ -59,7 +59,7 @@ fn put_item(
 )
     requires inside { at < length children.old }
     ensures put { children.new ≡ slice_set children.old at
-        (item_cell (items_of entries.old) list.0 at slot) }
+        (item_cell (held_items entries.old) list.0 at slot) }
     ensures freed { (entries.new ≡ entries.old)
         ⊎ IsItemFreed entries.old entries.new slot.0 list.0 at }
 {
@@ -80,7 +80,7 @@ fn put_items(
     mut items: Box<ListRope<SlotId>>,
     children: &mut Children,
 )
-    ensures children { children.new ≡ children_with (items_of entries.old) list.0 children.old
+    ensures children { children.new ≡ children_with (held_items entries.old) list.0 children.old
         items.value.items }
     ensures freed { FreesItems list.0 entries.old entries.new }
 {
@@ -103,7 +103,7 @@ fn put_items_in(
     items: Box<ListRope<SlotId>>,
     partial: &mut PartialValue,
 )
-    ensures partial { partial.new ≡ partial_with (items_of entries.old) list.0 items.value.items
+    ensures partial { partial.new ≡ partial_with (held_items entries.old) list.0 items.value.items
         partial.old }
     ensures freed { FreesItems list.0 entries.old entries.new }
 {

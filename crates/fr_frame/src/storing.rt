@@ -1,6 +1,6 @@
 //! Places that are left half done and entered again: their mark, and the slot that a child is in.
 ghost use Rattle.std.specs.Prelude.{◌≡◌};
-ghost use Rattle.fr_frame.specs.Common.{Becomes, Conserved, IfInUse, IsInUse, IsOk, IsSome, OnErr, OnOk, Room, RoseBy, SameTokens, Shows, Some, Val, body_occurs, body_of, body_with, cell_at, false, heap_of, is_used, items_of, option_and_then, option_map, slot_of_cell, slots_occur, takes_memory, true, value_of, whole_body, with_mark};
+ghost use Rattle.fr_frame.specs.Common.{Becomes, Conserved, IfInUse, IsInUse, IsOk, IsSome, OnErr, OnOk, Room, RoseBy, SameTokens, Shows, Some, Val, body_occurs, body_of, body_with, cell_at, false, heap_of, held_items, is_used, option_and_then, option_map, slot_of_cell, slots_occur, takes_memory, true, value_of, whole_body, with_mark};
 ghost use Rattle.fr_frame.specs.Heap.{child_slot, marked};
 ghost use Rattle.fr_frame.specs.RawSlots.{with_stored};
 ghost use Rattle.fr_frame.specs.declared.places.SlotId.{SlotId as Number};
@@ -63,7 +63,7 @@ fn slot_of_item(
 ) -> Option<SlotId>
     ensures { option_map (λ (child : Number). child.0) result
         ≡ option_and_then slot_of_cell (cell_at
-        (body_with (items_of entries.now) list.0 items.now.items (body_of partial.now)) i) }
+        (body_with (held_items entries.now) list.0 items.now.items (body_of partial.now)) i) }
 {
     let count = count_children(partial);
     let before = count.saturating_sub(items.len());

@@ -1,6 +1,6 @@
 -- Places at which a content is entered or a variant is selected: what is kept of them, and how they start anew.
 use Rattle.std.proofs.Common.{◌≡◌, ◌&&◌, ◌+◌, ◌==◌, if◌then◌else◌, ◌∷◌}
-use Rattle.fr_model.proofs.Common.{ℕ, zero, suc, eqb-true, Bool, true, false, List, [], length, Option, Some, None, unwrap_or, refl, sym, ◌∙◌, ap, ap₂, subst, arith, option_map, option_or, Def, ShapeId, VariantDef, Operation, is_option, fits, Table, def_of, Val, some, is_result, pointer_refusal, variant_anew, around, content_anew, slice_anew, kept_so, kept_in, reopened, kept_slice, content_of, kept_option, Place, content_shape, Tracker, as_fields, as_content, ContentKind, as_items, ItemsKind, as_entries, EntriesKind, base_of_tracker, keys_of_tracker, same_keys, same_tracker, Tree, hole, entered, whole, begun, Trees, no_trees, branch, child_as, shapes_from, count_trees, tree_occurs, Mode, strict, deferred, is_enum, fields_or_none, variant_fields, told_apart, selection_refusal, HasContent, HasFieldsOf, HasFields, TakesItemsAs, IsFullAs, MayBegin, IsBegunAs, MayPoint, IsTouched, IsContent, IsBegunRightly, Suits, SuitAll, IsBehindBase, RestsAround, AtCursor, OffBut, Leads}
+use Rattle.fr_model.proofs.Common.{ℕ, zero, suc, eqb-true, Bool, true, false, List, [], length, Option, Some, None, unwrap_or, refl, sym, ◌∙◌, ap, ap₂, subst, arith, option_map, option_or, Def, ShapeId, VariantDef, Operation, is_option, fits, Table, def_of, Val, some, is_result, pointer_refusal, variant_anew, around, content_anew, slice_anew, kept_so, kept_in, reopened, kept_slice, content_of, kept_option, Place, content_shape, Tracker, as_fields, as_content, ContentKind, as_items, ItemsKind, as_entries, EntriesKind, base_of_tracker, keys_of_tracker, same_keys, same_tracker, Tree, hole, entered, whole, begun, Trees, no_trees, branch, child_as, shapes_from, count_trees, tree_occurs, Mode, strict, deferred, is_enum, fields_or_none, variant_fields, has_discriminant, selection_refusal, HasContent, HasFieldsOf, HasFields, TakesItemsAs, IsFullAs, MayBegin, IsBegunAs, MayPoint, IsTouched, IsContent, IsBegunRightly, Suits, SuitAll, IsBehindBase, RestsAround, AtCursor, OffBut, Leads}
 use Rattle.fr_model.specs.StateCode.{tracker_numbered, tracker_comes_back}
 use Rattle.fr_model.proofs.Basis.{bytes_are, enter_touched, fresh_suits, fresh_at_cursor, holes_off, all_deferred, rests_here, holes_rest, fresh_rests, rest_but, has_pointee, count_holes, holes_suit, settled_as, both_true, fresh_holds, holes_hold, done_none, done_but}
 
@@ -320,7 +320,7 @@ has_variant : (def : Def) (k : ℕ) → is_enum def ≡ true → selection_refus
 has_variant (Def.Enum enumeration) k is e = go _ _ e
   where
     go : (layout : Option Operation) (found : Option VariantDef)
-        → option_or layout (if told_apart found then None else Some Operation.VariantWithoutDiscriminant) ≡ None
+        → option_or layout (if has_discriminant found then None else Some Operation.VariantWithoutDiscriminant) ≡ None
         → HasFieldsOf found (length (fields_or_none found))
     go (Some operation) found e = cc
     go None (Some variant) e = refl

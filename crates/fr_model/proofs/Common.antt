@@ -29,7 +29,7 @@ pub use Rattle.fr_model.specs.Entering.{Way, enters, opened, enter_child, enter,
 pub use Rattle.fr_model.specs.Failing.{unmet_mark, first_unmet, first_missing, first_invalid, lack_of_begun, Failure, failure_at, or_itself, failures, failures_among, unmet_by, unmet_mark_of, own_lack, first_by_walk, earlier_by, earlier}
 pub use Rattle.fr_model.specs.FailingLaws.{IsHalfDone, LackingFails, NothingFailsOfDone, FinishOfDone, FailsAt, FailsOff, FailuresLieThere, EachFailureHasItsPlace, EachFailureOfATreeHasItsPlace, IsOrAfter}
 pub use Rattle.fr_model.specs.Finish.{finished, closed, one_more_tree, closed_all, closed_but, begun_with, failures_but, failures_off, finished_here, is_closed_slice, kind_of}
-pub use Rattle.fr_model.specs.DueNotes.{IsOffTheWay, IsAbove, IsLeft, IsHole, IsCursor, IsDue, StuckOrNoted, NotesWhatIsDue, AreApart, LieApart, NotesLieApart}
+pub use Rattle.fr_model.specs.DueNotes.{IsOffTheWay, IsAbove, IsLeft, IsHole, IsCursor, IsDue, StuckOrNoted, NotesWhatIsDue, AreDisjoint, LieApart, NotesLieApart}
 pub use Rattle.fr_model.specs.Gathering.{left_out, is_there, and_last_val, items_in, items_left_out, with_entry_in, entry_leaves_out, entries_in, entries_left_out, with_item_in}
 pub use Rattle.fr_model.specs.Items.{init_array_refusal, item_refusal, is_open_slice, closed_slice, shared_slice_refusal, unless_list, whole_array_refusal, begun_item_refusal, with_item, shared_slice_by}
 pub use Rattle.fr_model.specs.Journal.{Note, entered_at, wrote_at, Journal, Held, in_parts, written, just_entered, untouched, held, longest, entered_struct, by_entered, entered_value, by_held, by_parts, child_makes, completes_within, completes, journal_run, beside, standing, after_write, at_least_entered, after_entry, is_written, may_enter_children, Standing, covers, beneath, both_notes, each_notes, writing, closing_by, closing, closing_beside, closing_parts, closing_here_by, closing_here, finish_notes, place_of, Progress, initial_progress, rule, then_rules, rules, outcome_in, outcome, may_enter, goes_to_child, goes_to_found, writes, ends, goes_up, end_rule, begin_deferred_rule, finishes_with, finish_rule}
@@ -42,5 +42,5 @@ pub use Rattle.fr_model.specs.Served.{IsServed}
 pub use Rattle.fr_model.specs.Step.{unless_refused, at_shape, named_refusal, takes_shape, field_default, puts_child, puts_child_default, defaults_field, option_kept, content_kept, begin_side, pointer_kept, begins_pointer, opens, becomes, init_list_refusal, init_map_refusal, init_set_refusal, begins_list, init_list, begins_map, set_refusal, puts_dynamic, set_dynamic, puts_made, closes_slice, leaves_place, selects, select_found, select, violates, puts, puts_default, puts_and_leaves, ended, leaves, is_set_item, takes_item, item_ended, is_dynamic_part, part_ended, leaves_deferred, end_in, begins_deferred, finishes, finish_in, step, field_refusal, put_child, cause, built, build_in, build, is_str, is_owned_string_kind, is_owned_string, variant_kept, begins_named, ends_item, default_or, default_by_mark, set}
 pub use Rattle.fr_model.specs.Trackers.{Tracker, as_content, ContentKind, as_fields, as_elements, as_items, ItemsKind, as_entries, EntriesKind, base_of_tracker, keys_of_tracker, same_keys, same_tracker, variant_of}
 pub use Rattle.fr_model.specs.Tree.{selected, Tree, whole, count_below, Mode, strict, deferred, State, cursor_shape, cursor_tree, tree_occurs, hole, entered, begun, Trees, no_trees, branch, tree_nth, change_nth, tree_at, change_at, shape_in, child_as, count_trees, shapes_from, fresh, for_hole, and_last, wholes, trees_occur, one_more_call, initial, tracker_of, tracker_at, over_base, child_tree, change_child, holes, shape_below}
-pub use Rattle.fr_model.specs.Variants.{is_enum, variant_numbered, variant_named, variant_told_by, selection_refusal, fields_or_none, variant_fields, told_apart, field_found}
+pub use Rattle.fr_model.specs.Variants.{is_enum, variant_numbered, variant_named, variant_told_by, selection_refusal, fields_or_none, variant_fields, has_discriminant, field_found}
 pub use Rattle.fr_model.specs.Well.{Suits, AtCursor, IsInOrder, IsBegunAs, IsTouched, OffBut, Leads, HasContent, HasFieldsOf, HasFields, TakesItemsAs, IsFullAs, MayBegin, MayPoint, IsContent, IsBegunRightly, SuitAll, IsBehindBase, RestsAround, HasEntries, AreEntries, IsOff, AllOff, BeganAbove, AreTouched, AreDone, in_front, IsBase, Rests, AllRest, RestBut, AreDistinct, IsWell, PointsTo, AreValues, AreItems}

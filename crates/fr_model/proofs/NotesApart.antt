@@ -1,11 +1,11 @@
 -- No two notes of the end of deferred mode cover each other.
 use Rattle.std.proofs.Common.{◌≡◌, ◌≢◌, ◌<◌, ◌≤◌, ◌==◌, if◌then◌else◌, ◌∷◌, ◌++◌}
-use Rattle.fr_model.proofs.Common.{⊎_elim, ℕ, zero, suc, Bool, true, false, eq-eqb, [], append_assoc, append-nil, get_or, Option, Some, None, refl, sym, ◌∙◌, ap, subst, arith, Contains, Contains-append_cases, Contains-get_or, Table, Val, AreApart, LieApart, NotesLieApart, Note, wrote_at, Journal, Held, in_parts, untouched, held, place_of, both_notes, each_notes, writing, closing_by, closing, closing_beside, closing_parts, closing_here_by, finish_notes, Place, child_count, child_shape}
+use Rattle.fr_model.proofs.Common.{⊎_elim, ℕ, zero, suc, Bool, true, false, eq-eqb, [], append_assoc, append-nil, get_or, Option, Some, None, refl, sym, ◌∙◌, ap, subst, arith, Contains, Contains-append_cases, Contains-get_or, Table, Val, AreDisjoint, LieApart, NotesLieApart, Note, wrote_at, Journal, Held, in_parts, untouched, held, place_of, both_notes, each_notes, writing, closing_by, closing, closing_beside, closing_parts, closing_here_by, finish_notes, Place, child_count, child_shape}
 use Rattle.std.proofs.lemmas.List.Kept.{AllPairs-cons}
 use Rattle.fr_model.proofs.FinishNotes.{same_first}
 
 abbrev Apart : Note → Note → Type 0
-Apart one other = AreApart (place_of one) (place_of other)
+Apart one other = AreDisjoint (place_of one) (place_of other)
 
 -- pairs of two lists together
 
@@ -87,7 +87,7 @@ spread_each Known noted across each (suc count) i =
     (spread_each Known noted across each count (suc i))
 
 -- two ways on from one place that begin otherwise lead apart
-ways_apart : (above : Place) (i j : ℕ) (way other : Place) → i ≢ j → AreApart (above ++ i ∷ way) (above ++ j ∷ other)
+ways_apart : (above : Place) (i j : ℕ) (way other : Place) → i ≢ j → AreDisjoint (above ++ i ∷ way) (above ++ j ∷ other)
 ways_apart above i j way other apart = record {
   not_above = λ on leads. apart (sym (same_first above j i other _ (leads ∙ append_assoc above (i ∷ way) on)));
   not_beneath = λ on leads. apart (same_first above i j way _ (leads ∙ append_assoc above _ on));
@@ -103,8 +103,8 @@ IsOfChild above j note = (way : Place) × (place_of note ≡ above ++ j ∷ way)
 children_apart : (above : Place) (i j : ℕ) (one other : Note) → i ≢ j → IsOfChild above i one → IsOfChild above j other
     → Apart one other
 children_apart above i j one other apart here there =
-    subst (λ (place : Place). AreApart place (place_of other)) (sym here.1)
-    (subst (λ (place : Place). AreApart (above ++ i ∷ here.0) place) (sym there.1) (ways_apart above i j here.0 there.0 apart))
+    subst (λ (place : Place). AreDisjoint place (place_of other)) (sym here.1)
+    (subst (λ (place : Place). AreDisjoint (above ++ i ∷ here.0) place) (sym there.1) (ways_apart above i j here.0 there.0 apart))
 
 on_child : (above : Place) (j : ℕ) (note : Note) → IsOn (above ++ j ∷ []) note → IsOfChild above j note
 on_child above j note on = ([], on)

@@ -75,13 +75,13 @@ NotesWhatIsDue =
     → finish_notes table notes root [] cursor ≡ Some added → Contains added note ↔ IsDueNote table root notes cursor note
 
 -- neither of two places leads to the other, and so they aren't the same
-pub record AreApart (one other : Place) : Type 0 where
+pub record AreDisjoint (one other : Place) : Type 0 where
   pub not_above : IsOffTheWay other one
   pub not_beneath : IsOffTheWay one other
 
 -- no two of some notes cover each other: the place of none lies at, above or beneath that of another
 abbrev pub LieApart : Journal → Type 0
-LieApart notes = AllPairs (λ (one other : Note). AreApart (place_of one) (place_of other)) notes
+LieApart notes = AllPairs (λ (one other : Note). AreDisjoint (place_of one) (place_of other)) notes
 
 -- no two of the notes that are added at the end of deferred mode cover each other
 abbrev pub NotesLieApart : Type 0

@@ -54,13 +54,13 @@ abbrev pub layout_refusal_of : Def → Option Operation
 layout_refusal_of (Def.Enum enumeration) = layout_refusal enumeration.repr
 layout_refusal_of _ = None
 
-abbrev pub told_apart : Option VariantDef → Bool
-told_apart (Some variant) = is_some variant.discriminant
-told_apart None = false
+abbrev pub has_discriminant : Option VariantDef → Bool
+has_discriminant (Some variant) = is_some variant.discriminant
+has_discriminant None = false
 
 -- Why the variant of this number can't be selected, if it can't. Of several refusals the first in this order is given: the layout is
 -- Rust's choice; it is Rust's choice with the null pointer; the variant has no discriminant.
 abbrev pub selection_refusal : Def → ℕ → Option Operation
 selection_refusal def k =
     option_or (layout_refusal_of def)
-    (if told_apart (slice_get (variants_of def) k) then None else Some Operation.VariantWithoutDiscriminant)
+    (if has_discriminant (slice_get (variants_of def) k) then None else Some Operation.VariantWithoutDiscriminant)

@@ -7,7 +7,7 @@ use Rattle.fr_model.specs.Step.{begin_side}
 use Rattle.fr_model.specs.Tree.{shapes_from}
 use Rattle.fr_model.specs.Well.{HasContent, PointsTo, SuitAll}
 use Rattle.fr_frame.specs.declared.places.Tracker.{Tracker as Started}
-use Rattle.fr_partial.specs.Beginnings.{kept_by, IsSide, MayBegin}
+use Rattle.fr_partial.specs.Beginnings.{kept_by, IsSide, MayBeginAround}
 use Rattle.fr_partial.proofs.TrackerLaws.{IsFullTree, full_tree}
 use Rattle.fr_partial.proofs.DecidingLaws.{goes}
 use Rattle.fr_partial.proofs.LookLaws.{begun_some}
@@ -82,13 +82,14 @@ side_full def tracker side h = by_side (λ (f : Tracker). IsFullAs def f 1) (has
 pub content_goes : (site : Site) (call : Call) (tracker : Started) (beginning wanted : Beginning) (kept : Option Tree)
     → value_brought call ≡ None → is_around (as_tracker tracker) ≡ true
     → IsFullAs (def_of site.shapes (shape_at site)) (as_tracker tracker) 1 → beginning ≡ wanted
-    → MayBegin wanted (as_tracker tracker) (cursor_tree site.state) → kept_by wanted (as_tracker tracker) (cursor_tree site.state) ≡ kept
+    → MayBeginAround wanted (as_tracker tracker) (cursor_tree site.state)
+    → kept_by wanted (as_tracker tracker) (cursor_tree site.state) ≡ kept
     → ((hooks : Meanings) → step hooks site.shapes site.root site.state call
     ≡ Ok (enters site.shapes (shape_at site) site.state (Onward.Content (as_tracker tracker) kept)))
     → ComesTo site call (Move.Go (Way.Content tracker beginning))
 content_goes site call tracker beginning wanted kept none around full is may kept_is means =
     goes site call (Way.Content tracker beginning) none
-    (around, full, subst (λ (b : Beginning). MayBegin b (as_tracker tracker) (cursor_tree site.state)) (sym is) may) (λ hooks.
+    (around, full, subst (λ (b : Beginning). MayBeginAround b (as_tracker tracker) (cursor_tree site.state)) (sym is) may) (λ hooks.
     means hooks
     ∙ ap (λ (k : Option Tree). Ok (enters site.shapes (shape_at site) site.state (Onward.Content (as_tracker tracker) k)))
     (sym (ap (λ (b : Beginning). kept_by b (as_tracker tracker) (cursor_tree site.state)) is ∙ kept_is)))

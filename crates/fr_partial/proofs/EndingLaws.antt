@@ -10,7 +10,7 @@ use Rattle.fr_store.specs.MoveLaws.{closed_open, same_last, so_top, top_changed,
 use Rattle.fr_store.specs.StackMoves.{node_here as node_on_top}
 use Rattle.fr_store.specs.TopLaws.{closed_tree, held_may_have, keeps_closed, loses_none, marked_body, slot_here}
 use Rattle.fr_store.specs.TurnedLaws.{may_complete as node_may_complete, shape_along}
-use Rattle.fr_partial.specs.Ending.{column_of}
+use Rattle.fr_partial.specs.Ending.{column_by}
 use Rattle.fr_partial.proofs.BodyLaws.{keeps_may, unboxed, why_of}
 use Rattle.fr_partial.proofs.KeepLaws.{are_open, became_marked}
 use Rattle.fr_partial.proofs.HereLaws.{top_body}
@@ -97,10 +97,10 @@ module _ {plan : Plan} {frames : Frames} {n : ℕ} (top : IsTop plan frames n) w
 
   -- It was completed by these rules.
   module _ (rules : Rules) (means : Meanings) (after : List Slot)
-      (filled : IfInUse frames.slots n (FillsAt (column_of rules) means frames.table.now plan frames.slots after n))
+      (filled : IfInUse frames.slots n (FillsAt (column_by rules) means frames.table.now plan frames.slots after n))
       (tracker : IfInUse frames.slots n (λ (at : Node). IfInUse after n (λ (now : Node). KeepsTracker at.body now.body))) where
-    unfoldable fills : FillsAt (column_of rules) means frames.table.now plan frames.slots after n here
-    fills = here_so (FillsAt (column_of rules) means frames.table.now plan frames.slots after n) filled
+    unfoldable fills : FillsAt (column_by rules) means frames.table.now plan frames.slots after n here
+    fills = here_so (FillsAt (column_by rules) means frames.table.now plan frames.slots after n) filled
 
     found_after : heap_of after n ≡ Some (record here { body = fills.body })
     found_after = fills.becomes n ∙ slot_here (heap_of frames.slots) n (Some (record here { body = fills.body }))
@@ -140,8 +140,8 @@ module _ {plan : Plan} {frames : Frames} {n : ℕ} (top : IsTop plan frames n) w
     holds = record {
       value = fills.filled.value;
       meant =
-          ap (λ (s : ℕ). complete (column_of rules) means frames.table.now s (top_tree frames)) (sym shape_is)
-          ∙ ap (complete (column_of rules) means frames.table.now (shape_of plan here.node)) (sym own_is) ∙ fills.filled.meant;
+          ap (λ (s : ℕ). complete (column_by rules) means frames.table.now s (top_tree frames)) (sym shape_is)
+          ∙ ap (complete (column_by rules) means frames.table.now (shape_of plan here.node)) (sym own_is) ∙ fills.filled.meant;
       now = own_tree fills.body;
       changed = became_marked (are_open top.at_work) marks stands;
       held = at_top (λ (at : Node). value_of at.body ≡ Some fills.filled.value) fills.filled.held;

@@ -7,8 +7,8 @@ use Rattle.fr_model.specs.Paths.{steps_in}
 use Rattle.fr_store.specs.LeaveLaws.{below_root}
 use Rattle.fr_frame.specs.declared.places.Taker.{Taker}
 use Rattle.fr_store.specs.StackMoves.{place_then, tree_then}
-use Rattle.fr_partial.specs.Ending.{column_of, Handed, IsCompleted, IsHandedOver, IsPathThen, IsUncompleted}
-use Rattle.fr_partial.specs.Moving.{completes, handed, handed_if, is_late_by, MayTake}
+use Rattle.fr_partial.specs.Ending.{column_by, Handed, IsCompleted, IsHandedOver, IsPathThen, IsUncompleted}
+use Rattle.fr_partial.specs.Moving.{after_completing, received, received_if, is_late_by, TakerServes}
 use Rattle.fr_partial.proofs.HereLaws.{top_body}
 use Rattle.fr_partial.proofs.KeepLaws.{became_after, became_marked}
 use Rattle.fr_partial.proofs.LackLaws.{only_wants}
@@ -89,7 +89,7 @@ module _ {rules : Rules} {means : Meanings} {plan : Plan} {before between : Fram
       let no = rw is at ok in
       cc)
     where
-      go : (by : Rules) → complete (column_of by) means before.table.now (top_shape before) (top_tree before) ≡ Some holds.value
+      go : (by : Rules) → complete (column_by by) means before.table.now (top_shape before) (top_tree before) ≡ Some holds.value
           → (needs_none_by by (top_tree before) ≡ true → ⊥)
           → IsUncompleted by means before.table.now (top_shape before) (top_tree before) ReflectErrorKind.OutOfMemory
       go Rules.Strict meant never =
@@ -103,24 +103,24 @@ module _ {rules : Rules} {means : Meanings} {plan : Plan} {before between : Fram
 
 -- The state and the path then.
 
-handed_is : (taker : Taker) (state : State) (v : Val) → handed taker state v ≡ record state {
+received_is : (taker : Taker) (state : State) (v : Val) → received taker state v ≡ record state {
   tree = tree_then taker state.cursor v state.tree;
   cursor = place_then taker state.cursor;
   calls = one_more_call state.calls;
 }
-handed_is Taker.Above state v = refl
-handed_is _ state v = refl
+received_is Taker.Above state v = refl
+received_is _ state v = refl
 
 -- where it makes this value, that state is meant
 pub is_meant : (rules : Rules) (taker : Taker) (hooks : Meanings) (table : Table) (s : ℕ) (state : State) (v : Val)
-    → complete (column_of rules) hooks table s (cursor_tree state) ≡ Some v → completes rules taker hooks table s state
+    → complete (column_by rules) hooks table s (cursor_tree state) ≡ Some v → after_completing rules taker hooks table s state
     ≡ Ok (record state {
       tree = tree_then taker state.cursor v state.tree;
       cursor = place_then taker state.cursor;
       calls = one_more_call state.calls;
     })
 is_meant rules taker hooks table s state v made =
-    ap (handed_if rules taker hooks table s state) made ∙ ap (λ (next : State). Ok next) (handed_is taker state v)
+    ap (received_if rules taker hooks table s state) made ∙ ap (λ (next : State). Ok next) (received_is taker state v)
 
 module _ (state : State) {steps : List PathStep} (path : steps ≡ path_of state) where
   -- one step back leads to the place above
@@ -136,7 +136,7 @@ module _ (state : State) {steps : List PathStep} (path : steps ≡ path_of state
       → left ≡ steps_in (up state.cursor) state.tree
   path_left leave deep below back = sym (above leave deep below back).as_it_is
 
-  pub path_then : ChangingKeepsThePath → LeavingDropsAStep → PathIsAsDeep → (taker : Taker) (v : Val) → MayTake taker state
+  pub path_then : ChangingKeepsThePath → LeavingDropsAStep → PathIsAsDeep → (taker : Taker) (v : Val) → TakerServes taker state
       → {left : List PathStep} → IsPathThen taker steps left
       → left ≡ steps_in (place_then taker state.cursor) (tree_then taker state.cursor v state.tree)
   path_then change leave deep Taker.Above v may back = sym ((above leave deep may.0 back).changed (λ old. whole v))
@@ -150,7 +150,7 @@ module _ (hooks : Meanings) (table : Table) (served : IsServed table) (s : ℕ) 
     (wanted : kind ≡ ReflectErrorKind.OutOfMemory) where
   -- by the rules of strict mode a place that makes no value is refused for that, and never out of memory
   pub refused_first : (rules : Rules) (taker : Taker) → IsUncompleted rules hooks table s (cursor_tree state) kind
-      → is_late_by rules ≡ false → IsErr (completes rules taker hooks table s state) → ⊥
+      → is_late_by rules ≡ false → IsErr (after_completing rules taker hooks table s state) → ⊥
   refused_first Rules.Deferred taker why late refused = cc
   refused_first Rules.Strict taker why late refused =
       go (complete strict_column hooks table s (cursor_tree state)) refl
@@ -159,7 +159,7 @@ module _ (hooks : Meanings) (table : Table) (served : IsServed table) (s : ℕ) 
       go : (made : Option Val) → complete strict_column hooks table s (cursor_tree state) ≡ made → IsSome made → ⊥
       go (Some v) is some =
           let no : false ≡ true
-          = subst (λ (x : Option Val). IsErr (handed_if Rules.Strict taker hooks table s state x)) is refused in
+          = subst (λ (x : Option Val). IsErr (received_if Rules.Strict taker hooks table s state x)) is refused in
           cc
       go None is some = cc
 

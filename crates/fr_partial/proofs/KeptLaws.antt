@@ -9,7 +9,7 @@ use Rattle.fr_model.specs.Trackers.{tracker_number, same_tracker, keys_of_tracke
 use Rattle.fr_model.specs.Well.{HasContent, IsBegunRightly, IsContent, PointsTo}
 use Rattle.fr_model.specs.Entering.{opened_as, opened_value, parts_as}
 use Rattle.fr_shape.specs.Val.{first, map_of, no_vals, set_of, some}
-use Rattle.fr_partial.specs.Beginnings.{kept_by, MayBegin}
+use Rattle.fr_partial.specs.Beginnings.{kept_by, MayBeginAround}
 use Rattle.fr_partial.proofs.BelowLaws.{of_content}
 use Rattle.fr_partial.proofs.TrackerLaws.{IsFullTree}
 
@@ -92,12 +92,12 @@ pub may_have_one : (tracker : Tracker) → is_around tracker ≡ true → MayHav
 may_have_one = of_content (λ tracker. MayHave tracker 1) (omega arith) (omega arith) (omega arith) (omega arith)
 
 begin_if : (b : Bool) (tracker : Tracker) (tree : Tree) → (b ≡ true → HasChild tracker 0 tree)
-    → MayBegin (if b then Beginning.AsItIs else Beginning.Anew) tracker tree
+    → MayBeginAround (if b then Beginning.AsItIs else Beginning.Anew) tracker tree
 begin_if true tracker tree has = has refl
 begin_if false tracker tree has = tt
 
 pub may_begin_so : (tracker : Tracker) → is_around tracker ≡ true → (def : Def) (tree : Tree) → IsFullTree def tree
-    → MayBegin (beginning_so tracker tree) tracker tree
+    → MayBeginAround (beginning_so tracker tree) tracker tree
 may_begin_so tracker h def (begun made ts) full =
     begin_if (same_tracker made tracker) tracker (begun made ts) (λ e.
     let same : made ≡ tracker = same_is made tracker h e in
@@ -107,7 +107,7 @@ may_begin_so tracker h def (begun made ts) full =
 may_begin_so tracker h def _ full = tt
 
 pub may_begin_in : (mode : Mode) (tracker : Tracker) → is_around tracker ≡ true → (def : Def) (tree : Tree) → IsFullTree def tree
-    → MayBegin (beginning_in mode tracker tree) tracker tree
+    → MayBeginAround (beginning_in mode tracker tree) tracker tree
 may_begin_in strict tracker h def tree full = tt
 may_begin_in (deferred start) tracker h def tree full = may_begin_so tracker h def tree full
 
@@ -118,20 +118,20 @@ some_apart (map_of es) w e = cc
 some_apart _ w e = tt
 
 pub may_begin_some : (mode : Mode) (content def : Def) (tree : Tree) → IsFullTree def tree
-    → MayBegin (beginning_of_some mode content tree) (as_content ContentKind.Some) tree
+    → MayBeginAround (beginning_of_some mode content tree) (as_content ContentKind.Some) tree
 may_begin_some mode content def hole full = tt
 may_begin_some mode content def entered full = tt
 may_begin_some mode content def (whole v) full = go (is_entered_in_place mode content) (content_of v) refl refl
   where
     go : (b : Bool) (held : Option Val) → is_entered_in_place mode content ≡ b → content_of v ≡ held
-        → MayBegin (beginning_of_some mode content (whole v)) (as_content ContentKind.Some) (whole v)
+        → MayBeginAround (beginning_of_some mode content (whole v)) (as_content ContentKind.Some) (whole v)
     go true (Some w) h e = rw (h, e) ((ap (λ (found : Option Val). is_some (option_map (λ (x : Val). first x no_vals) found)) e, some_apart v w e), refl)
     go true None h e = rw (h, e) tt
     go false held h e = rw h tt
 may_begin_some mode content def (begun made ts) full = may_begin_in mode (as_content ContentKind.Some) refl def (begun made ts) full
 
 -- nothing is begun in place but a whole value that has parts for that
-pub whole_some : (beginning : Beginning) (tracker : Tracker) (tree : Tree) → MayBegin beginning tracker tree
+pub whole_some : (beginning : Beginning) (tracker : Tracker) (tree : Tree) → MayBeginAround beginning tracker tree
     → beginning ≡ Beginning.InPlace → IsWholeWith tracker tree
 whole_some Beginning.InPlace tracker tree may e = may.0
 whole_some _ tracker tree may e = cc
@@ -147,11 +147,11 @@ some_begun : (v : Val) → IsSome (parts_as (as_content ContentKind.Some) v) →
 some_begun (some held) h = record { has = (refl, omega arith); stays = λ def. refl }
 some_begun _ h = absurd (cc)
 
-begun_around : (tracker : Tracker) (v : Val) → MayBegin Beginning.InPlace tracker (whole v) → IsBegunAround tracker v
+begun_around : (tracker : Tracker) (v : Val) → MayBeginAround Beginning.InPlace tracker (whole v) → IsBegunAround tracker v
 begun_around tracker v may =
     subst (λ (f : Tracker). IsBegunAround f v) (sym may.1) (some_begun v (subst (λ (f : Tracker). IsSome (parts_as f v)) may.1 may.0.0))
 
-pub has_content : (beginning : Beginning) (tracker : Tracker) (tree : Tree) → MayBegin beginning tracker tree
+pub has_content : (beginning : Beginning) (tracker : Tracker) (tree : Tree) → MayBeginAround beginning tracker tree
     → HasChild tracker 0 (begun_by beginning tracker 1 tree)
 has_content Beginning.AsItIs tracker tree may = may
 has_content Beginning.InPlace tracker (whole v) may = (begun_around tracker v may).has
@@ -163,7 +163,7 @@ child_tracker tracker i (begun made ts) has = has.0
 child_tracker tracker i _ has = absurd has
 
 -- what is kept is begun so
-pub kept_as_tracker : (beginning : Beginning) (tracker : Tracker) (tree : Tree) → MayBegin beginning tracker tree
+pub kept_as_tracker : (beginning : Beginning) (tracker : Tracker) (tree : Tree) → MayBeginAround beginning tracker tree
     → IsKeptAs tracker (kept_by beginning tracker tree)
 kept_as_tracker Beginning.AsItIs tracker tree may = child_tracker tracker 0 tree may
 kept_as_tracker Beginning.InPlace tracker tree may =
@@ -183,7 +183,7 @@ content_stays table s tracker h t ts right def =
 
 -- begun so, and the content entered
 pub content_so : (table : Table) (s : ℕ) (beginning : Beginning) (tracker : Tracker) → is_around tracker ≡ true → (tree : Tree)
-    → MayBegin beginning tracker tree → Suits table s tree → (def : Def) → def ≡ def_of table (child_as table s tracker 0)
+    → MayBeginAround beginning tracker tree → Suits table s tree → (def : Def) → def ≡ def_of table (child_as table s tracker 0)
     → change_child 0 (enter def) (begun_by beginning tracker 1 tree)
     ≡ unwrap_or (kept_by beginning tracker tree) (content_anew table s tracker)
 content_so table s Beginning.Anew tracker h tree may suits def is = ap (λ (d : Def). around tracker (fresh d)) is

@@ -1,7 +1,7 @@
 -- Putting a value or a default at a place: what it comes to, and what it is refused for.
 use Rattle.std.proofs.Common.{◌≡◌, ℕ, Bool, true, false, ◌&&◌, if◌then◌else◌, Option, Some, None, Result, Ok, Err, IsOk, inl, inr, nat_eq, refl, sym, ◌∙◌, ap}
 use Rattle.std.proofs.lemmas.Bool.{eqb-true}
-use Rattle.fr_partial.specs.Common.{Call, Change, ComesTo, Def, IsChecked, IsRefusedWith, IsUnconverted, Meanings, Move, Operation, ReflectErrorKind, ScalarKind, Sees, ShapeId, Site, State, Table, Tree, Val, Value, converted, converts, copies_to_convert, def_of, fits, is_dynamic, occurs, operation_failed, preset_of, settled, shape_at, step, takes_shape, unit, unless_refused, view}
+use Rattle.fr_partial.specs.Common.{Call, Change, ComesTo, Def, IsChecked, IsRefusedWith, IsUnconverted, Meanings, Move, Operation, ReflectErrorKind, ScalarKind, Sees, ShapeId, Site, State, Table, Tree, Val, Value, converted, converts_at, copies_to_convert, def_of, fits, is_dynamic, occurs, operation_failed, preset_of, settled, shape_at, step, takes_shape, unit, unless_refused, view}
 use Rattle.fr_shape.specs.Fits.{keys_once}
 use Rattle.fr_shape.specs.Val.{Dynamic, dyn, text}
 use Rattle.fr_model.specs.Step.{is_str, is_owned_string, set, set_refusal, puts, puts_default, puts_dynamic}
@@ -19,19 +19,19 @@ admits {A} {E} {made} {a} e = rw e refl
 
 -- it is put as it is, if it may, where the place doesn't convert it
 set_is : (table : Table) (s given : ℕ) (state : State) (v : Val) → set table s state given v
-    ≡ (if converts table s given then puts_dynamic state given (converted table s (def_of table given) v)
+    ≡ (if converts_at table s given then puts_dynamic state given (converted table s (def_of table given) v)
     else unless_refused (set_refusal table s given) (puts state v))
 set_is table s given state v = go (is_dynamic (def_of table s)) (nat_eq s given) refl refl
   where
     go : (a b : Bool) → is_dynamic (def_of table s) ≡ a → nat_eq s given ≡ b → set table s state given v
-        ≡ (if converts table s given then puts_dynamic state given (converted table s (def_of table given) v)
+        ≡ (if converts_at table s given then puts_dynamic state given (converted table s (def_of table given) v)
         else unless_refused (set_refusal table s given) (puts state v))
     go false b d e = rw d refl
     go true true d e = rw (d, e) refl
     go true false d e = rw (d, e) refl
 
 -- one that it converts takes memory only where it is copied
-pub only_copies : (table : Table) (s given : ℕ) → converts table s given ≡ true → copies_at table s given ≡ false
+pub only_copies : (table : Table) (s given : ℕ) → converts_at table s given ≡ true → copies_at table s given ≡ false
     → copies_to_convert (def_of table given) ≡ false
 only_copies table s given as_other none = rw as_other at none
 
@@ -81,9 +81,10 @@ dynamic_fits table s d is once = rw (settled_plain table s Def.Dynamic (dynamic_
 
 module _ {site : Site} {table : Table} {shape : ShapeId} {seen : Tree} (at : Sees site table shape seen) (given n : ℕ)
     (given_is : given ≡ n) where
-  pub converts_seen : converts table shape.0 given ≡ converts site.shapes (shape_at site) n
+  pub converts_seen : converts_at table shape.0 given ≡ converts_at site.shapes (shape_at site) n
   converts_seen =
-      seen_by at (λ table s tree. converts table s given) (λ table s tracker ts. refl) ∙ ap (converts site.shapes (shape_at site)) given_is
+      seen_by at (λ table s tree. converts_at table s given) (λ table s tracker ts. refl)
+      ∙ ap (converts_at site.shapes (shape_at site)) given_is
 
   pub takes_seen : takes_shape table shape.0 given ≡ takes_shape site.shapes (shape_at site) n
   takes_seen =
@@ -98,7 +99,7 @@ module _ {site : Site} {table : Table} {shape : ShapeId} {seen : Tree} (at : See
       ∙ ap (converted site.shapes (shape_at site) (def_of site.shapes n)) value_is
 
 module _ (site : Site) (n : ℕ) (v : Val) where
-  module _ (as_it_is : converts site.shapes (shape_at site) n ≡ false) where
+  module _ (as_it_is : converts_at site.shapes (shape_at site) n ≡ false) where
     -- the value is put as it is
     pub taken : (value : Value) → view value ≡ v → fits site.shapes n v ≡ true
         → takes_shape site.shapes (shape_at site) n ≡ true → ComesTo site (Call.Set n v) (Move.Stay (Change.Put value))
@@ -122,7 +123,7 @@ module _ (site : Site) (n : ℕ) (v : Val) where
               ∙ ap (λ (m : ℕ). Err (ReflectErrorKind.WrongShape expected (record { 0 = m }))) (sym of_given)),
         )
 
-  module _ (as_other : converts site.shapes (shape_at site) n ≡ true) where
+  module _ (as_other : converts_at site.shapes (shape_at site) n ≡ true) where
     means_so : (hooks : Meanings) → step hooks site.shapes site.root site.state (Call.Set n v)
         ≡ puts_dynamic site.state n (converted site.shapes (shape_at site) (def_of site.shapes n) v)
     means_so hooks = set_is site.shapes (shape_at site) n site.state v ∙ rw as_other refl

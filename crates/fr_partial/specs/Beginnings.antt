@@ -51,10 +51,10 @@ IsWholeWith tracker (begun made children) = ⊥
 
 -- a place with a content may come to be begun so around it: one that stays as it is has the content already, and in place only a
 -- whole `Some` is begun
-abbrev pub MayBegin : Beginning → Tracker → Tree → Type 0
-MayBegin Beginning.AsItIs tracker tree = HasChild tracker 0 tree
-MayBegin Beginning.InPlace tracker tree = IsWholeWith tracker tree × (tracker ≡ as_content ContentKind.Some)
-MayBegin Beginning.Anew tracker tree = Unit {0}
+abbrev pub MayBeginAround : Beginning → Tracker → Tree → Type 0
+MayBeginAround Beginning.AsItIs tracker tree = HasChild tracker 0 tree
+MayBeginAround Beginning.InPlace tracker tree = IsWholeWith tracker tree × (tracker ≡ as_content ContentKind.Some)
+MayBeginAround Beginning.Anew tracker tree = Unit {0}
 
 -- a place is begun so around one side of a result
 abbrev pub IsSide : Tracker → Type 0

@@ -37,7 +37,7 @@ pub use Rattle.fr_partial.specs.Making.{IsMade}
 pub use Rattle.fr_partial.specs.Modes.{mode_of}
 pub use Rattle.fr_partial.specs.Moving.{ComesTo, Decides, IsMeant, IsRefusedWith, MayGo, MayStay, NeedsNone, carried, carried_by, changed, meant_by, number_told, onward}
 pub use Rattle.fr_partial.specs.Openings.{HasItems, MayOpenAs, is_begun}
-pub use Rattle.fr_partial.specs.SettingDynamic.{converts}
+pub use Rattle.fr_partial.specs.SettingDynamic.{converts_at}
 pub use Rattle.fr_partial.specs.Sites.{Site, held_at, shape_at}
 pub use Rattle.fr_partial.specs.Starting.{IsPlanFrom}
 pub use Rattle.fr_partial.specs.Underway.{AreOpen, AreOpened, Became, Changed, IsAtWork, StoresNothing, held_in, top_place, top_shape, top_tree, whole_tree}

@@ -23,9 +23,9 @@ use Rattle.fr_partial.specs.Modes.{is_below_start, IsBelowStart}
 use Rattle.fr_partial.specs.Underway.{top_place, top_shape, top_tree, whole_tree, Became, Changed}
 use Rattle.fr_store.specs.StackMoves.{AtTop, place_then, tree_then, MayHandOver}
 
-abbrev pub column_of : Rules → Column
-column_of Rules.Strict = strict_column
-column_of Rules.Deferred = deferred_column
+abbrev pub column_by : Rules → Column
+column_by Rules.Strict = strict_column
+column_by Rules.Deferred = deferred_column
 
 -- the rules of strict mode serve in that mode, and those of the end of deferred mode in that mode, below the place at which it began
 abbrev pub RulesServe : Rules → Mode → (cursor : Place) → Type 0
@@ -45,7 +45,7 @@ needs_none_by Rules.Deferred tree = false
 -- changed, and where none was needed to complete it, to hand the value over takes no memory.
 pub record HoldsItsValue (rules : Rules) (means : Meanings) (plan : Plan) (before after : Frames) : Type 0 where
   pub value : Val
-  pub meant : complete (column_of rules) means before.table.now (top_shape before) (top_tree before) ≡ Some value
+  pub meant : complete (column_by rules) means before.table.now (top_shape before) (top_tree before) ≡ Some value
   pub now : Tree
   pub changed : Changed plan (λ old. now) before after
   pub held : AtTop after.slots after.stack (λ at. value_of at.body ≡ Some value)
@@ -70,7 +70,7 @@ IsPathThen Taker.Itself old new = new ≡ old
 -- what stood on top makes a value by these rules, which was handed over
 pub record IsCompleted (rules : Rules) (taker : Taker) (means : Meanings) (plan : Plan) (before after : Frames) : Type 0 where
   pub value : Val
-  pub meant : complete (column_of rules) means before.table.now (top_shape before) (top_tree before) ≡ Some value
+  pub meant : complete (column_by rules) means before.table.now (top_shape before) (top_tree before) ≡ Some value
   pub handed : Handed taker plan value before after
 
 -- what stands at a place of shape s makes no value in deferred mode, and this is the cause: the first place that fails

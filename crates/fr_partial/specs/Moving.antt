@@ -32,10 +32,10 @@ use Rattle.fr_partial.specs.declared.moves.Move.{Move}
 use Rattle.fr_partial.specs.declared.moves.Rules.{Rules}
 use Rattle.fr_frame.specs.declared.places.Taker.{Taker}
 use Rattle.fr_partial.specs.declared.moves.Way.{Way}
-use Rattle.fr_partial.specs.Beginnings.{kept_by, MayBegin}
+use Rattle.fr_partial.specs.Beginnings.{kept_by, MayBeginAround}
 use Rattle.fr_partial.specs.DynamicBeginnings.{anew_as, kept_as}
 use Rattle.fr_frame.specs.Admitting.{Describes}
-use Rattle.fr_partial.specs.Ending.{column_of, completes_late, needs_none_by, RulesServe}
+use Rattle.fr_partial.specs.Ending.{column_by, completes_late, needs_none_by, RulesServe}
 use Rattle.fr_partial.specs.Modes.{IsBelowStart}
 use Rattle.fr_model.specs.Entering.{Way as Onward, enters}
 use Rattle.fr_partial.specs.Openings.{is_begun, HasItems, MayOpenAs}
@@ -87,7 +87,8 @@ MayGo table s tree (Way.Value opening) =
     × (value_refusal tree ≡ None)
 MayGo table s tree (Way.Entry key) = entry_refusal (def_of table s) tree ≡ None
 MayGo table s tree (Way.Content tracker beginning) =
-    (is_around (as_tracker tracker) ≡ true) × IsFullAs (def_of table s) (as_tracker tracker) 1 × MayBegin beginning (as_tracker tracker) tree
+    (is_around (as_tracker tracker) ≡ true) × IsFullAs (def_of table s) (as_tracker tracker) 1
+    × MayBeginAround beginning (as_tracker tracker) tree
 
 -- Staying
 
@@ -125,27 +126,27 @@ MayStay table s tree Change.CloseSlice = is_open_slice tree ≡ true
 -- Completing
 
 -- the state when the value of the place at the cursor was handed over
-abbrev pub handed : Taker → State → Val → State
-handed Taker.Above state v = puts_and_leaves state v
-handed Taker.Set state v = takes_item state v
-handed Taker.Itself state v = puts state v
+abbrev pub received : Taker → State → Val → State
+received Taker.Above state v = puts_and_leaves state v
+received Taker.Set state v = takes_item state v
+received Taker.Itself state v = puts state v
 
-abbrev pub handed_if : Rules → Taker → Meanings → Table → (s : ℕ) → State → Option Val → Result State ReflectErrorKind
-handed_if rules taker hooks table s state (Some v) = Ok (handed taker state v)
-handed_if rules taker hooks table s state None =
-    Err (cause_by (column_of rules) hooks table s (path_of state) (cursor_tree state))
+abbrev pub received_if : Rules → Taker → Meanings → Table → (s : ℕ) → State → Option Val → Result State ReflectErrorKind
+received_if rules taker hooks table s state (Some v) = Ok (received taker state v)
+received_if rules taker hooks table s state None =
+    Err (cause_by (column_by rules) hooks table s (path_of state) (cursor_tree state))
 
 -- the place at the cursor is completed and its value handed over, or is refused where it makes none
-abbrev pub completes : Rules → Taker → Meanings → Table → (s : ℕ) → State → Result State ReflectErrorKind
-completes rules taker hooks table s state =
-    handed_if rules taker hooks table s state (complete (column_of rules) hooks table s (cursor_tree state))
+abbrev pub after_completing : Rules → Taker → Meanings → Table → (s : ℕ) → State → Result State ReflectErrorKind
+after_completing rules taker hooks table s state =
+    received_if rules taker hooks table s state (complete (column_by rules) hooks table s (cursor_tree state))
 
 -- the value may go there: up from any place below the root that is no item of a set; to a set from its item alone; it stays in strict
 -- mode alone
-abbrev pub MayTake : Taker → State → Type 0
-MayTake Taker.Above state = (is_root state.cursor ≡ false) × (is_set_item state ≡ false)
-MayTake Taker.Set state = (is_root state.cursor ≡ false) × (is_set_item state ≡ true)
-MayTake Taker.Itself state = state.mode ≡ strict
+abbrev pub TakerServes : Taker → State → Type 0
+TakerServes Taker.Above state = (is_root state.cursor ≡ false) × (is_set_item state ≡ false)
+TakerServes Taker.Set state = (is_root state.cursor ≡ false) × (is_set_item state ≡ true)
+TakerServes Taker.Itself state = state.mode ≡ strict
 
 -- Moves
 
@@ -154,7 +155,7 @@ abbrev pub meant_by : Meanings → Site → Move → Result State ReflectErrorKi
 meant_by hooks site (Move.Go way) = Ok (gone site.shapes (shape_at site) site.state way)
 meant_by hooks site (Move.Stay change) = Ok (stays site.shapes (shape_at site) site.state change)
 meant_by hooks site Move.Leave = Ok (leaves site.state)
-meant_by hooks site (Move.Complete rules taker) = completes rules taker hooks site.shapes (shape_at site) site.state
+meant_by hooks site (Move.Complete rules taker) = after_completing rules taker hooks site.shapes (shape_at site) site.state
 meant_by hooks site Move.Defer =
     Ok (record site.state { mode = deferred (length site.state.cursor); calls = one_more_call site.state.calls })
 meant_by hooks site Move.Finish =
@@ -166,7 +167,7 @@ MayMove table s state (Move.Go way) = MayGo table s (cursor_tree state) way
 MayMove table s state (Move.Stay change) = MayStay table s (cursor_tree state) change
 MayMove table s state Move.Leave =
     IsBelowStart state.mode state.cursor × (takes_at_end (tree_at (up state.cursor) state.tree) ≡ false)
-MayMove table s state (Move.Complete rules taker) = RulesServe rules state.mode state.cursor × MayTake taker state
+MayMove table s state (Move.Complete rules taker) = RulesServe rules state.mode state.cursor × TakerServes taker state
 MayMove table s state Move.Defer = state.mode ≡ strict
 MayMove table s state Move.Finish = state.mode ≢ strict
 

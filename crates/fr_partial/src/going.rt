@@ -1,7 +1,7 @@
 //! Going on to a child, whichever way.
 ghost use Rattle.fr_partial.specs.Common.{AreOpen, AreOpened, Plan, Became, Conserved, IsAtWork, IsMade, IsMeant, IsSound, MayGo, Ok, OnErr, OnOk, Room, [], as_tracker, change_at, child_node, held_in, node_here, number_told, onward, shape_at, site, top_place, top_shape, top_tree, whole_tree};
 ghost use Rattle.std.specs.Prelude.{◌<◌, ◌^◌, ◌∷◌, ◌++◌, ◌≡◌};
-ghost use Rattle.fr_frame.specs.Kids.{entry_found, slice_item_found};
+ghost use Rattle.fr_frame.specs.Kids.{entry_node_found, slice_item_found};
 ghost use Rattle.fr_model.specs.Places.{is_key};
 ghost use Rattle.fr_partial.specs.declared.moves.Move.{Move as Moves};
 ghost use Rattle.fr_partial.specs.Moving.{gone};
@@ -39,7 +39,7 @@ fn slice_item(plan: &TypePlanCore, node: NodeId) -> Option<NodeId>
 
 /// The plan's node of child `i` of a map of this node: of its keys, or of its values.
 fn entry_node(plan: &TypePlanCore, node: NodeId, i: usize) -> Option<NodeId>
-    ensures { result ≡ entry_found plan.now node (is_key i) }
+    ensures { result ≡ entry_node_found plan.now node (is_key i) }
 {
     if i % 2 == 0 {
         plan.map_key_node_id(node)

@@ -1,6 +1,6 @@
 //! `set_shape` and `set_default`: a whole value at the place at which the builder works.
 ghost use Rattle.std.specs.Prelude.{◌+◌, ◌≡◌};
-ghost use Rattle.fr_partial.specs.Common.{Call, Decides, IfOk, IsCall, IsNotOutOfMemory, NeedsNone, OnErr, OnOk, Room, RoseBy, [], converts, cursor_tree, def_of, dyn_view, false, fits, holds, occurs, shape_at, takes_shape, tokens, true, view};
+ghost use Rattle.fr_partial.specs.Common.{Call, Decides, IfOk, IsCall, IsNotOutOfMemory, NeedsNone, OnErr, OnOk, Room, RoseBy, [], converts_at, cursor_tree, def_of, dyn_view, false, fits, holds, occurs, shape_at, takes_shape, tokens, true, view};
 ghost use Rattle.fr_shape.specs.Val.{dyn};
 ghost use Rattle.fr_model.specs.Step.{is_str, is_owned_string};
 ghost use Rattle.fr_partial.specs.Builder.{here};
@@ -54,7 +54,7 @@ fn takes_shape(table: &ShapeTable, place: ShapeId, given: ShapeId) -> bool
 
 /// Whether a place of one shape converts a value of the other.
 fn converts(table: &ShapeTable, place: ShapeId, given: ShapeId) -> bool
-    ensures { result ≡ converts table.now place.0 given.0 }
+    ensures { result ≡ converts_at table.now place.0 given.0 }
 {
     is_dynamic(table, place) && place.0 != given.0
 }

@@ -1,7 +1,7 @@
 -- The order of ways by their length and, among ways of one length, from the last to the first; and the order of the walk.
 use Rattle.std.proofs.Common.{◌≡◌, ◌≢◌, ℕ, suc, List, [], ◌∷◌, ◌++◌, length, length-append, inl, inr, refl, ◌∙◌, ap, arith}
 use Rattle.fr_store.specs.Common.{All, AreInWalkOrder, AreLeftRightly, ComesBefore, ComesEarlier, FrameOwner, Heap, Holds, IsPlaced, Kid, NodeId, Ordering, Pairs, Place, Plan, at, begun_plot, kid_at, kid_below, ordering_then, slice_cmp, step_order, steps_in, tree_of}
-use Rattle.fr_store.specs.PlaceOrder.{IsAbove, IsAfterBelow}
+use Rattle.fr_store.specs.PlaceOrder.{BranchesLater, IsAfterBelow}
 use Rattle.fr_store.proofs.HeadLaws.{steps_count}
 use Rattle.fr_store.proofs.PairLaws.{pairs_weaker}
 use Rattle.fr_store.proofs.PathOrder.{number_less, number_equal}
@@ -11,7 +11,7 @@ after_below_differs : (k : Kid) (i j : ℕ) → IsAfterBelow k i j → i ≢ j
 after_below_differs (at slot stored (begun_plot tracker kids)) i j after e = after_differs tracker i j after e
 after_below_differs _ i j after e = omega (arith, after, e)
 
-above_differs : (k : Kid) (p q : Place) → IsAbove k p q → p ≢ q
+above_differs : (k : Kid) (p q : Place) → BranchesLater k p q → p ≢ q
 above_differs k (i ∷ p) (j ∷ q) (inl after) e = after_below_differs k i j after (cc)
 above_differs k (i ∷ p) (j ∷ q) (inr rest) e = above_differs (kid_below i k) p q rest.1 (cc)
 above_differs k _ _ above e = absurd above
@@ -21,7 +21,7 @@ earlier_differs k p q (inl shorter) e = let lengths : length p ≡ length q = ap
 earlier_differs k p q (inr above) e = above_differs k p q above.1 e
 
 -- children of one place
-last_above : (k : Kid) (p : Place) (i j : ℕ) → IsAfterBelow (kid_at p k) i j → IsAbove k (p ++ i ∷ []) (p ++ j ∷ [])
+last_above : (k : Kid) (p : Place) (i j : ℕ) → IsAfterBelow (kid_at p k) i j → BranchesLater k (p ++ i ∷ []) (p ++ j ∷ [])
 last_above k [] i j after = inl after
 last_above k (m ∷ p) i j after = inr (refl, last_above (kid_below m k) p i j after)
 
@@ -32,7 +32,7 @@ pub siblings : (k : Kid) (p : Place) (i j : ℕ) → IsAfterBelow (kid_at p k) i
 siblings k p i j after = inr (omega (arith, one_longer p i, one_longer p j), last_above k p i j after)
 
 -- children of two places
-children_above : (k : Kid) (p q : Place) (i j : ℕ) → IsAbove k p q → IsAbove k (p ++ i ∷ []) (q ++ j ∷ [])
+children_above : (k : Kid) (p q : Place) (i j : ℕ) → BranchesLater k p q → BranchesLater k (p ++ i ∷ []) (q ++ j ∷ [])
 children_above k (m ∷ p) (n ∷ q) i j (inl after) = inl after
 children_above k (m ∷ p) (n ∷ q) i j (inr rest) = inr (rest.0, children_above (kid_below m k) p q i j rest.1)
 children_above k _ _ i j above = absurd above

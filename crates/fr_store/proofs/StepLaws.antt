@@ -4,7 +4,7 @@ use Rattle.std.proofs.lemmas.Bool.{cases_lt}
 use Rattle.fr_store.specs.Common.{AllMarked, AreLeftAll, AreLeftRightly, EntriesKind, FrameOwner, Heap, Holds, IsHere, IsLeftRightly, IsThere, ItemsKind, Kid, Kids, Leads, Less, MayHave, NodeId, Ordering, PathStep, Place, Plan, Reaches, Tracker, Tree, as_content, as_entries, as_fields, as_items, at, base_of_tracker, begun_plot, but_nth, child_node, child_owner, count_kids, entry_of, gone, holds_nth, is_key, is_stored, kid, kid_at, kid_nth, leads_same, left_nth, marked_nth, may_have_all, no_kids, order_as, ordering_then, same_or_other, slice_cmp, step_as, step_itself, step_order, steps_in, takes_at_end_as, there, tree_nth, tree_of, tree_of_nth, trees_in}
 use Rattle.std.specs.Ordering.{nat_cmp}
 use Rattle.std.specs.declared.cmp.Ordering.TheVariants.{Equal}
-use Rattle.fr_store.specs.PlaceOrder.{IsAbove, IsAfter, IsLater}
+use Rattle.fr_store.specs.PlaceOrder.{BranchesLater, IsAfter, IsLater}
 use Rattle.fr_store.proofs.PathOrder.{number_less}
 
 -- Numbers.
@@ -154,7 +154,7 @@ module _ (plan : Plan) (heap : Heap) where
   -- of two ways of one length that which is above comes later in the walk
   pub steps_less : (node : NodeId) (owner : FrameOwner) (depth : ℕ) (p q : Place) (k : Kid) → Holds plan heap node owner depth k
       → AreLeftRightly k → IsByTheWay k → Reaches p k → IsHere (kid_at p k) → Reaches q k → IsHere (kid_at q k)
-      → IsAbove k p q → slice_cmp step_order (steps_in q (tree_of k)) (steps_in p (tree_of k)) ≡ Less
+      → BranchesLater k p q → slice_cmp step_order (steps_in q (tree_of k)) (steps_in p (tree_of k)) ≡ Less
   steps_less node owner depth [] q k holds left by reach here other beside above = absurd above
   steps_less node owner depth (i ∷ p) [] k holds left by reach here other beside above = absurd above
   steps_less node owner depth (i ∷ p) (j ∷ q) (at slot stored (begun_plot tracker kids)) holds left by reach here other beside (inl after) =

@@ -100,14 +100,14 @@ abbrev pub slot_at : Kid → Place → ℕ
 slot_at k place = slot_here (kid_at place k)
 
 -- of two ways of one length: where they part, the first has the child that comes later there
-abbrev pub IsAbove : Kid → (first second : Place) → Type 0
-IsAbove k [] second = ⊥
-IsAbove k (i ∷ first) [] = ⊥
-IsAbove k (i ∷ first) (j ∷ second) = IsAfterBelow k i j ⊎ ((i ≡ j) × IsAbove (kid_below i k) first second)
+abbrev pub BranchesLater : Kid → (first second : Place) → Type 0
+BranchesLater k [] second = ⊥
+BranchesLater k (i ∷ first) [] = ⊥
+BranchesLater k (i ∷ first) (j ∷ second) = IsAfterBelow k i j ⊎ ((i ≡ j) × BranchesLater (kid_below i k) first second)
 
 -- the shorter way comes first, and of two of one length that which is above
 abbrev pub ComesEarlier : Kid → (first second : Place) → Type 0
-ComesEarlier k first second = (length first < length second) ⊎ ((length first ≡ length second) × IsAbove k first second)
+ComesEarlier k first second = (length first < length second) ⊎ ((length first ≡ length second) × BranchesLater k first second)
 
 -- a place that is stored lies there
 abbrev pub IsStoredHere : Kid → Place → Type 0

@@ -19,7 +19,7 @@ use Rattle.fr_plan.specs.declared.nodes.TypePlanNode.{TypePlanNode}
 use Rattle.fr_plan.specs.Lookups.{node_at}
 use Rattle.fr_plan.specs.LookupLaws.{Step, struct_field_step, enum_variant_field_step, list_item_step, set_item_step, map_key_step, map_value_step, option_inner_step, result_ok_step, result_err_step, pointer_pointee_step, looked_up, child_in, shape_at, LookupsAgree, LookupPathsAgree}
 use Rattle.fr_plan.specs.TypePlan.{Plan, IsPlanOf}
-use Rattle.fr_frame.specs.Kids.{Kid, at, begun_plot, tree_of, trees_in, child_node, entry_found}
+use Rattle.fr_frame.specs.Kids.{Kid, at, begun_plot, tree_of, trees_in, child_node, entry_node_found}
 use Rattle.fr_store.specs.Ways.{kid_nth, Reaches, node_along}
 use Rattle.fr_store.specs.WayLaws.{tree_of_nth, count_in}
 
@@ -267,7 +267,7 @@ module _ (agree : LookupsAgree) (table : Table) (root : ShapeId) (plan : Plan) (
           of_child tracker next.node pointed.items.0 (pointed.items.2 ∙ sym number) (node_is ∙ same) next.shape
 
       entry_same : (of_key : Bool) (next : NodeId) → looked_up plan is.found (entry_step of_key) ≡ Some next
-          → unwrap_or (entry_found plan node of_key) (record { 0 = 0 }) ≡ next
+          → unwrap_or (entry_node_found plan node of_key) (record { 0 = 0 }) ≡ next
       entry_same true next e = rw (is.there, e) refl
       entry_same false next e = rw (is.there, e) refl
 

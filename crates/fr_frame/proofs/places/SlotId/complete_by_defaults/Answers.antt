@@ -1,5 +1,5 @@
 use Rattle.std.proofs.Common.{◌≡◌, List, None, refl, sym, subst, arith}
-use Rattle.fr_frame.specs.Common.{FillColumn, IfErr, IfInUse, Slot, WhyNotDefault, left_out, shape_of}
+use Rattle.fr_frame.specs.Common.{FillColumn, IfErr, IfInUse, Slot, WhyNotDefault, first_hole_left, shape_of}
 use Rattle.std.proofs.lemmas.Grind.{common_steps}
 use Rattle.std.proofs.lemmas.Result.{on_ok_weaker, IfErr-weaker}
 use Rattle.fr_frame.proofs.DefaultedLaws.{HasTaken, has_taken, unmet_so, may_after, planned_after, tracker_so, left_so, there_so, invalid_so, filled_so}
@@ -26,9 +26,9 @@ took g c =
 
 -- and nothing of it is left out
 whole : (g : Over) (c : In_ok-require_full_initialization g) → IfInUse c.require_full_initialization.new.slots c.args.self.0
-    (λ at. left_out (shape_of c.args.plan.now at.node) at.body ≡ None)
+    (λ at. first_hole_left (shape_of c.args.plan.now at.node) at.body ≡ None)
 whole g c =
-    subst (λ (slots : List Slot). IfInUse slots c.args.self.0 (λ at. left_out (shape_of c.args.plan.now at.node) at.body ≡ None))
+    subst (λ (slots : List Slot). IfInUse slots c.args.self.0 (λ at. first_hole_left (shape_of c.args.plan.now at.node) at.body ≡ None))
     (sym c.require_full_initialization.ensures.unchanged) c.in_ok-require_full_initialization.ensures.full
 
 pub returns-in_err-fill_defaults-clause-why : goal.returns-in_err-fill_defaults-clause-why

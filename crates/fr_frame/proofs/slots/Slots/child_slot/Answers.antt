@@ -1,5 +1,5 @@
 use Rattle.std.proofs.Common.{ap, sym, ◌∙◌, arith}
-use Rattle.fr_frame.specs.Common.{Node, Rope, Slot, SlotId, body_of, body_with, cell_at, items_of, option_and_then, slot_of_cell}
+use Rattle.fr_frame.specs.Common.{Node, Rope, Slot, SlotId, body_of, body_with, cell_at, held_items, option_and_then, slot_of_cell}
 use Rattle.fr_frame.proofs.RawLaws.{child_of_list, child_of_none, child_seen}
 use Rattle.fr_frame.proofs.SlotLaws.{past_seen}
 use Rattle.fr_frame.proofs.slots.Slots.child_slot.Goals as goal
@@ -24,7 +24,7 @@ pub returns-in-List : goal.returns-in-List
 returns-in-List c = record {
   slot =
       c.slot_of_item.ensures ∙ ap (λ (rope : Rope SlotId). option_and_then slot_of_cell
-      (cell_at (body_with (items_of c.self.inside.entries) c.args.id.0 rope.items (body_of c.in-List.place.partial)) c.args.i))
+      (cell_at (body_with (held_items c.self.inside.entries) c.args.id.0 rope.items (body_of c.in-List.place.partial)) c.args.i))
       c.deref.ensures
       ∙ sym (child_of_list c.self.inside.entries c.args.self.now c.self.view_is c.args.id.0 c.idx.result c.args.i c.get.result.now
       c.idx.ensures.number (omega (arith, c.len.ensures.count, c.if-id-len.false)) c.get.ensures.value c.in-List.place

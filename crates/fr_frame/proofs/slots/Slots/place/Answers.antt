@@ -1,5 +1,5 @@
 use Rattle.std.proofs.Common.{◌≡◌, Some, slice_get, option_map, ap, sym, ◌∙◌, arith}
-use Rattle.fr_frame.specs.Common.{items_of, outlined}
+use Rattle.fr_frame.specs.Common.{held_items, outlined}
 use Rattle.fr_frame.proofs.SlotLaws.{no_place, node_seen, past_seen, with_place}
 use Rattle.fr_values.specs.SliceLaws.{read}
 use Rattle.fr_frame.proofs.slots.Slots.place.Goals as goal
@@ -20,7 +20,7 @@ returns-in-Free c =
       place =
           sym (ap (option_map outlined)
           (node_seen c.self.inside.entries c.args.self.now c.self.view_is c.args.id.0 c.get.result.now here
-          ∙ no_place c.get.result.now c.in-Free.is (items_of c.self.inside.entries) c.args.id.0));
+          ∙ no_place c.get.result.now c.in-Free.is (held_items c.self.inside.entries) c.args.id.0));
     }
 
 pub returns-in-Used : goal.returns-in-Used
@@ -30,7 +30,7 @@ returns-in-Used c =
     (omega (arith, c.len.ensures.count, c.if-id-len.false)) c.get.ensures.value in
     record {
       place =
-          with_place c.get.result.now c.in-Used.place c.in-Used.is (items_of c.self.inside.entries) c.args.id.0
+          with_place c.get.result.now c.in-Used.place c.in-Used.is (held_items c.self.inside.entries) c.args.id.0
           ∙ sym (ap (option_map outlined)
           (node_seen c.self.inside.entries c.args.self.now c.self.view_is c.args.id.0 c.get.result.now here));
     }

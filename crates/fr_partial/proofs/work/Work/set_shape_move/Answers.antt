@@ -1,11 +1,11 @@
 use Rattle.std.proofs.Common.{◌≡◌, ℕ, List, true, slice_index, sym, ap, ◌∙◌, subst, arith}
-use Rattle.fr_partial.specs.Common.{IsUnconverted, Room, RoseBy, Table, Val, converted, converts, copies_to_convert, def_of, dyn_view, fits, occurs, shape_at, takes_shape, view}
+use Rattle.fr_partial.specs.Common.{IsUnconverted, Room, RoseBy, Table, Val, converted, converts_at, copies_to_convert, def_of, dyn_view, fits, occurs, shape_at, takes_shape, view}
 use Rattle.fr_partial.proofs.PutLaws.{converted_seen, converts_seen, converts_to, not_taken, only_copies, taken, takes_seen, unconverted}
 use Rattle.fr_partial.proofs.work.Work.set_shape_move.Goals as goal
 use Rattle.fr_partial.proofs.work.Work.set_shape_move.Goals.{After-converts, After-takes_shape, Then-converts}
 
 -- whether the place converts a value of that shape
-told : (c : After-converts) → converts c.args.self.now.shapes (shape_at c.args.self.now) c.args.value.shape ≡ c.converts.result
+told : (c : After-converts) → converts_at c.args.self.now.shapes (shape_at c.args.self.now) c.args.value.shape ≡ c.converts.result
 told c =
     sym (converts_seen c.place.ensures.seen c.shape-actual.result.0 c.args.value.shape c.shape-actual.ensures.shape)
     ∙ sym c.converts.ensures
@@ -17,7 +17,7 @@ takes c =
     sym (takes_seen c.place.ensures.seen c.shape-actual.result.0 c.args.value.shape c.shape-actual.ensures.shape)
     ∙ sym c.takes_shape.ensures
 
-as_other : (c : Then-converts) → converts c.args.self.now.shapes (shape_at c.args.self.now) c.args.value.shape ≡ true
+as_other : (c : Then-converts) → converts_at c.args.self.now.shapes (shape_at c.args.self.now) c.args.value.shape ≡ true
 as_other c =
     sym (converts_seen c.place.ensures.seen c.shape-actual.result.0 c.args.value.shape c.shape-actual.ensures.shape)
     ∙ sym c.converts.ensures ∙ c.if-converts.true
