@@ -27,13 +27,6 @@ module _ {X : Type 0} (form : Data → Option X) where
   abbrev pub IsSoFar : List Value → ℕ → List X → Type 0
   IsSoFar vs i xs = behind xs (left vs i) ≡ each form (items_view vs)
 
-  none_before : (o : Option (List X)) → behind [] o ≡ o
-  none_before None = refl
-  none_before (Some xs) = refl
-
-  pub so_far_start : (vs : List Value) → IsSoFar vs 0 []
-  so_far_start vs = none_before (each form (items_view vs))
-
   one_more : (xs : List X) (x : X) (o : Option (List X)) → behind xs (o >>= λ ys. Some (x ∷ ys)) ≡ behind (xs ++ x ∷ []) o
   one_more xs x None = refl
   one_more xs x (Some ys) = ap Some (sym (append_assoc xs (x ∷ []) ys))

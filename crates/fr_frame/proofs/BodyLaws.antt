@@ -1,6 +1,6 @@
 -- What a place comes to, and its tokens.
 use Rattle.std.proofs.Common.{◌≡◌, ℕ, zero, suc, ◌+◌, Bool, true, false, List, [], ◌∷◌, length, replicate, option_map, Option, Some, None, IsSome, refl, sym, ◌∙◌, ap, arith, if◌then◌else◌}
-use Rattle.fr_frame.specs.Common.{Body, Cell, Conserved, ContentKind, Def, HasAllChildren, IfSome, IsFullAs, ItemsKind, Tracker, Val, Vals, Value, absent, as_content, as_elements, as_entries, as_fields, as_items, begun_body, cells_occur, cells_of_vals, entered_body, first, given, made, no_vals, occurs, placed, vals_occur, vals_view, value_of, values_of, whole_body}
+use Rattle.fr_frame.specs.Common.{Cell, Conserved, ContentKind, Def, IfSome, IsFullAs, ItemsKind, Tracker, Val, Vals, Value, absent, as_content, as_elements, as_entries, as_fields, as_items, begun_body, cells_occur, cells_of_vals, first, given, made, no_vals, occurs, placed, vals_occur, vals_view, value_of, values_of}
 use Rattle.fr_shape.specs.declared.shape.ShapeId.{ShapeId}
 use Rattle.fr_model.specs.Complete.{value_as}
 use Rattle.fr_model.specs.Places.{vals_nth}
@@ -9,17 +9,6 @@ use Rattle.fr_model.specs.Step.{parts_as}
 use Rattle.fr_model.specs.Well.{PointsTo}
 use Rattle.fr_frame.specs.Bodies.{boxes, can_make, gathers, is_around, is_one}
 use Rattle.fr_values.specs.CellLaws.{values_occur}
-
--- a place with a value lacks no child
-pub value_has_all : (body : Body) → IsSome (value_of body) → HasAllChildren body
-value_has_all entered_body h = tt
-value_has_all (whole_body v) h = tt
-value_has_all (begun_body tracker cells) h = go (can_make tracker cells) (values_of cells) h
-  where
-    go : (can : Bool) (values : Option Vals) → IsSome (if can then made tracker values else None) → IsSome values
-    go true (Some vs) h = refl
-    go true None h = absurd (cc)
-    go false values h = absurd (cc)
 
 -- a place whose children can make a value, and are all there, has that value
 pub value_made : (tracker : Tracker) (cells : List Cell) → can_make tracker cells ≡ true → value_of (begun_body tracker cells) ≡ made tracker (values_of cells)
@@ -149,9 +138,6 @@ boxless_value tracker cells vs v no_box are is =
 vals_cells : (vs : Vals) (t : ℕ) → cells_occur (cells_of_vals vs) t ≡ vals_occur vs t
 vals_cells no_vals t = refl
 vals_cells (first v vs) t = ap (λ (n : ℕ). occurs v t + n) (vals_cells vs t)
-
-pub whole_as_meant : (v w : Val) → Some v ≡ Some w → whole_body v ≡ whole_body w
-whole_as_meant v w e = let same : v ≡ w = cc in ap whole_body same
 
 -- a value's parts have its tokens
 

@@ -1,9 +1,9 @@
 -- A place whose value leaves it.
 use Rattle.std.proofs.Common.{◌≡◌, ◌≢◌, ◌⊎◌, ℕ, zero, suc, ◌+◌, Bool, true, false, List, [], ◌∷◌, Option, Some, None, IsSome, IsSomeAnd, is_some, slice_get, set, nat_eq, inl, inr, refl, sym, ◌∙◌, ap, ap₂, subst, arith, if◌then◌else◌}
-use Rattle.fr_frame.specs.Common.{Becomes, Body, Cell, Conserved, FrameOwner, Heap, IfInUse, IsInUse, IsSetBody, Node, PartialValue, Place, RoseBy, Shows, Slot, SlotId, Tracker, Val, Value, absent, and_item_cell, begun_body, body_occurs, body_of, cell_at, entered_body, gives, heap_of, held_by, made, node_in, node_of, option_and_then, placed, slots_occur, unlinked, unlinks, value_of, value_of_cell, values_of, view, whole_body, with_body, with_cell, with_ended, with_slot, without, without_cell}
+use Rattle.fr_frame.specs.Common.{Becomes, Body, Cell, Conserved, FrameOwner, Heap, IfInUse, IsInUse, Node, PartialValue, Place, Shows, Slot, SlotId, Tracker, Val, Value, absent, and_item_cell, begun_body, body_of, cell_at, entered_body, gives, heap_of, held_by, made, node_in, node_of, option_and_then, placed, unlinked, unlinks, value_of, value_of_cell, values_of, view, whole_body, with_body, with_cell, with_ended, with_slot, without, without_cell}
 use Rattle.fr_frame.specs.Bodies.{can_make, unlinked_by}
 use Rattle.fr_frame.specs.Handing.{MayTake, handed, unhanded, IsHanded, IsMadeWhole, IsTakenWhole, IsWhole}
-use Rattle.fr_frame.specs.Heap.{ends, IsItemOf}
+use Rattle.fr_frame.specs.Heap.{ends}
 use Rattle.fr_frame.specs.declared.places.Taker.{Taker}
 use Rattle.fr_frame.proofs.HeapLaws.{changed, shown_is, slot_twice, with_body_twice, with_here, with_other}
 use Rattle.fr_values.specs.SliceLaws.{same_number, set_gets}
@@ -60,10 +60,6 @@ unlinked_begun n i tracker cells = go (slice_get cells i)
     go (Some (placed m)) = by (nat_eq m n)
     go _ = (cells, refl, refl)
 
-set_unlinked : (n i : ℕ) (body : Body) → IsSetBody body → IsSetBody (unlinked n i body)
-set_unlinked n i (begun_body tracker cells) h = let left = unlinked_begun n i tracker cells in rw left.1 h
-set_unlinked n i _ h = absurd h
-
 ended_unlinked : (n i : ℕ) (v : Val) (body : Body) → with_ended i v (unlinked n i body) ≡ with_ended i v body
 ended_unlinked n i v (begun_body tracker cells) =
     let left = unlinked_begun n i tracker cells in
@@ -84,11 +80,6 @@ pub held_so : (found : Option Node) (i : ℕ) (c : Cell) → option_and_then (λ
     → IsSomeAnd found (λ (at : Node). cell_at at.body i ≡ Some c)
 held_so (Some at) i c e = e
 held_so None i c e = cc
-
-child_of : (heap : Heap) (owner : FrameOwner) (c : Cell) → held_by heap owner ≡ Some c
-    → (parent : SlotId) × (i : ℕ) × (owner ≡ FrameOwner.Child parent i)
-child_of heap FrameOwner.Root c e = cc
-child_of heap (FrameOwner.Child parent i) c e = (parent, i, refl)
 
 -- the value of the place in slot n may be taken so, where what its owner has stays as it is
 may_same : (taker : Taker) (n : ℕ) (owner : FrameOwner) (a b : Heap) → (held_by a owner ≡ Some (placed n) → (parent : SlotId) (i : ℕ)
@@ -116,18 +107,7 @@ module _ (heap : Heap) (n : ℕ) (at : Node) (here : heap n ≡ Some at) (none :
         ap (option_and_then (λ (x : Node). cell_at x.body i)) (above_left ∙ ap (changed (unlinked n i)) above.1)
         ∙ cell_left above.0.body i n above.2
 
-    set_left : IsItemOf (FrameOwner.Child parent i) heap
-        → IsItemOf (FrameOwner.Child parent i) (without heap n (FrameOwner.Child parent i))
-    set_left h =
-        let above = found_so (heap parent.0) (λ (x : Node). IsSetBody x.body) h in
-        subst (λ (found : Option Node). IsSomeAnd found (λ (x : Node). IsSetBody x.body))
-        (sym (above_left ∙ ap (changed (unlinked n i)) above.1)) (set_unlinked n i above.0.body above.2)
-
 -- A whole place.
-
-pub whole_partial : (partial : PartialValue) → IsWhole (body_of partial) → (value : Value) × (partial ≡ PartialValue.Whole value)
-whole_partial (PartialValue.Whole value) h = (value, refl)
-whole_partial _ h = absurd h
 
 pub no_child : (body : Body) → IsWhole body → (i n : ℕ) → cell_at body i ≡ Some (placed n) → ⊥
 no_child (whole_body v) h i n e = cc
@@ -150,12 +130,6 @@ module _ (slots left : List Slot) (n : ℕ) (owner : FrameOwner) (partial : Part
   is_owned : held_by (heap_of slots) owner ≡ Some (placed n)
   is_owned = ap (held_by (heap_of slots)) (sym owner_is) ∙ its (λ (at : Node). held_by (heap_of slots) at.owner ≡ Some (placed n)) owned
 
-  pub its_child : (parent : SlotId) × (i : ℕ) × (owner ≡ FrameOwner.Child parent i)
-  its_child = child_of (heap_of slots) owner (placed n) is_owned
-
-  pub its_value : (value : Value) × (partial ≡ PartialValue.Whole value)
-  its_value = whole_partial partial (subst IsWhole (its (λ (at : Node). at.body ≡ body_of partial) of_body) its_node.2)
-
   pub taken_whole : (parent : SlotId) (i : ℕ) (value : Value)
       → IfInUse slots n (λ (at : Node). Shows left (without (heap_of slots) n at.owner))
       → owner ≡ FrameOwner.Child parent i → partial ≡ PartialValue.Whole value
@@ -177,10 +151,6 @@ module _ (slots left : List Slot) (n : ℕ) (owner : FrameOwner) (partial : Part
       left_so =
           subst (λ (o : FrameOwner). Shows left (without (heap_of slots) n o)) (owner_is ∙ child)
           (its (λ (at : Node). Shows left (without (heap_of slots) n at.owner)) shown)
-
-pub held_there : (left : List Slot) (parent : SlotId) (i : ℕ) (c : Cell) → held_by (heap_of left) (FrameOwner.Child parent i) ≡ Some c
-    → IfInUse left parent.0 (λ (at : Node). cell_at at.body i ≡ Some c)
-held_there left parent i c e = held_so (heap_of left parent.0) i c e
 
 -- it is handed over as the value of the place that is in the slot
 pub handed_so : (taker : Taker) (before after : List Slot) (n : ℕ) (at : Node) → heap_of before n ≡ Some at
@@ -206,16 +176,6 @@ pub ends_unlinked : (heap : Heap) (n : ℕ) (parent : SlotId) (i : ℕ) (v : Val
 ends_unlinked heap n parent i v =
     with_body_twice (with_slot heap n None) parent.0 (unlinked n i) (with_ended i v)
     ∙ (λ j. with_body (with_slot heap n None) parent.0 (λ body. ended_unlinked n i v body j))
-
--- the set that had the item is begun as one still
-pub set_still : (slots left : List Slot) (n : ℕ) (parent : SlotId) (i : ℕ) (v : Val) → IsTakenWhole slots left n (FrameOwner.Child parent i) v
-    → IfInUse slots n (λ (at : Node). MayTake Taker.Set n at.owner (heap_of slots)) → IfInUse left parent.0 (λ (at : Node). IsSetBody at.body)
-set_still slots left n parent i v t may =
-    let both : MayTake Taker.Set n (FrameOwner.Child parent i) (heap_of slots) =
-    subst (λ (o : FrameOwner). MayTake Taker.Set n o (heap_of slots)) t.of_owner
-    (so_of (heap_of slots n) t.at (λ (at : Node). MayTake Taker.Set n at.owner (heap_of slots)) t.here may) in
-    subst (IsItemOf (FrameOwner.Child parent i)) (sym (shown_is left (without (heap_of slots) n (FrameOwner.Child parent i)) t.left))
-    (set_left (heap_of slots) n t.at t.here (λ k. no_child t.at.body (subst IsWhole (sym t.whole) tt) k n) parent i both.0 both.1)
 
 -- A place that is made whole where it is.
 pub made_here : (slots : List Slot) (n : ℕ) (at : Place) → slice_get slots n ≡ Some (Slot.Used at) → (partial : PartialValue)
@@ -251,9 +211,6 @@ module _ (before mid : List Slot) (n : ℕ) (m : IsMadeWhole before mid n) where
 
   mid_is : heap_of mid ≡ with_slot (heap_of before) n (Some now)
   mid_is = shown_is mid (with_slot (heap_of before) n (Some now)) m.now
-
-  pub made_whole : IfInUse mid n (λ (at : Node). IsWhole at.body)
-  made_whole = of_node (heap_of mid n) now (λ (at : Node). IsWhole at.body) mid_here tt
 
   pub may_still : (taker way : Taker) → taker ≡ way → IfInUse before n (λ (at : Node). MayTake taker n at.owner (heap_of before))
       → IfInUse mid n (λ (at : Node). MayTake way n at.owner (heap_of mid))
@@ -304,9 +261,6 @@ module _ (before mid : List Slot) (n : ℕ) (m : IsMadeWhole before mid n) where
 
 -- There was no memory for the value: the heap is as it was.
 module _ (before mid : List Slot) (n : ℕ) (same : Shows mid (heap_of before)) where
-  pub in_use_still : (So : Node → Type 0) → IfInUse before n So → IsInUse mid n
-  in_use_still So h = ap is_some (same n) ∙ in_use before n So h
-
   left : (after : List Slot) → IfInUse mid n (λ (at : Node). Shows after (without (heap_of mid) n at.owner))
       → IfInUse before n (λ (at : Node). Shows after (without (heap_of before) n at.owner))
   left after h =
@@ -333,26 +287,3 @@ moved_conserved held after more now before ledger c change = record {
   kept_or_released = λ t. omega (arith, c.kept_or_released t, change t);
   none_falls = c.none_falls;
 }
-
--- one after the other
-pub then_conserved : (held mid after : ℕ → ℕ) (before between ledger : List ℕ) → Conserved held before mid between
-    → Conserved mid between after ledger → Conserved held before after ledger
-then_conserved held mid after before between ledger c d = record {
-  same_length = d.same_length ∙ c.same_length;
-  kept_or_released = λ t. omega (arith, c.kept_or_released t, d.kept_or_released t);
-  none_falls = λ t. omega (arith, c.none_falls t, d.none_falls t);
-}
-
--- what was put at a place was taken out and released
-pub released_conserved : (held : ℕ → ℕ) (mid after : List Slot) (n : ℕ) (before between ledger : List ℕ)
-    → Conserved held before (slots_occur mid) between → IfInUse mid n (λ (at : Node). RoseBy (body_occurs at.body) between ledger)
-    → IfInUse mid n (λ (at : Node). (t : ℕ) → slots_occur mid t ≡ slots_occur after t + body_occurs at.body t)
-    → Conserved held before (slots_occur after) ledger
-released_conserved held mid after n before between ledger c rose out =
-    let there = found_so (heap_of mid n) (λ (at : Node). RoseBy (body_occurs at.body) between ledger) rose in
-    let less = so_of (heap_of mid n) there.0
-    (λ (at : Node). (t : ℕ) → slots_occur mid t ≡ slots_occur after t + body_occurs at.body t) there.1 out in record {
-      same_length = there.2.same_length ∙ c.same_length;
-      kept_or_released = λ t. omega (arith, c.kept_or_released t, there.2.each t, less t);
-      none_falls = λ t. omega (arith, c.none_falls t, there.2.each t);
-    }

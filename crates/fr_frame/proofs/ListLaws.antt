@@ -1,8 +1,7 @@
 -- An item that is entered into a list: it gets its room and its slot at once.
-use Rattle.std.proofs.Common.{◌≡◌, ℕ, Bool, true, false, List, [], ◌∷◌, ◌++◌, length, Option, Some, None, IsSomeAnd, slice_get, option_map, refl, sym, ◌∙◌, ap, subst, if◌then◌else◌}
+use Rattle.std.proofs.Common.{◌≡◌, ℕ, true, List, [], ◌∷◌, ◌++◌, length, Option, Some, None, IsSomeAnd, slice_get, option_map, refl, sym, ◌∙◌, ap, subst}
 use Rattle.std.proofs.lemmas.List.{set_at}
-use Rattle.fr_frame.specs.Common.{Body, Cell, Def, FrameOwner, Heap, Node, NodeId, Plan, SlotId, Table, TypePlanNode, absent, added, begun_body, body_occurs, cell_at, count_cells, def_of, entered_body, held_by, is_list_body, linked, links, no_vals, option_and_then, placed, product, shape_of, unwrap_or, whole_body, with_body, with_placed, with_slot}
-use Rattle.fr_shape.specs.Fills.{is_empty_struct}
+use Rattle.fr_frame.specs.Common.{Body, Cell, FrameOwner, Heap, Node, NodeId, Plan, SlotId, Table, TypePlanNode, absent, added, begun_body, cell_at, count_cells, def_of, held_by, is_list_body, linked, links, option_and_then, placed, shape_of, unwrap_or, with_body, with_placed, with_slot}
 use Rattle.fr_plan.specs.Lookups.{node_at}
 use Rattle.fr_frame.specs.declared.places.Growth.{Growth}
 use Rattle.fr_values.specs.Cells.{held_value}
@@ -81,13 +80,6 @@ module _ (growth : Option Growth) (owner : FrameOwner) (heap : Heap) (parent : S
   unheld_in =
       item_unheld heap parent i next list ∙ sym (ap (λ (now : Heap). held_value (held_by now owner)) grown_is
       ∙ ap (λ (o : FrameOwner). held_value (held_by (with_body heap parent.0 added) o)) child)
-
-pub fresh_occurs : (def : Def) (t : ℕ) → body_occurs (fresh_body def) t ≡ 0
-fresh_occurs def t = go (is_empty_struct def)
-  where
-    go : (empty : Bool) → body_occurs (if empty then whole_body (product no_vals) else entered_body) t ≡ 0
-    go true = refl
-    go false = refl
 
 -- what is put at a place that is just entered, of a node that is found in the plan
 pub fresh_by : (table : Table) (plan : Plan) (id : NodeId) (node : TypePlanNode) (body : Body) → node_at plan id ≡ Some node

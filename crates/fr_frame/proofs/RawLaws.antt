@@ -11,7 +11,6 @@ use Rattle.fr_frame.specs.RawSlots.{with_stored, IsReformed}
 use Rattle.fr_frame.proofs.HeapLaws.{inside, occur_set}
 use Rattle.fr_values.specs.SliceLaws.{read}
 use Rattle.fr_frame.proofs.PlaceLaws.{marks, occur_change, shows}
-use Rattle.fr_values.specs.SliceLaws.{set_as_was}
 use Rattle.fr_frame.proofs.SeenLaws.{seen_length, seen_set}
 use Rattle.fr_frame.proofs.SlotLaws.{get_seen, no_place, node_seen, set_seen, used_in, IsNoPlace}
 
@@ -229,11 +228,6 @@ module _ (raw seen : List Slot) (is : slots_seen raw ≡ seen) (n at : ℕ) (slo
 
   pub slot_used : is_used slot ≡ true
   slot_used = subst (λ (o : Option Slot). IsSomeAnd o (λ (s : Slot). is_used s ≡ true)) slot_there (used_in raw seen is n used)
-
-  pub stays_seen : now ≡ slot → slots_seen (set raw at now) ≡ seen
-  stays_seen same =
-      ap₂ (λ (k : ℕ) (s : Slot). slots_seen (set raw k s)) number same
-      ∙ ap (λ (slots : List Slot). slots_seen slots) (set_as_was raw n slot slot_there) ∙ is
 
   module _ (stored : Bool) (marked : now ≡ with_stored stored slot) where
     seen_as : Marked (held_items raw) n stored slot

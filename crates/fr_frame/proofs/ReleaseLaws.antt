@@ -3,7 +3,7 @@ use Rattle.std.proofs.Common.{◌≡◌, ◌≢◌, ◌⊎◌, ℕ, suc, ◌+◌
 use Rattle.std.proofs.lemmas.Bool.{cases_lt}
 use Rattle.std.specs.Prelude.{slice_index}
 use Rattle.fr_frame.specs.Common.{Room, Room_fewer, Room_risen, Room_same, RoseBy, Shows, Slot, both, heap_of, slot_occurs, slots_occur, with_slot}
-use Rattle.fr_frame.proofs.HeapLaws.{free_holds, past_end, with_here, with_other}
+use Rattle.fr_frame.proofs.HeapLaws.{free_holds, with_here, with_other}
 use Rattle.fr_values.specs.SliceLaws.{number_cases}
 
 -- of so many slots no place is in the first n, nor in any behind the last
@@ -37,28 +37,7 @@ pub record Releasing (all now : List Slot) (before ledger : List ℕ) (n : ℕ) 
   pub room : Room (slots_occur now) ledger
   pub free : AreFree now (length all) n
 
-pub releasing_starts : (all : List Slot) (ledger : List ℕ) → Room (slots_occur all) ledger → Releasing all all ledger ledger 0
-releasing_starts all ledger room = record {
-  same_length = refl;
-  released = λ t. refl;
-  room = room;
-  free = λ k h. go k h;
-}
-  where
-    go : (k : ℕ) → (k < 0) ⊎ (length all ≤ k) → heap_of all k ≡ None
-    go k (inl h) = absurd (omega arith)
-    go k (inr h) = past_end all k h
-
 module _ (all now : List Slot) (before ledger : List ℕ) (n : ℕ) (so_far : Releasing all now before ledger n) where
-  -- the slot is free already
-  pub releasing_none : heap_of now n ≡ None → Releasing all now before ledger (n + 1)
-  releasing_none none = record {
-    same_length = so_far.same_length;
-    released = so_far.released;
-    room = so_far.room;
-    free = more_free now now (length all) n so_far.free none (λ k ne. refl);
-  }
-
   module _ (next : List Slot) (gone : ℕ → ℕ) (left : (t : ℕ) → slots_occur now t ≡ slots_occur next t + gone t) where
     pub releasing_room : Room gone ledger
     releasing_room = Room_fewer gone (slots_occur now) ledger (λ t. omega (arith, left t)) so_far.room

@@ -1,5 +1,5 @@
 -- What an outline keeps: how many children there are, as what the place is begun, and all that isn't a list's children.
-use Rattle.std.specs.Prelude.{◌≡◌, Bool, true, false, List, [], ◌∷◌, length, replicate, Option, Some, None, is_some, IsSome, IsSomeAnd, if◌then◌else◌}
+use Rattle.std.specs.Prelude.{◌≡◌, Bool, true, false, List, [], ◌∷◌, length, replicate, Option, Some, None, is_some, IsSomeAnd, if◌then◌else◌}
 use Rattle.std.specs.Borrow.{Bor}
 use Rattle.std.specs.Option.{option_copied, option_map}
 use Rattle.std.proofs.Common.{refl, sym, ◌∙◌, ap}
@@ -87,14 +87,8 @@ module _ (one other : Node) (same : outlined one ≡ outlined other) where
   pub same_node : one.node ≡ other.node
   same_node = ap (λ (at : Node). at.node) same
 
-  pub same_owner : one.owner ≡ other.owner
-  same_owner = ap (λ (at : Node). at.owner) same
-
   pub same_stored : one.stored ≡ other.stored
   same_stored = ap (λ (at : Node). at.stored) same
-
-  pub same_depth : one.depth ≡ other.depth
-  same_depth = ap (λ (at : Node). at.depth) same
 
   pub same_body : outline one.body ≡ outline other.body
   same_body = ap (λ (at : Node). at.body) same
@@ -136,15 +130,6 @@ none_found (Some at) e = cc
 
 module _ (seen : Option (Bor Place)) (found : Option Node)
     (told : option_map outlined (option_map node_of (option_copied seen)) ≡ option_map outlined found) where
-  pub place_there : is_some seen ≡ true → IsSome found
-  place_there some = go seen found told some
-    where
-      go : (s : Option (Bor Place)) (f : Option Node) → option_map outlined (option_map node_of (option_copied s)) ≡ option_map outlined f
-          → is_some s ≡ true → IsSome f
-      go (Some place) (Some at) e some = refl
-      go (Some place) None e some = cc
-      go None f e some = cc
-
   pub place_missing : is_some seen ≡ false → found ≡ None
   place_missing none = go seen found told none
     where

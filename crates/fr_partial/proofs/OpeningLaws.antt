@@ -1,6 +1,6 @@
 -- Beginning a list, an array, a map or a set, as a place's definition tells: what it comes to.
 use Rattle.std.proofs.Common.{◌≡◌, ℕ, Bool, true, false, Option, Some, None, IsSome, refl, sym, ◌∙◌, ap, subst}
-use Rattle.fr_partial.specs.Common.{Call, Change, ComesTo, Def, EntriesKind, ItemsKind, MayOpenAs, Move, Operation, Place, Sees, ShapeId, Site, Suits, Table, Tracker, Tree, Val, as_elements, as_entries, as_items, at_shape, begun, change_at, cursor_tree, def_of, entered, fits, hole, holes, init_array_refusal, init_list_refusal, init_map_refusal, init_set_refusal, is_begun, is_dynamic, list_of, opened, opened_as, opened_value, option_or, parts_as, shape_at, tracker_of, tree_at, unit, whole}
+use Rattle.fr_partial.specs.Common.{Call, Change, ComesTo, Def, EntriesKind, ItemsKind, MayOpenAs, Move, Operation, Sees, ShapeId, Site, Suits, Table, Tracker, Tree, Val, as_elements, as_entries, as_items, at_shape, begun, cursor_tree, def_of, entered, fits, hole, init_array_refusal, init_list_refusal, init_map_refusal, init_set_refusal, is_begun, is_dynamic, list_of, option_or, parts_as, shape_at, tracker_of, unit, whole}
 use Rattle.fr_shape.specs.Val.{map_of, set_of}
 use Rattle.fr_model.specs.Collections.{unless_map, unless_set}
 use Rattle.fr_model.specs.Items.{unless_list}
@@ -16,31 +16,6 @@ use Rattle.fr_partial.proofs.DecidingLaws.{remains}
 use Rattle.fr_partial.proofs.FitLaws.{fits_apart}
 use Rattle.fr_partial.proofs.SeenLaws.{array_seen, def_seen, dynamic_seen, list_seen, map_seen, set_seen}
 use Rattle.fr_partial.proofs.StateLaws.{IsSiteInOrder}
-use Rattle.fr_partial.proofs.TreeLaws.{alike_here, unchanged}
-
--- A place that is opened so is opened as its definition tells.
-
-opened_alike : (def : Def) (tracker : Tracker) (count : ℕ) (tree : Tree) → MayOpenAs def tracker count tree
-    → opened_as tracker count tree ≡ opened def tree
-opened_alike def tracker count entered may =
-    ap (λ (f : Tracker). begun f (holes count)) may.0 ∙ ap (λ (n : ℕ). begun (tracker_of def) (holes n)) may.1
-opened_alike def tracker count (whole v) may = ap (λ (f : Tracker). opened_value f v (parts_as f v)) may.0
-opened_alike def tracker count _ may = refl
-
-pub opened_so : (def : Def) (tracker : Tracker) (count : ℕ) (place : Place) (tree : Tree) → MayOpenAs def tracker count (tree_at place tree)
-    → change_at place (opened_as tracker count) tree ≡ change_at place (opened def) tree
-opened_so def tracker count place tree may =
-    alike_here place (opened_as tracker count) (opened def) tree (opened_alike def tracker count (tree_at place tree) may)
-
--- one that is begun stays as it is
-begun_stays : (def : Def) (tree : Tree) → is_begun tree ≡ true → tree ≡ opened def tree
-begun_stays def (begun tracker ts) is = refl
-begun_stays def _ is = cc
-
-pub stays_so : (def : Def) (place : Place) (tree : Tree) → is_begun (tree_at place tree) ≡ true
-    → tree ≡ change_at place (opened def) tree
-stays_so def place tree is =
-    sym (unchanged place tree) ∙ alike_here place (λ old. old) (opened def) tree (begun_stays def (tree_at place tree) is)
 
 -- Which may be opened.
 

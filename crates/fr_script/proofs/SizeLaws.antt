@@ -1,7 +1,7 @@
 -- Counting off what the items of a list have, one after another.
-use Rattle.std.proofs.Common.{◌≡◌, ℕ, ◌+◌, ◌<◌, ◌≤◌, List, [], ◌∷◌, ◌++◌, length, get_or, take, true, false, nat_le, sum_by, sym, ap, ◌∙◌, arith}
+use Rattle.std.proofs.Common.{◌≡◌, ℕ, ◌+◌, ◌<◌, List, [], ◌∷◌, ◌++◌, length, get_or, take, true, false, nat_le, sum_by, sym, ap, ◌∙◌, arith}
 use Rattle.std.proofs.lemmas.Bool.{le-leb, lt-leb}
-use Rattle.std.proofs.lemmas.List.{take_all, take_more}
+use Rattle.std.proofs.lemmas.List.{take_more}
 use Rattle.std.proofs.lemmas.List.Sums.{sum_by_push, sum_by-take-le}
 
 module _ {X : Type 0} (f : X → ℕ) (xs : List X) (i : ℕ) (left limit : ℕ) (so_far : left + sum_by f (take i xs) ≡ limit) where
@@ -16,10 +16,6 @@ module _ {X : Type 0} (f : X → ℕ) (xs : List X) (i : ℕ) (left limit : ℕ)
     -- the next item has more than what is left
     pub too_many : left < f x → limit < sum_by f xs
     too_many more = omega (arith, with_next, sum_by-take-le f xs (i + 1))
-
-  -- all were counted off
-  pub all_counted : length xs ≤ i → left + sum_by f xs ≡ limit
-  all_counted past = ap (λ ys. left + sum_by f ys) (sym (take_all i xs past)) ∙ so_far
 
 pub is_within : (left total limit : ℕ) → left + total ≡ limit → true ≡ nat_le total limit
 is_within left total limit e = sym (le-leb total limit (omega arith))

@@ -1,7 +1,7 @@
 -- Laws of a place that is just entered, for proofs.
-use Rattle.std.proofs.Common.{◌≡◌, ℕ, Bool, true, false, refl}
+use Rattle.std.proofs.Common.{◌≡◌, Bool, true, false, refl}
 use Rattle.std.specs.Prelude.{if◌then◌else◌}
-use Rattle.fr_store.specs.Below.{Def, IsClosed, Plot, body_in, entered, entered_body, entered_plot, fresh, fresh_body, is_empty_struct, no_vals, plot_occurs, product, tree_in, whole, whole_body, whole_plot}
+use Rattle.fr_store.specs.Below.{Def, IsClosed, Plot, body_in, entered, entered_body, entered_plot, fresh, fresh_body, is_empty_struct, no_vals, product, tree_in, whole, whole_body, whole_plot}
 
 -- what lies in its slot
 abbrev pub fresh_plot : Def → Plot
@@ -29,10 +29,3 @@ fresh_closed def = go (is_empty_struct def)
     go : (b : Bool) → IsClosed (body_in (if b then whole_plot (product no_vals) else entered_plot))
     go true = tt
     go false = tt
-
-pub fresh_tokens : (def : Def) (t : ℕ) → plot_occurs (fresh_plot def) t ≡ 0
-fresh_tokens def t = go (is_empty_struct def)
-  where
-    go : (b : Bool) → plot_occurs (if b then whole_plot (product no_vals) else entered_plot) t ≡ 0
-    go true = refl
-    go false = refl

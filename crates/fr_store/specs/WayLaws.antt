@@ -143,41 +143,6 @@ uses_at (i ∷ place) k n =
 
 -- Tokens.
 
-pub occurs_put_nth : (i : ℕ) (new : Kid) (ks : Kids) (t : ℕ) → i < count_kids ks
-    → kids_occur (put_nth i new ks) t + kid_occurs (kid_nth i ks) t ≡ kids_occur ks t + kid_occurs new t
-occurs_put_nth i new no_kids t h = absurd (omega arith)
-occurs_put_nth zero new (kid k ks) t h = omega arith
-occurs_put_nth (suc i) new (kid k ks) t h =
-    let rest : kids_occur (put_nth i new ks) t + kid_occurs (kid_nth i ks) t ≡ kids_occur ks t + kid_occurs new t
-    = occurs_put_nth i new ks t (omega arith) in
-    omega arith
-
-pub occurs_put_at : (place : Place) (new k : Kid) (t : ℕ) → Reaches place k
-    → kid_occurs (put_at place new k) t + kid_occurs (kid_at place k) t ≡ kid_occurs k t + kid_occurs new t
-occurs_put_at [] new k t reach = omega arith
-occurs_put_at (i ∷ place) new (at slot stored (begun_plot tracker kids)) t reach =
-    let here = occurs_put_nth i (put_at place new (kid_nth i kids)) kids t reach.0 in
-    let rest = occurs_put_at place new (kid_nth i kids) t reach.1 in
-    omega arith
-occurs_put_at (i ∷ place) new _ t reach = absurd reach
-
-occurs_nth : (i : ℕ) (ks : Kids) (t : ℕ) → kid_occurs (kid_nth i ks) t ≤ kids_occur ks t
-occurs_nth i no_kids t = omega arith
-occurs_nth zero (kid k ks) t = omega arith
-occurs_nth (suc i) (kid k ks) t = let rest = occurs_nth i ks t in omega arith
-
-occurs_below : (i : ℕ) (k : Kid) (t : ℕ) → kid_occurs (kid_below i k) t ≤ kid_occurs k t
-occurs_below i (at slot stored (begun_plot tracker kids)) t = occurs_nth i kids t
-occurs_below i _ t = omega arith
-
--- a part holds no token oftener than the whole
-pub occurs_at : (place : Place) (k : Kid) (t : ℕ) → kid_occurs (kid_at place k) t ≤ kid_occurs k t
-occurs_at [] k t = omega arith
-occurs_at (i ∷ place) k t =
-    let rest = occurs_at place (kid_below i k) t in
-    let here = occurs_below i k t in
-    omega arith
-
 -- the tokens are those of the tree
 mutual
   pub tree_tokens : (k : Kid) (t : ℕ) → kid_occurs k t ≡ tree_occurs (tree_of k) t

@@ -87,18 +87,6 @@ none_indexed bits values base index room there apart e = record {
   just = subst (λ (n : ℕ). Indexes index (take n values)) (sym e.count) e;
 }
 
--- another index of the same
-pub indexed_by : (bits : BitSet) (values : List Value) (base : Base) (index other : ValueIndex) (n : ℕ) → IsIndexed bits values base index
-    → n ≤ count_in_base base → Indexes other (take n values) → IsIndexed bits values base other
-indexed_by bits values base index other n is h e =
-    let count : other.len ≡ n = e.count ∙ length-take-le n values (omega (arith, h, is.apart.within)) in record {
-      room = is.room;
-      there = is.there;
-      apart = is.apart;
-      within = omega (arith, count);
-      just = subst (λ (m : ℕ). Indexes other (take m values)) (sym count) e;
-    }
-
 -- What it tells.
 
 either_or : (a b c : Bool) → a || (b || c) ≡ (a || b) || c

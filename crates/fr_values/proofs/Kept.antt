@@ -121,13 +121,6 @@ entry_conserved held before es new between after k v rest last is c d = record {
   none_falls = λ t. omega (arith, c.none_falls t, d.none_falls t);
 }
 
--- and there was room for its key and what it took the place of
-pub entry_room : (held : ℕ → ℕ) (before : List ℕ) (es : Entries) (between : List ℕ) (k v : Value) (rest last : List Value) → rest ≡ k ∷ (v ∷ last) → Room held before → Conserved held before (both (entries_occur es) (vals_occur (vals_view rest))) between → Room (both (occurs (view k)) (entries_occur es)) between
-entry_room held before es between k v rest last is room c =
-    Room_fewer (both (occurs (view k)) (entries_occur es)) (both (entries_occur es) (vals_occur (vals_view rest))) between
-    (λ t. omega (arith, ap (λ l. vals_occur (vals_view l) t) is))
-    (Room_conserved held before (both (entries_occur es) (vals_occur (vals_view rest))) between c room)
-
 -- the place of the next entry, and of those behind it
 pub placed_next : (es new : Entries) (k v : Value) (rest last : List Value) (places : List ℕ) (i : ℕ) → rest ≡ k ∷ (v ∷ last) → new ≡ with_entry_in es (view k) (view v) → drop i places ≡ entry_places es (vals_view rest) → drop (i + 1) places ≡ entry_places new (vals_view last)
 placed_next es new k v rest last places i is put placed =

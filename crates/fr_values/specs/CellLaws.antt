@@ -2,7 +2,7 @@
 use Rattle.std.proofs.Common.{◌≡◌, ◌≢◌, ◌⊎◌, ℕ, zero, suc, ◌+◌, ◌<◌, ◌≤◌, Bool, true, false, List, [], ◌∷◌, ◌++◌, length, map, replicate, Option, Some, None, IsSome, slice_get, slice_index, set, length-set, option_map, inl, inr, refl, sym, ◌∙◌, ap, subst, arith, ◌&&◌, ◌||◌, ◌↔◌}
 use Rattle.std.specs.FinSet as finite
 use Rattle.fr_values.specs.Common.{All, BitSet, Cell, Room, Room_fewer, Room_risen, Room_same, RoseBy, Val, Vals, Value, absent, both, cell, cell_occurs, cells_occur, cells_of, cells_of_vals, first, given, in_slot, is_some, no_vals, occurs, one_more, option_and_then, slot_at, slot_of_cell, unit, vals_occur, vals_view, value_at, value_occurs, value_of_cell, values_of, view}
-use Rattle.std.specs.Prelude.{not, ◌==◌, nat_lt, IsTrue, get_or}
+use Rattle.std.specs.Prelude.{not, ◌==◌, IsTrue, get_or}
 use Rattle.std.proofs.lemmas.Grind.{common_steps}
 use Rattle.std.proofs.lemmas.Bool.Decides.{nat_tests}
 use Rattle.std.proofs.lemmas.List.Elements.{All-head, All-tail}
@@ -65,9 +65,6 @@ bit_unset i j old ne = grind (arith, common_steps, nat_tests)
 
 bit_unset_here : (i : ℕ) (old : Bool) → (not (i == i) && old) ≡ false
 bit_unset_here i old = grind (arith, common_steps, nat_tests)
-
-pub bit_below : (n j : ℕ) (old : Bool) → j < n → (nat_lt j n || old) ≡ true
-bit_below n j old h = grind (arith, common_steps, nat_tests)
 
 -- The same of what contracts see.
 module _ (bits : BitSet) (vs : List Value) (cs : List Cell) (seen : cells_of bits 0 vs ≡ cs) where
@@ -274,15 +271,6 @@ pub record Releasing (all now : List Cell) (before ledger : List ℕ) (n : ℕ) 
   pub released : (t : ℕ) → slice_index ledger t + cells_occur now t ≡ slice_index before t + cells_occur all t
   pub room : Room (cells_occur now) ledger
   pub cleared : AreCleared now n
-
-pub releasing_begins : (all : List Cell) (before : List ℕ) → Room (cells_occur all) before → Releasing all all before before 0
-releasing_begins all before room = record {
-  count = refl;
-  same_length = refl;
-  released = λ t. refl;
-  room = room;
-  cleared = λ k l. absurd (omega arith);
-}
 
 module _ (all now : List Cell) (before ledger : List ℕ) (n : ℕ) (so_far : Releasing all now before ledger n) where
   taken_out : (t : ℕ) → n < length now → cells_occur (set now n absent) t + value_occurs (value_at now n) t ≡ cells_occur now t
