@@ -4,6 +4,7 @@ pub mod Loops
 pub mod Moved
 pub mod Pairs
 pub mod Parsed
+pub mod Passes
 pub mod Printing
 pub mod TableLoop
 pub mod Values

@@ -2,12 +2,15 @@ pub mod Adapter
 pub mod Causes
 pub mod DefForms
 pub mod Details
+pub mod DocHookLaws
+pub mod DocHooks
 pub mod DynForms
 pub mod FaultSteps
 pub mod Faults
 pub mod FieldForms
 pub mod FieldMembers
 pub mod FloatFree
+pub mod Integers
 pub mod Keys
 pub mod Memory
 pub mod Names

@@ -7,11 +7,13 @@ mod clean;
 mod def_form;
 mod details;
 mod device;
+mod doc_hooks;
 mod dyn_form;
 mod dyn_json;
 mod fault;
 mod field_form;
 mod field_members;
+mod integers;
 mod json_parts;
 mod laws;
 mod looping;
@@ -35,6 +37,10 @@ pub use adapters::{ReaderSource, WriterSink};
 pub use clean::{CleanSink, CleanSource};
 pub use details::{detail_of, name_of_shape};
 pub use device::{Failed, Sink, Source};
+pub use doc_hooks::{
+    CHECK_IN_ORDER, CHECK_NEVER, CHECK_NO_NEGATIVE, CHECK_NO_ZERO, CONVERT_FIRST_CHILD,
+    CONVERT_NEVER, CONVERT_NOT_ZERO, CONVERT_SAME, DocHooks, PARSE_BYTES_UTF8, PARSE_TEXT,
+};
 pub use fault::{DocFault, DocPlace, DocSize, ReadError};
 pub use fr_shape::TableFault;
 pub use laws::law_printed_float_free;

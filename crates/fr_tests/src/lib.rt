@@ -1,5 +1,6 @@
 //! Tests of what the builder stands on, over public calls alone, as a user's crate makes them:
-//! arenas, paths, tables of shapes, their lookups and rules, forms and devices.
+//! arenas, paths, tables of shapes, their lookups and rules, forms, devices and the hooks of
+//! documents.
 #![tactic(auto)]
 
 #[cfg(test)]
@@ -8,6 +9,8 @@ mod arena_tests;
 mod fill_tests;
 #[cfg(test)]
 mod form_tests;
+#[cfg(test)]
+mod hook_tests;
 #[cfg(test)]
 mod lookup_tests;
 #[cfg(test)]

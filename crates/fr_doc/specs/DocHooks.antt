@@ -1,0 +1,73 @@
+-- What the hooks mean that documents name by number.
+use Rattle.std.specs.Prelude.{ℕ, ◌==◌, nat_eq, ℤ, pos, Bool, true, false, List, codes, if◌then◌else◌}
+use Rattle.std.specs.Str.{is_utf8}
+use Rattle.fr_shape.specs.Val.{Val, Vals, Entries, unit, bool, char, int, nat, text, token, product, variant, none, some, ok, err, list_of, map_of, set_of, ptr, dyn, no_vals, first, no_entries, entry}
+use Rattle.fr_shape.specs.Look.{Table}
+use Rattle.fr_shape.specs.Fits.{fits}
+use Rattle.fr_shape.specs.Hooks.{Meaning, gives, refuses, unsupported, Meanings}
+use Rattle.fr_doc.specs.Integers.{integers, is_zero, none_is_zero, are_in_order, none_is_negative}
+use Rattle.fr_doc.specs.declared.doc_hooks.TheConstants.{CHECK_NO_ZERO, CHECK_IN_ORDER, CHECK_NEVER, CHECK_NO_NEGATIVE, CONVERT_FIRST_CHILD, CONVERT_SAME, CONVERT_NEVER, CONVERT_NOT_ZERO, PARSE_TEXT, PARSE_BYTES_UTF8}
+
+-- whether the value passes the check of this number
+abbrev pub passes : (hook : ℕ) → Val → Bool
+passes hook v =
+    if nat_eq hook CHECK_NO_ZERO then none_is_zero (integers v) else
+    if nat_eq hook CHECK_IN_ORDER then are_in_order (integers v) else
+    if nat_eq hook CHECK_NEVER then false else
+    if nat_eq hook CHECK_NO_NEGATIVE then none_is_negative (integers v) else true
+
+-- refused, as whatever is converted or parsed by a hook that refuses
+abbrev pub refused : Meaning
+refused = refuses (codes "refused")
+
+-- the value, if it fits the target
+abbrev pub if_it_fits : Table → (target : ℕ) → Val → Meaning
+if_it_fits table target v = if fits table target v then gives v else unsupported
+
+-- the first child of a product, if there is one and it fits the target
+abbrev pub first_child : Table → (target : ℕ) → (source : Val) → Meaning
+first_child table target (product (first child others)) = if_it_fits table target child
+first_child table target _ = unsupported
+
+-- refused where the value is 0
+abbrev pub unless_zero : ℤ → Meaning → Meaning
+unless_zero z otherwise = if is_zero z then refuses (codes "must not be zero") else otherwise
+
+-- an integer that isn't 0, if it fits the target
+abbrev pub not_zero : Table → (target : ℕ) → (source : Val) → Meaning
+not_zero table target (int z) = unless_zero z (if_it_fits table target (int z))
+not_zero table target (nat n) = unless_zero (pos n) (if_it_fits table target (nat n))
+not_zero table target _ = unsupported
+
+-- what the conversion of this number makes of a source
+abbrev pub converted : Table → (hook target : ℕ) → (source : Val) → Meaning
+converted table hook target source =
+    if nat_eq hook CONVERT_FIRST_CHILD then first_child table target source else
+    if nat_eq hook CONVERT_SAME then if_it_fits table target source else
+    if nat_eq hook CONVERT_NEVER then refused else
+    if nat_eq hook CONVERT_NOT_ZERO then not_zero table target source else unsupported
+
+-- a text, if it fits the target
+abbrev pub text_parsed : Table → (target : ℕ) → List ℕ → Meaning
+text_parsed table target t = if fits table target (text t) then gives (text t) else refused
+
+-- what the parsing hook of this number makes of a text
+abbrev pub parsed : Table → (hook target : ℕ) → List ℕ → Meaning
+parsed table hook target t = if nat_eq hook PARSE_TEXT then text_parsed table target t else unsupported
+
+-- bytes as a text, if they are UTF-8 and it fits the target
+abbrev pub utf8_parsed : Table → (target : ℕ) → (bytes : List ℕ) → Meaning
+utf8_parsed table target bytes = if is_utf8 bytes then text_parsed table target bytes else refused
+
+-- what the hook of this number that parses bytes makes of bytes
+abbrev pub bytes_parsed : Table → (hook target : ℕ) → (bytes : List ℕ) → Meaning
+bytes_parsed table hook target bytes = if nat_eq hook PARSE_BYTES_UTF8 then utf8_parsed table target bytes else unsupported
+
+-- the hooks that documents name by number
+abbrev pub doc_hooks : Meanings
+doc_hooks = record {
+  check = passes;
+  convert = converted;
+  parse = parsed;
+  parse_bytes = bytes_parsed;
+}
