@@ -1,3 +1,4 @@
+pub mod Children
 pub mod Dynamics
 pub mod FieldParts
 pub mod Loops

@@ -1,19 +1,19 @@
 -- The hooks of documents are lawful.
-use Rattle.std.proofs.Common.{◌≡◌, ℕ, ◌≤◌, ℤ, pos, Bool, true, false, List, codes, nat_eq, if◌then◌else◌, refl, arith}
+use Rattle.std.proofs.Common.{◌≡◌, ℕ, ◌≤◌, pos, Bool, true, false, List, codes, nat_eq, if◌then◌else◌, refl, arith}
 use Rattle.std.specs.Str.{is_utf8}
-use Rattle.fr_shape.specs.Val.{Val, Vals, Entries, unit, bool, char, int, nat, text, token, product, variant, none, some, ok, err, list_of, map_of, set_of, ptr, dyn, no_vals, first, no_entries, entry}
+use Rattle.fr_shape.specs.Val.{Val, Vals, unit, bool, char, int, nat, text, token, product, variant, none, some, ok, err, list_of, map_of, set_of, ptr, dyn, no_vals, first}
 use Rattle.fr_shape.specs.Look.{Table}
 use Rattle.fr_shape.specs.Fits.{fits}
-use Rattle.fr_shape.specs.Tokens.{tokens, occurs}
+use Rattle.fr_shape.specs.Tokens.{occurs}
 use Rattle.fr_shape.specs.Hooks.{Meaning, gives, refuses, unsupported, IfGives, FitsTarget, HoldsTokensOf, HoldsNoToken, IsLawful}
 use Rattle.fr_doc.specs.Integers.{is_zero}
-use Rattle.fr_doc.specs.DocHooks.{doc_hooks, if_it_fits, first_child, unless_zero, not_zero, refused, converted, text_parsed, parsed, utf8_parsed, bytes_parsed}
+use Rattle.fr_doc.specs.DocHooks.{doc_hooks, if_it_fits, first_child, not_zero, refused, converted, text_parsed, parsed, utf8_parsed, bytes_parsed}
 use Rattle.fr_doc.specs.declared.doc_hooks.TheConstants.{CONVERT_FIRST_CHILD, CONVERT_SAME, CONVERT_NEVER, CONVERT_NOT_ZERO, PARSE_TEXT, PARSE_BYTES_UTF8}
 
 -- what holds of either meaning, of the first where the test is true
-either : (test : Bool) (yes no : Meaning) (So : Val → Type 0) → (test ≡ true → IfGives yes So) → IfGives no So → IfGives (if test then yes else no) So
-either true yes no So first second = first refl
-either false yes no So first second = second
+either : (test : Bool) (here otherwise : Meaning) (So : Val → Type 0) → (test ≡ true → IfGives here So) → IfGives otherwise So → IfGives (if test then here else otherwise) So
+either true here otherwise So holds_here holds_otherwise = holds_here refl
+either false here otherwise So holds_here holds_otherwise = holds_otherwise
 
 module _ (table : Table) (target : ℕ) where
   -- whatever holds of the value where it fits

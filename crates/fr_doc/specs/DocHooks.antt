@@ -1,7 +1,7 @@
 -- What the hooks mean that documents name by number.
-use Rattle.std.specs.Prelude.{ℕ, ◌==◌, nat_eq, ℤ, pos, Bool, true, false, List, codes, if◌then◌else◌}
+use Rattle.std.specs.Prelude.{ℕ, nat_eq, ℤ, pos, Bool, true, false, List, codes, if◌then◌else◌}
 use Rattle.std.specs.Str.{is_utf8}
-use Rattle.fr_shape.specs.Val.{Val, Vals, Entries, unit, bool, char, int, nat, text, token, product, variant, none, some, ok, err, list_of, map_of, set_of, ptr, dyn, no_vals, first, no_entries, entry}
+use Rattle.fr_shape.specs.Val.{Val, int, nat, text, product, first}
 use Rattle.fr_shape.specs.Look.{Table}
 use Rattle.fr_shape.specs.Fits.{fits}
 use Rattle.fr_shape.specs.Hooks.{Meaning, gives, refuses, unsupported, Meanings}

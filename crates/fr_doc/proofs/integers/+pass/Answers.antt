@@ -1,4 +1,4 @@
-use Rattle.std.proofs.Common.{◌≡◌, Some, None, drop, ◌+◌, ◌++◌, option_map, ap, ◌∙◌, rules}
+use Rattle.std.proofs.Common.{drop, ◌+◌, ◌++◌, option_map, ap, ◌∙◌, rules}
 use Rattle.fr_shape.specs.View.{view, vals_view, entries_view}
 use Rattle.fr_doc.specs.Integers.{integers, vals_integers, entries_integers, number, last_after}
 use Rattle.fr_doc.proofs.Passes.{ends, goes_on, values_from, entries_from}
