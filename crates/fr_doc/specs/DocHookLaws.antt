@@ -10,13 +10,13 @@ use Rattle.fr_doc.specs.Integers.{is_zero}
 use Rattle.fr_doc.specs.DocHooks.{doc_hooks, if_it_fits, first_child, not_zero, refused, converted, text_parsed, parsed, utf8_parsed, bytes_parsed}
 use Rattle.fr_doc.specs.declared.doc_hooks.TheConstants.{CONVERT_FIRST_CHILD, CONVERT_SAME, CONVERT_NEVER, CONVERT_NOT_ZERO, PARSE_TEXT, PARSE_BYTES_UTF8}
 
--- what holds of either meaning, of the first where the test is true
+-- what holds of the one meaning where the test is true, and of the other, holds of what the test picks
 either : (test : Bool) (here otherwise : Meaning) (So : Val → Type 0) → (test ≡ true → IfGives here So) → IfGives otherwise So → IfGives (if test then here else otherwise) So
 either true here otherwise So holds_here holds_otherwise = holds_here refl
 either false here otherwise So holds_here holds_otherwise = holds_otherwise
 
 module _ (table : Table) (target : ℕ) where
-  -- whatever holds of the value where it fits
+  -- what holds of a value that fits holds of what is given: of the value itself,
   value_where_it_fits : (v : Val) (So : Val → Type 0) → (fits table target v ≡ true → So v) → IfGives (if_it_fits table target v) So
   value_where_it_fits v So holds = either (fits table target v) (gives v) unsupported So holds tt
 

@@ -16,7 +16,7 @@ passes hook v =
     if nat_eq hook CHECK_NEVER then false else
     if nat_eq hook CHECK_NO_NEGATIVE then none_is_negative (integers v) else true
 
--- refused, as whatever is converted or parsed by a hook that refuses
+-- a refusal that tells no reason
 abbrev pub refused : Meaning
 refused = refuses (codes "refused")
 
@@ -29,7 +29,7 @@ abbrev pub first_child : Table → (target : ℕ) → (source : Val) → Meaning
 first_child table target (product (first child others)) = if_it_fits table target child
 first_child table target _ = unsupported
 
--- refused where the value is 0
+-- a refusal where the integer is 0
 abbrev pub unless_zero : ℤ → Meaning → Meaning
 unless_zero z otherwise = if is_zero z then refuses (codes "must not be zero") else otherwise
 

@@ -1,5 +1,5 @@
 //! The hooks that documents name by number.
-ghost use Rattle.std.specs.Prelude.{◌≡◌, Err, IfOk, OnErr, length, drop};
+ghost use Rattle.std.specs.Prelude.{Err, IfOk, OnErr};
 ghost use Rattle.fr_shape.specs.View.{view};
 ghost use Rattle.fr_shape.specs.Tokens.{occurs};
 ghost use Rattle.fr_shape.specs.Released.{Room, RoseBy, Conserved};
@@ -210,15 +210,12 @@ fn parse_text(
     target: ShapeId,
     text: &str,
 ) -> Result<Value, HookFault>
-    ensures meaning { Answers (text_parsed table.now target.0 text.now) result }
+    ensures { Answers (text_parsed table.now target.0 text.now) result }
 {
     if !fits(table, target, &Value::Text(Text::default())) {
         return Err(refusal(alloc, "refused"));
     }
-    match Text::new(alloc, text) {
-        Ok(text) => Ok(Value::Text(text)),
-        Err(none) => Err(HookFault::from(none)),
-    }
+    Ok(Value::Text(Text::new(alloc, text)?))
 }
 
 /// The bytes as a text, if they are UTF-8 and it fits the target.
@@ -228,7 +225,7 @@ fn parse_utf8(
     target: ShapeId,
     bytes: &[u8],
 ) -> Result<Value, HookFault>
-    ensures meaning { Answers (utf8_parsed table.now target.0 bytes.now) result }
+    ensures { Answers (utf8_parsed table.now target.0 bytes.now) result }
 {
     match str::from_utf8(bytes) {
         Ok(text) => parse_text(alloc, table, target, text),

@@ -12,6 +12,43 @@ pub enum Integer {
     Nat(u128),
 }
 
+impl Integer {
+    fn is_zero(self) -> bool
+        ensures { result ≡ is_zero (number self) }
+    {
+        match self {
+            Integer::Int(z) => z == 0,
+            Integer::Nat(n) => n == 0,
+        }
+    }
+
+    fn is_negative(self) -> bool
+        ensures { result ≡ is_negative (number self) }
+    {
+        match self {
+            Integer::Int(z) => z < 0,
+            Integer::Nat(_) => false,
+        }
+    }
+
+    fn is_at_most(self, other: Integer) -> bool
+        ensures { result ≡ int_le (number self) (number other) }
+    {
+        match (self, other) {
+            (Integer::Int(a), Integer::Int(b)) => a <= b,
+            (Integer::Int(a), Integer::Nat(b)) => match u128::try_from(a) {
+                Ok(a) => a <= b,
+                Err(_) => true,
+            },
+            (Integer::Nat(a), Integer::Int(b)) => match u128::try_from(b) {
+                Ok(b) => a <= b,
+                Err(_) => false,
+            },
+            (Integer::Nat(a), Integer::Nat(b)) => a <= b,
+        }
+    }
+}
+
 /// What is asked of the integers of a value.
 #[derive(Clone, Copy)]
 pub enum IntegerRule {
@@ -34,50 +71,15 @@ pub fn integers_keep(rule: IntegerRule, value: &Value) -> bool
     pass(rule, None, value).is_some()
 }
 
-fn is_zero(integer: Integer) -> bool
-    ensures { result ≡ is_zero (number integer) }
-{
-    match integer {
-        Integer::Int(z) => z == 0,
-        Integer::Nat(n) => n == 0,
-    }
-}
-
-fn is_negative(integer: Integer) -> bool
-    ensures { result ≡ is_negative (number integer) }
-{
-    match integer {
-        Integer::Int(z) => z < 0,
-        Integer::Nat(_) => false,
-    }
-}
-
-fn is_at_most(a: Integer, b: Integer) -> bool
-    ensures { result ≡ int_le (number a) (number b) }
-{
-    match (a, b) {
-        (Integer::Int(a), Integer::Int(b)) => a <= b,
-        (Integer::Int(a), Integer::Nat(b)) => match u128::try_from(a) {
-            Ok(a) => a <= b,
-            Err(_) => true,
-        },
-        (Integer::Nat(a), Integer::Int(b)) => match u128::try_from(b) {
-            Ok(b) => a <= b,
-            Err(_) => false,
-        },
-        (Integer::Nat(a), Integer::Nat(b)) => a <= b,
-    }
-}
-
 /// Whether the integer may come after the last one.
 fn may_follow(rule: IntegerRule, last: Last, next: Integer) -> bool
     ensures { result ≡ may_follow rule (option_map number last) (number next) }
 {
     match (rule, last) {
-        (IntegerRule::NoZero, _) => !is_zero(next),
+        (IntegerRule::NoZero, _) => !next.is_zero(),
         (IntegerRule::InOrder, None) => true,
-        (IntegerRule::InOrder, Some(last)) => is_at_most(last, next),
-        (IntegerRule::NoNegative, _) => !is_negative(next),
+        (IntegerRule::InOrder, Some(last)) => last.is_at_most(next),
+        (IntegerRule::NoNegative, _) => !next.is_negative(),
     }
 }
 

@@ -10,23 +10,36 @@ use Rattle.fr_doc.proofs.doc_hooks.convert_first_child.Goals as goal
 
 pub release-requires : goal.release-requires
 release-requires c =
-    let source : view c.args.value ≡ product (vals_view c.into_vec-others.result.items) = search (rules, the_lemmas) in
-    let split : vals_view c.into_vec-others.result.items ≡ first (view c.remove-first.result) (vals_view c.from_vec.result) = first_and_others c.into_vec-others.result.items c.from_vec.result c.remove-first.result c.into_vec-others.result.len c.into_vec-others.result.ok.0 c.if-is_empty.ensures c.remove-first.ensures.value (c.from_vec.ensures.items ∙ c.remove-first.ensures.items) in
-    let shown : view (Value.Product c.from_vec.result) ≡ product (vals_view c.from_vec.result) = search (rules, the_lemmas) in
+    let whole = c.into_vec-others.result in
+    let child = view c.remove-first.result in
+    let others = c.from_vec.result in
+    let left = c.from_vec.ensures.items ∙ c.remove-first.ensures.items in
+    let source : view c.args.value ≡ product (vals_view whole.items) = search (rules, the_lemmas) in
+    let split : vals_view whole.items ≡ first child (vals_view others) =
+    first_and_others whole.items others c.remove-first.result whole.len whole.ok.0 c.if-is_empty.ensures
+    c.remove-first.ensures.value left in
+    let shown : view (Value.Product others) ≡ product (vals_view others) = search (rules, the_lemmas) in
     record {
       room =
           subst (λ v. Room (occurs v) c.args.ledger.now) (sym shown)
-          (others_have_room (view c.args.value) (view c.remove-first.result) (vals_view c.from_vec.result) (source ∙ ap product split) c.args.ledger.now c.requires.room);
+          (others_have_room (view c.args.value) child (vals_view others) (source ∙ ap product split) c.args.ledger.now
+          c.requires.room);
     }
 
 pub convert_same-requires : goal.convert_same-requires
 convert_same-requires c =
-    let source : view c.args.value ≡ product (vals_view c.into_vec-others.result.items) = search (rules, the_lemmas) in
-    let split : vals_view c.into_vec-others.result.items ≡ first (view c.remove-first.result) (vals_view c.from_vec.result) = first_and_others c.into_vec-others.result.items c.from_vec.result c.remove-first.result c.into_vec-others.result.len c.into_vec-others.result.ok.0 c.if-is_empty.ensures c.remove-first.ensures.value (c.from_vec.ensures.items ∙ c.remove-first.ensures.items) in
-    let shown : view (Value.Product c.from_vec.result) ≡ product (vals_view c.from_vec.result) = search (rules, the_lemmas) in
+    let whole = c.into_vec-others.result in
+    let child = view c.remove-first.result in
+    let others = c.from_vec.result in
+    let left = c.from_vec.ensures.items ∙ c.remove-first.ensures.items in
+    let source : view c.args.value ≡ product (vals_view whole.items) = search (rules, the_lemmas) in
+    let split : vals_view whole.items ≡ first child (vals_view others) =
+    first_and_others whole.items others c.remove-first.result whole.len whole.ok.0 c.if-is_empty.ensures
+    c.remove-first.ensures.value left in
+    let shown : view (Value.Product others) ≡ product (vals_view others) = search (rules, the_lemmas) in
+    let rose = subst (λ v. RoseBy (occurs v) c.args.ledger.now c.release.new.ledger) shown c.release.ensures.released in
     record {
       room =
-          child_has_room (view c.args.value) (view c.remove-first.result) (vals_view c.from_vec.result) (source ∙ ap product split)
-          c.args.ledger.now c.release.new.ledger
-          (subst (λ v. RoseBy (occurs v) c.args.ledger.now c.release.new.ledger) shown c.release.ensures.released) c.requires.room;
+          child_has_room (view c.args.value) child (vals_view others) (source ∙ ap product split) c.args.ledger.now
+          c.release.new.ledger rose c.requires.room;
     }
