@@ -37,7 +37,11 @@ fn checks_ask_each_integer(rt: HostRuntime) {
     for (h, text, want) in [
         (CHECK_NO_ZERO, "[1,{\"i\":-1},{\"d\":0}]", true),
         (CHECK_NO_ZERO, "[1,{\"s\":{\"i\":0}}]", false),
-        (CHECK_IN_ORDER, "[{\"i\":-2},0,{\"i\":0},[7,{\"d\":1}]]", true),
+        (
+            CHECK_IN_ORDER,
+            "[{\"i\":-2},0,{\"i\":0},[7,{\"d\":1}]]",
+            true,
+        ),
         (CHECK_IN_ORDER, "{\"m\":[[1,3],[2,4]]}", false),
         (
             CHECK_IN_ORDER,
@@ -73,11 +77,7 @@ fn table_with(rt: &impl Abort, alloc: Global, target: u32) -> ShapeTable
 
 /// Ends the test where a hook comes to something else than is wanted: the text of a value, the
 /// message of a refusal, or "unsupported".
-fn check_outcome(
-    rt: &(impl Abort + AllocGlobal),
-    outcome: Result<Value, HookFault>,
-    want: &str,
-) {
+fn check_outcome(rt: &(impl Abort + AllocGlobal), outcome: Result<Value, HookFault>, want: &str) {
     match outcome {
         Ok(value) => {
             let Ok(json) = json_of(rt.alloc(), &value) else {
