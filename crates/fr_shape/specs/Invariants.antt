@@ -11,15 +11,16 @@ use Rattle.fr_shape.specs.Look.{Table, settled}
 use Rattle.fr_shape.specs.Fits.{takes_product, takes_variant, takes_some, takes_ok, takes_err, takes_list, takes_set, takes_map, takes_ptr, count_vals}
 use Rattle.fr_shape.specs.Val.{Val, Vals, Entries, unit, bool, char, int, nat, text, token, product, variant, none, some, ok, err, list_of, map_of, set_of, ptr, dyn, no_vals, first, no_entries, entry}
 
+-- a shape of this definition, or where that is `Other`, what it wraps
+abbrev pub own_or_wrapped : Def → Option ShapeId → (own : Shape) → (ℕ → Option Shape) → Option Shape
+own_or_wrapped Def.Other (Some wrapped) own stands_for = stands_for wrapped.0
+own_or_wrapped Def.Other None own stands_for = None
+own_or_wrapped _ inner own stands_for = Some own
+
 -- an `Other` stands for what it wraps, any other shape for itself
 abbrev pub shape_behind : Option Shape → (ℕ → Option Shape) → Option Shape
 shape_behind None stands_for = None
-shape_behind (Some shape) stands_for = own_or_wrapped shape shape.def shape.inner stands_for
-  where
-    own_or_wrapped : Shape → Def → Option ShapeId → (ℕ → Option Shape) → Option Shape
-    own_or_wrapped shape Def.Other (Some wrapped) stands_for = stands_for wrapped.0
-    own_or_wrapped shape Def.Other None stands_for = None
-    own_or_wrapped shape _ inner stands_for = Some shape
+shape_behind (Some shape) stands_for = own_or_wrapped shape.def shape.inner shape stands_for
 
 -- the first shape on a shape's chain of `inner` that isn't an `Other`, in at most n steps
 abbrev pub settled_shape_in : Table → ℕ → ℕ → Option Shape
@@ -30,13 +31,14 @@ settled_shape_in table (suc n) id = shape_behind (slice_get table id) (λ wrappe
 abbrev pub settled_shape : Table → ℕ → Option Shape
 settled_shape table id = settled_shape_in table (length table) id
 
+-- only a struct's invariant is asked
+abbrev pub if_struct : Def → Option HookId → Option HookId
+if_struct (Def.Struct struct) invariant = invariant
+if_struct _ invariant = None
+
 -- the invariant of a struct; that of another shape is never asked
 abbrev pub asked_of : Option Shape → Option HookId
-asked_of (Some shape) = of_struct shape.def shape.invariant
-  where
-    of_struct : Def → Option HookId → Option HookId
-    of_struct (Def.Struct struct) invariant = invariant
-    of_struct _ invariant = None
+asked_of (Some shape) = if_struct shape.def shape.invariant
 asked_of None = None
 
 -- the value passes the invariant of its shape, if that is a struct's
