@@ -5,5 +5,6 @@ pub mod KeysApart
 pub mod NoneTwice
 mod Once
 pub mod Ordered
+pub mod Parsed
 pub mod Settled
 pub mod TakenNames

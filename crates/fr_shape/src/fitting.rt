@@ -5,7 +5,7 @@ ghost use Rattle.fr_shape.specs.Fits.{fits, all_fit, fields_fit, entries_fit, ta
 
 use crate::distinct::{keys_once, no_key_twice, none_twice};
 use crate::scalars::{is_in_signed, is_in_unsigned, is_text_kind};
-use crate::settling::settle;
+use crate::settling::settle_def;
 use crate::{Def, Field, Items, ScalarKind, ShapeId, ShapeTable, Value};
 
 /// Whether a value fits the shape. None fits a number past the table's end.
@@ -14,7 +14,7 @@ use crate::{Def, Field, Items, ScalarKind, ShapeId, ShapeTable, Value};
 pub fn fits(table: &ShapeTable, id: ShapeId, v: &Value) -> bool
     ensures fits { result ≡ fits table.now id.0 (view v.now) }
 {
-    let Some(def) = settle(table, id) else {
+    let Some(def) = settle_def(table, id) else {
         return false;
     };
     match v {
@@ -148,7 +148,7 @@ fn takes_nat(def: &Def, n: u128) -> bool
     }
 }
 
-fn takes_text(def: &Def) -> bool
+pub(crate) fn takes_text(def: &Def) -> bool
     ensures { result ≡ takes_text def.now }
 {
     match def {

@@ -9,11 +9,13 @@ mod distinct;
 mod error;
 mod fitting;
 mod hooks;
+mod invariants;
 mod items;
 mod laws;
 mod ledger;
 mod names;
 mod ordering;
+mod parsing;
 mod parts;
 mod releasing;
 mod repeated;
@@ -38,10 +40,12 @@ pub use error::{
 };
 pub use fitting::fits;
 pub use hooks::{HookFault, Hooks, NoHooks};
+pub use invariants::keeps_invariants;
 pub use items::{Items, NotPushed, OutOfMemory};
 pub use laws::{law_conserved, law_hooks, law_no_hooks};
 pub use ledger::Ledger;
 pub use ordering::{compare, law_compare};
+pub use parsing::parse_scalar;
 pub use releasing::release;
 pub use shape::{
     Def, DefaultSource, EnumDef, EnumRepr, Field, FieldRef, FormatProxy, HookId, KnownPointer,
