@@ -1,14 +1,12 @@
 //! Whether the structs in a value keep their shapes' invariants.
-ghost use Rattle.std.specs.Prelude.{◌≡◌, true, Some};
-ghost use Rattle.std.specs.Option.{option_map_or};
+ghost use Rattle.std.specs.Prelude.{◌≡◌};
 ghost use Rattle.fr_shape.specs.View.{view, vals_view, entries_view};
 ghost use Rattle.fr_shape.specs.Look.{settled};
 ghost use Rattle.fr_shape.specs.Fits.{takes_product, takes_variant, takes_ptr, count_vals};
-ghost use Rattle.fr_shape.specs.Invariants.{keeps_invariants, all_keep, fields_keep, entries_keep, asked_of};
-ghost use Rattle.fr_shape.specs.declared.shape.HookId.{HookId};
+ghost use Rattle.fr_shape.specs.Invariants.{keeps_invariants, all_keep, fields_keep, entries_keep, passes_own};
 
 use crate::settling::{settle, settle_def};
-use crate::{Def, Field, Hooks, Items, Shape, ShapeId, ShapeTable, Value};
+use crate::{Def, Field, Hooks, Items, ShapeId, ShapeTable, Value};
 
 /// Whether each struct in a value that fits the shape passes its shape's invariant. Children are
 /// asked before parents, from left to right, up to the first that doesn't pass.
@@ -32,12 +30,8 @@ pub fn keeps_invariants<H: Hooks>(
         | Value::Token(_)
         | Value::None
         | Value::Dyn(_) => true,
-        Value::Product(values) => {
-            let Some(shape) = settle(table, id) else {
-                return false;
-            };
-            product_keeps(table, hooks, &shape.def, values) && passes_own(hooks, shape, value)
-        }
+        Value::Product(values) =>
+            product_keeps(table, hooks, id, values) && passes_own(table, hooks, id, value),
         Value::Variant(i, values) => variant_keeps(table, hooks, id, *i, values),
         Value::Some(inner) => matches!(settle_def(table, id), Some(Def::Option(t))
             if keeps_invariants(table, hooks, *t, inner)),
@@ -56,11 +50,12 @@ pub fn keeps_invariants<H: Hooks>(
 }
 
 /// Whether a value of a shape passes the shape's invariant, if that is a struct's.
-fn passes_own<H: Hooks>(hooks: &H, shape: &Shape, value: &Value) -> bool
-    ensures { result ≡ option_map_or
-        (λ (hook : HookId). (H.means hooks.now).check hook.0 (view value.now))
-        (asked_of (Some shape.now)) true }
+fn passes_own<H: Hooks>(table: &ShapeTable, hooks: &H, id: ShapeId, value: &Value) -> bool
+    ensures { result ≡ passes_own (H.means hooks.now).check table.now id.0 (view value.now) }
 {
+    let Some(shape) = settle(table, id) else {
+        return true;
+    };
     let Def::Struct(_) = &shape.def else {
         return true;
     };
@@ -76,14 +71,17 @@ fn passes_own<H: Hooks>(hooks: &H, shape: &Shape, value: &Value) -> bool
 fn product_keeps<H: Hooks>(
     table: &ShapeTable,
     hooks: &H,
-    def: &Def,
+    id: ShapeId,
     values: &Items<Value>,
 ) -> bool
-    ensures { result ≡ takes_product def.now
+    ensures { result ≡ takes_product (settled table.now id.0)
         (λ fields. fields_keep (H.means hooks.now).check table.now fields (vals_view values.now))
         (λ t. all_keep (H.means hooks.now).check table.now t (vals_view values.now))
         (count_vals (vals_view values.now)) }
 {
+    let Some(def) = settle_def(table, id) else {
+        return false;
+    };
     match def {
         Def::Struct(described) => fields_keep(table, hooks, &described.fields, values),
         Def::Array(t, count) => {
@@ -158,6 +156,7 @@ fn all_keep<H: Hooks>(table: &ShapeTable, hooks: &H, id: ShapeId, values: &Items
 
 /// The same of the values of these fields.
 #[cycle(invariants)]
+#[tactic(auto, using(crate::proofs::FieldsKept::fields_end))]
 fn fields_keep<H: Hooks>(
     table: &ShapeTable,
     hooks: &H,
@@ -169,10 +168,7 @@ fn fields_keep<H: Hooks>(
 {
     let fields = fields.as_slice();
     let values = values.as_slice();
-    for i in 0..fields.len() {
-        if i == values.len() {
-            break;
-        }
+    for i in 0..fields.len().min(values.len()) {
         if !keeps_invariants(table, hooks, fields[i].shape, &values[i]) {
             return false;
         }
