@@ -128,7 +128,7 @@ int_not kind bs r h is =
 pub int_same : {E : Type 0} (bs : List ℕ) (r : Result ℤ E) (z : ℤ) → ParsesSigned w128 10 bs r → r ≡ Ok z → to_z w128 (of_z w128 z) ≡ z
 int_same bs r z h is =
     let found : (IsNumeral 10 (without_leading_sign bs) × SFits w128 (signed_digits_value 10 bs)) × (z ≡ signed_digits_value 10 bs) =
-        subst (ParsesSigned w128 10 bs) is h in
+    subst (ParsesSigned w128 10 bs) is h in
     to_z-of_z w128 z (subst (SFits w128) (sym found.1) found.0.1)
 
 not_one : (bs cs : List ℕ) → scalars cs ≡ true → encodes cs ≡ bs → ((c : ℕ) → IsScalar c → bs ≢ encode_utf8 c) → None ≡ only cs

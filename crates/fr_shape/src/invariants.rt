@@ -11,12 +11,7 @@ use crate::{Def, Field, Hooks, Items, ShapeId, ShapeTable, Value};
 /// Whether each struct in a value that fits the shape passes its shape's invariant. Children are
 /// asked before parents, from left to right, up to the first that doesn't pass.
 #[cycle(invariants)]
-pub fn keeps_invariants<H: Hooks>(
-    table: &ShapeTable,
-    hooks: &H,
-    id: ShapeId,
-    value: &Value,
-) -> bool
+pub fn keeps_invariants<H: Hooks>(table: &ShapeTable, hooks: &H, id: ShapeId, value: &Value) -> bool
     ensures keeps { result ≡
         keeps_invariants (H.means hooks.now).check table.now id.0 (view value.now) }
 {
@@ -30,8 +25,8 @@ pub fn keeps_invariants<H: Hooks>(
         | Value::Token(_)
         | Value::None
         | Value::Dyn(_) => true,
-        Value::Product(values) =>
-            product_keeps(table, hooks, id, values) && passes_own(table, hooks, id, value),
+        Value::Product(values) => product_keeps(table, hooks, id, values)
+            && passes_own(table, hooks, id, value),
         Value::Variant(i, values) => variant_keeps(table, hooks, id, *i, values),
         Value::Some(inner) => matches!(settle_def(table, id), Some(Def::Option(t))
             if keeps_invariants(table, hooks, *t, inner)),

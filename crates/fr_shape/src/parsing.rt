@@ -81,13 +81,7 @@ fn read_int(kind: ScalarKind, text: &str) -> Option<i128>
     ensures { option_map int result ≡ parsed_int (signed_bits kind) text.now }
 {
     match text.parse::<i128>() {
-        Ok(z) => {
-            if is_in_signed(kind, z) {
-                Some(z)
-            } else {
-                None
-            }
-        }
+        Ok(z) => { if is_in_signed(kind, z) { Some(z) } else { None } }
         Err(_) => None,
     }
 }

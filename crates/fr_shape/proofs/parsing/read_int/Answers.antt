@@ -10,7 +10,7 @@ returns-then-is_in_signed c =
     let same = int_same c.args.text.now c.parse.result c.in-Ok.z c.parse.ensures.value.0 c.in-Ok.is in
     ap (λ (z : ℤ). Some (int z)) same
     ∙ int_kept c.args.kind c.args.text.now c.parse.result c.in-Ok.z true c.parse.ensures.value.0 (ap result_ok c.in-Ok.is)
-      (sym (ap (λ (z : ℤ). in_signed z (signed_bits c.args.kind)) same) ∙ sym c.is_in_signed.ensures ∙ c.if-is_in_signed.true)
+    (sym (ap (λ (z : ℤ). in_signed z (signed_bits c.args.kind)) same) ∙ sym c.is_in_signed.ensures ∙ c.if-is_in_signed.true)
 
 pub returns-else-is_in_signed : goal.returns-else-is_in_signed
 returns-else-is_in_signed c =
