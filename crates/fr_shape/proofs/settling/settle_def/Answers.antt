@@ -1,5 +1,4 @@
 use Rattle.fr_shape.specs.InvariantLaws.{settled_by_shape}
-use Rattle.fr_shape.specs.ParsingLaws.{parsed_fits}
 use Rattle.fr_shape.proofs.settling.settle_def.Goals as goal
 
 pub returns-in-Some : goal.returns-in-Some
