@@ -42,7 +42,7 @@ pub use fitting::fits;
 pub use hooks::{HookFault, Hooks, NoHooks};
 pub use invariants::keeps_invariants;
 pub use items::{Items, NotPushed, OutOfMemory};
-pub use laws::{law_conserved, law_hooks, law_no_hooks};
+pub use laws::{law_conserved, law_hooks, law_invariants, law_no_hooks, law_parsing};
 pub use ledger::Ledger;
 pub use ordering::{compare, law_compare};
 pub use parsing::parse_scalar;
