@@ -8,7 +8,7 @@ ghost use Rattle.fr_frame.specs.Bodies.{around_as, boxed_as, boxes, gathers, is_
 use crate::partial_values::release_partial;
 use crate::places::{ContentKind, EntriesKind, ItemsKind, PartialValue, Tracker};
 use fr_shape::{Items, Ledger, OutOfMemory, Value};
-use fr_values::{Base, Children, array_of, distinct_items, merge_entries, object_of};
+use fr_values::{Base, Children, Parts, array_of, distinct_items, merge_entries, object_of};
 use std::alloc::Global;
 
 /// The list of these. Takes no memory.
@@ -79,22 +79,17 @@ fn value_of_box(tracker: &Tracker, held: Box<Value>) -> Value
 
 /// The set of those of these values that aren't `same` as an earlier one, which are released.
 /// Without memory they are handed back.
-fn set_of(
-    alloc: Global,
-    values: Vec<Value>,
-    base: Base,
-    ledger: &mut Ledger,
-) -> Result<Value, Vec<Value>>
-    requires base { AreApart base values.items }
-    requires room { Room (vals_occur (vals_view values.items)) ledger.old }
+fn set_of(alloc: Global, parts: Parts, base: Base, ledger: &mut Ledger) -> Result<Value, Parts>
+    requires base { AreApart base parts }
+    requires room { Room (vals_occur (vals_view parts)) ledger.old }
     ensures value { IfOk result (λ v.
-        view v ≡ set_of (items_in no_vals (vals_view values.items))) }
-    ensures conserved { IfOk result (λ v. Conserved (vals_occur (vals_view values.items)) ledger.old
+        view v ≡ set_of (items_in no_vals (vals_view parts))) }
+    ensures conserved { IfOk result (λ v. Conserved (vals_occur (vals_view parts)) ledger.old
         (occurs (view v)) ledger.new) }
-    ensures handed_back { IfErr result (λ back. back.items ≡ values.items) }
+    ensures handed_back { IfErr result (λ back. back ≡ parts) }
     ensures ledger_kept { OnErr result (ledger.new ≡ ledger.old) }
 {
-    match distinct_items(alloc, values, base.items(), ledger) {
+    match distinct_items(alloc, parts, base.items(), ledger) {
         Ok(items) => Ok(Value::Set(Items::from_vec(items))),
         Err(back) => Err(back),
     }
@@ -109,22 +104,17 @@ fn of_entries(entries: Vec<(Value, Value)>) -> Value
 
 /// The map of these keys and values, which take turns. A key that comes again takes the new value;
 /// the new key and the old value are released. Without memory they are handed back.
-fn map_of(
-    alloc: Global,
-    values: Vec<Value>,
-    base: Base,
-    ledger: &mut Ledger,
-) -> Result<Value, Vec<Value>>
-    requires base { AreApart base values.items }
-    requires room { Room (vals_occur (vals_view values.items)) ledger.old }
+fn map_of(alloc: Global, parts: Parts, base: Base, ledger: &mut Ledger) -> Result<Value, Parts>
+    requires base { AreApart base parts }
+    requires room { Room (vals_occur (vals_view parts)) ledger.old }
     ensures value { IfOk result (λ v.
-        view v ≡ map_of (entries_in no_entries (vals_view values.items))) }
-    ensures conserved { IfOk result (λ v. Conserved (vals_occur (vals_view values.items)) ledger.old
+        view v ≡ map_of (entries_in no_entries (vals_view parts))) }
+    ensures conserved { IfOk result (λ v. Conserved (vals_occur (vals_view parts)) ledger.old
         (occurs (view v)) ledger.new) }
-    ensures handed_back { IfErr result (λ back. back.items ≡ values.items) }
+    ensures handed_back { IfErr result (λ back. back ≡ parts) }
     ensures ledger_kept { OnErr result (ledger.new ≡ ledger.old) }
 {
-    match merge_entries(alloc, values, base.entries(), ledger) {
+    match merge_entries(alloc, parts, base.entries(), ledger) {
         Ok(entries) => Ok(of_entries(entries)),
         Err(back) => Err(back),
     }
@@ -135,26 +125,26 @@ fn map_of(
 fn value_gathered(
     alloc: Global,
     tracker: &mut Tracker,
-    values: Vec<Value>,
+    parts: Parts,
     base: Base,
     ledger: &mut Ledger,
-) -> Result<Value, Vec<Value>>
-    requires base { AreApart base values.items }
+) -> Result<Value, Parts>
+    requires base { AreApart base parts }
     requires gathers { gathers (as_tracker tracker.old) ≡ true }
-    requires room { Room (vals_occur (vals_view values.items)) ledger.old }
+    requires room { Room (vals_occur (vals_view parts)) ledger.old }
     ensures value { IfOk result (λ v.
-        view v ≡ value_as (as_tracker tracker.old) (vals_view values.items)) }
-    ensures conserved { IfOk result (λ v. Conserved (vals_occur (vals_view values.items)) ledger.old
+        view v ≡ value_as (as_tracker tracker.old) (vals_view parts)) }
+    ensures conserved { IfOk result (λ v. Conserved (vals_occur (vals_view parts)) ledger.old
         (occurs (view v)) ledger.new) }
     ensures tracker_kept { OnErr result (as_tracker tracker.new ≡ as_tracker tracker.old) }
-    ensures handed_back { IfErr result (λ back. back.items ≡ values.items) }
+    ensures handed_back { IfErr result (λ back. back ≡ parts) }
     ensures ledger_kept { OnErr result (ledger.new ≡ ledger.old) }
 {
     match tracker {
-        Tracker::Items(ItemsKind::Set) => set_of(alloc, values, base, ledger),
-        Tracker::Items(ItemsKind::Array) => array_of(alloc, values, ledger),
-        Tracker::Entries(EntriesKind::Map(_)) => map_of(alloc, values, base, ledger),
-        Tracker::Entries(EntriesKind::Object(keys)) => object_of(alloc, keys, values, ledger),
+        Tracker::Items(ItemsKind::Set) => set_of(alloc, parts, base, ledger),
+        Tracker::Items(ItemsKind::Array) => array_of(alloc, parts, ledger),
+        Tracker::Entries(EntriesKind::Map(_)) => map_of(alloc, parts, base, ledger),
+        Tracker::Entries(EntriesKind::Object(keys)) => object_of(alloc, keys, parts, ledger),
         Tracker::Items(ItemsKind::List | ItemsKind::Slice | ItemsKind::ClosedSlice) => {
             unreachable!()
         }
@@ -182,13 +172,13 @@ fn value_of_children(
     ensures handed_back { IfErr result (λ back. back ≡ children) }
     ensures ledger_kept { OnErr result (ledger.new ≡ ledger.old) }
 {
-    let (values, given, base) = children.into_parts();
+    let (parts, given, base) = children.into_parts();
     if !tracker.gathers() {
-        return Ok(value_of_parts(tracker, values));
+        return Ok(value_of_parts(tracker, parts.into_values()));
     }
-    match value_gathered(alloc, tracker, values, base, ledger) {
+    match value_gathered(alloc, tracker, parts, base, ledger) {
         Ok(value) => Ok(value),
-        Err(back) => Err(Children::of_parts(back, given, base)),
+        Err(back) => Err(Children::of_parts(alloc, back, given, base)),
     }
 }
 

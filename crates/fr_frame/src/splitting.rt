@@ -10,7 +10,7 @@ ghost use Rattle.fr_model.specs.Tree.{over_base};
 
 use crate::places::{ContentKind, EntriesKind, ItemsKind, Tracker};
 use fr_shape::{Items, OutOfMemory, Value};
-use fr_values::{Base, Children, elements_of, members_of, numbers_below};
+use fr_values::{Base, Children, elements_of, members_of};
 use std::alloc::Global;
 
 /// Takes the parts out of a product. It stays as it was where there is no memory for them.
@@ -95,19 +95,6 @@ fn entries_of(value: Value) -> Vec<(Value, Value)>
     entries.into_vec()
 }
 
-/// Appends the keys and values of entries, in turn, to parts that have room for them.
-fn put_in_turn(parts: &mut Vec<Value>, entries: Vec<(Value, Value)>)
-    requires empty { parts.old.items ≡ [] }
-    requires space { 2 * length entries.items ≤ vec_capacity parts.old }
-    ensures { parts.new.items ≡ parts_of_entries entries.items }
-{
-    let mut rest = entries.into_iter();
-    while let Some((key, value)) = rest.next() {
-        parts.push_reserved(key);
-        parts.push_reserved(value);
-    }
-}
-
 /// Takes keys and values, in turn, out of a map, and tells that it is begun over its entries. It
 /// stays as it was where there is no memory for them, or where they are too many to be numbered.
 fn children_of_map(alloc: Global, value: &mut Value) -> Result<(Tracker, Children), OutOfMemory>
@@ -119,16 +106,17 @@ fn children_of_map(alloc: Global, value: &mut Value) -> Result<(Tracker, Childre
         option_map cells_of_vals (entries_of (view value.old)) ≡ Some made.1) }
     ensures refused { OnErr result (view value.new ≡ view value.old) }
 {
-    let count = count_entries(value);
-    let Ok(base) = u32::try_from(count) else {
+    let Ok(base) = u32::try_from(count_entries(value)) else {
         return Err(OutOfMemory);
     };
-    let mut parts = Vec::with_capacity(alloc, 2 * count)?;
-    let numbers = numbers_below(alloc, 2 * count)?;
     let entries = entries_of(std::mem::replace(value, Value::Unit));
-    put_in_turn(&mut parts, entries);
-    let children = Children::of_parts(parts, numbers, Base::Entries(base));
-    Ok((Tracker::Entries(EntriesKind::Map(base)), children))
+    match Children::of_entries(alloc, entries, base) {
+        Ok(children) => Ok((Tracker::Entries(EntriesKind::Map(base)), children)),
+        Err(back) => {
+            *value = Value::Map(Items::from_vec(back));
+            Err(OutOfMemory)
+        }
+    }
 }
 
 /// Takes the content out of a whole `Some`. Takes no memory.

@@ -27,6 +27,17 @@ turn_at (l ∷ (v ∷ parts)) zero (suc m) k two within is = absurd (omega (arit
 turn_at (l ∷ (v ∷ parts)) (suc n) (suc zero) k two within is = absurd (omega (arith, two))
 turn_at (l ∷ (v ∷ parts)) (suc n) (suc (suc m)) k two within is = turn_at parts n m k (omega (arith, two)) (omega (arith, within)) is
 
+-- the same of entries, and of the parts of more behind them
+pub both_keys : (es : List (Value × Value)) (parts : List Value) → length (turn_keys (parts_of_entries es ++ parts)) ≡ length es + length parts / 2
+both_keys [] parts = omega (arith, turn_count parts)
+both_keys (e ∷ es) parts = omega (arith, both_keys es parts)
+
+pub turn_in : (es : List (Value × Value)) (parts : List Value) (n : ℕ) (e : Value × Value) → n < length es → e ≡ get_or es n e
+    → slice_get (turn_keys (parts_of_entries es ++ parts)) n ≡ Some (view e.0)
+turn_in [] parts n e within is = absurd (omega (arith, within))
+turn_in (d ∷ es) parts zero e within is = ap (λ (x : Value × Value). Some (view x.0)) (sym is)
+turn_in (d ∷ es) parts (suc n) e within is = turn_in es parts n e (omega (arith, within)) is
+
 -- a place, or how many there are where there is none
 or_count : (b : Bool) (o : Option ℕ) (n : ℕ) → unwrap_or (cond b (Some 0) (option_map suc o)) (suc n) ≡ cond b 0 (suc (unwrap_or o n))
 or_count true o n = refl
@@ -110,10 +121,6 @@ entries_split there (e ∷ es) rest = entries_split (with_entry_in there (view e
 occur_split : (es : List (Value × Value)) (rest : List Value) (t : ℕ) → vals_occur (vals_view (parts_of_entries es ++ rest)) t ≡ entries_occur (entries_view es) t + vals_occur (vals_view rest) t
 occur_split [] rest t = omega arith
 occur_split (e ∷ es) rest t = omega (arith, occur_split es rest t)
-
-pub parts_count : (es : List (Value × Value)) (rest : List Value) → length (parts_of_entries es ++ rest) ≡ 2 * length es + length rest
-parts_count [] rest = omega arith
-parts_count (e ∷ es) rest = omega (arith, parts_count es rest)
 
 -- two more parts are one more entry
 pub parts_more : (es : List (Value × Value)) (k v : Value) (rest : List Value) → parts_of_entries (es ++ (k, v) ∷ []) ++ rest ≡ parts_of_entries es ++ k ∷ (v ∷ rest)

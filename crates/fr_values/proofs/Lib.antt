@@ -8,4 +8,5 @@ pub mod Kept
 pub mod KeyLaws
 pub mod Known
 pub mod MadeDynamic
+pub mod PartLaws
 pub mod Placed

@@ -31,7 +31,8 @@ pub use Rattle.fr_values.specs.ChildIndex.{IsIndexed}
 pub use Rattle.fr_values.specs.ConversionNeeds.{IsUnconverted, are_octets, copies_to_convert}
 pub use Rattle.fr_values.specs.Indexing.{Indexes, IsRun, has_number, is_held, joined, numbers_from, runs_of, val_at}
 pub use Rattle.fr_values.specs.KeyNames.{names_of}
-pub use Rattle.fr_values.specs.KeyPlaces.{Holds, Knows, entry_place, entry_places, first_keys, item_place, item_places, keys_among, parts_of_entries, place, place_known, places_of, turn_keys, with_key}
+pub use Rattle.fr_values.specs.KeyPlaces.{Holds, Knows, entry_place, entry_places, first_keys, item_place, item_places, keys_among, place, place_known, places_of, turn_keys, with_key}
+pub use Rattle.fr_values.specs.Turns.{HasRoom, parts_of_entries}
 pub use Rattle.fr_values.specs.declared.bases.Base.{Base}
 pub use Rattle.std.specs.List.{All}
 pub use Rattle.std.specs.List.Sorted.{IsPermutation}

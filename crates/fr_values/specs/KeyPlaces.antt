@@ -1,5 +1,5 @@
 -- At which place each of a list of keys stands among the distinct ones of them.
-use Rattle.std.specs.Prelude.{◌≡◌, ℕ, Bool, cond, if◌then◌else◌, List, [], ◌∷◌, length, map, Option, Some, None, option_map, zero, suc, unwrap_or}
+use Rattle.std.specs.Prelude.{◌≡◌, ℕ, Bool, cond, if◌then◌else◌, List, [], ◌∷◌, ◌++◌, length, map, Option, Some, None, option_map, zero, suc, unwrap_or}
 use Rattle.std.specs.BTreeMap.{BTreeMap, get}
 use Rattle.std.specs.BTreeSet.{BTreeSet, contains}
 use Rattle.std.specs.List.{list_any}
@@ -10,8 +10,9 @@ use Rattle.fr_shape.specs.View.{view}
 use Rattle.fr_shape.specs.declared.value.Value.{Value}
 use Rattle.fr_model.specs.Gathering.{with_item_in, with_entry_in}
 use Rattle.fr_shape.specs.declared.contents.ByContents.{ByContents}
+use Rattle.fr_values.specs.Turns.{parts_of_entries}
 use Rattle.fr_values.specs.declared.key_places.KeyedParts.{KeyedParts}
-use Rattle.fr_values.specs.declared.key_places.KeyedParts.TheVariants.{Items, Entries as Parts}
+use Rattle.fr_values.specs.declared.key_places.KeyedParts.TheVariants.{Items, Entries as InTurn}
 
 -- the place of the first of these that equals a key
 abbrev pub place : {K : Type 0} → (eq : K → K → Bool) → List K → K → Option ℕ
@@ -56,7 +57,7 @@ turn_keys (k ∷ (v ∷ parts)) = view k ∷ turn_keys parts
 -- the keys among these values
 abbrev pub keys_among : KeyedParts → List Val
 keys_among (Items items) = map view items.now
-keys_among (Parts parts) = turn_keys parts.now
+keys_among (InTurn entries parts) = turn_keys (parts_of_entries entries.now ++ parts.now)
 
 -- the set has these keys
 abbrev pub Holds : BTreeSet ByContents → List Val → Type 0
@@ -76,8 +77,3 @@ first_keys zero vs = no_vals
 first_keys (suc n) no_vals = no_vals
 first_keys (suc n) (first k no_vals) = no_vals
 first_keys (suc n) (first k (first v vs)) = first k (first_keys n vs)
-
--- the keys and values of entries in turn
-abbrev pub parts_of_entries : List (Value × Value) → List Value
-parts_of_entries [] = []
-parts_of_entries (e ∷ es) = e.0 ∷ (e.1 ∷ parts_of_entries es)

@@ -9,3 +9,4 @@ pub mod ItemLaws
 pub mod KeyNames
 pub mod KeyPlaces
 pub mod SliceLaws
+pub mod Turns

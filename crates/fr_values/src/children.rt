@@ -1,12 +1,14 @@
 //! The children of a begun place.
-ghost use Rattle.fr_values.specs.Common.{All, AreApart, Cell, Conserved, IfErr, IfNone, IfOk, IfSome, IsIndexed, IsSome, List, OnErr, OnOk, Room, Some, [], and_item_cell, cells_occur, false, has_same_cell, in_slot, is_same_cell, is_some, is_there, length, occurs, option_copied, option_map, slice_get, slice_set, slot_of_cell, true, unit, vals_view, view, without_cell, ℕ};
+ghost use Rattle.fr_values.specs.Common.{All, AreApart, Cell, Conserved, IfErr, IfNone, IfOk, IfSome, IsIndexed, IsSome, List, OnErr, OnOk, Room, Some, [], and_item_cell, cells_occur, cells_of_vals, entries_view, false, has_same_cell, in_slot, is_same_cell, is_some, is_there, keys, length, none_twice, occurs, option_copied, option_map, slice_get, slice_set, slot_of_cell, true, unit, vals_view, view, without_cell, ℕ};
 ghost use Rattle.std.specs.Prelude.{IsOk, suc, map, replicate, drop, ◌++◌, ◌+◌, ◌<◌, ◌↔◌, ◌∷◌, ◌≡◌, ◌≤◌};
 ghost use Rattle.std.specs.FinSet as set;
 ghost use Rattle.fr_shape.specs.Val.{token};
 ghost use Rattle.fr_values.specs.Cells.{swapped, HasNumbers};
+ghost use Rattle.fr_model.specs.Places.{in_turn};
 ghost use Rattle.fr_values.specs.ChildIndex.{AreCutAt};
 
 use crate::bases::Base;
+use crate::parts::Parts;
 use crate::value_index::ValueIndex;
 use fr_arena::ISet;
 use fr_shape::{Ledger, OutOfMemory, Value, release, same};
@@ -15,7 +17,7 @@ use std::default::Default;
 use std::marker::Model;
 
 /// The children of a begun place: their values side by side, so that they become a product as they
-/// are.
+/// are, and a map's entries stay what they were.
 ///
 /// `given` has the numbers of those whose values these are. Of any other child the value is `Unit`
 /// where the child isn't there, and a token with the number of its slot where it is in one.
@@ -25,7 +27,7 @@ use std::marker::Model;
 /// `index` finds a value among the first of these; it is there for the items of sets.
 #[derive(Drop)]
 pub struct Children {
-    values: Vec<Value>,
+    parts: Parts,
     given: ISet,
     base: Base,
     index: ValueIndex,
@@ -40,11 +42,11 @@ impl Model for Children {
 
     ghost coded = { coded_list cell_code };
 
-    ghost view = { λ it. cells_of it.given 0 it.values.items };
+    ghost view = { λ it. cells_of it.given 0 it.parts };
 
     ghost use Rattle.fr_values.specs.ChildIndex.{IsIndexed};
 
-    ghost invariant = { λ it. IsIndexed it.given it.values.items it.base it.index };
+    ghost invariant = { λ it. IsIndexed it.given it.parts it.base it.index };
 }
 
 /// So many values that stand for children that aren't there.
@@ -147,7 +149,7 @@ fn is_among(values: &[Value], value: &Value) -> bool
 }
 
 /// A set of the numbers of so many children.
-pub fn numbers_below(alloc: Global, count: usize) -> Result<ISet, OutOfMemory>
+fn numbers_below(alloc: Global, count: usize) -> Result<ISet, OutOfMemory>
     ensures { IfOk result (λ numbers. HasNumbers count numbers) }
 {
     let Ok(mut numbers) = ISet::new(alloc, count) else {
@@ -165,7 +167,7 @@ impl Children {
         ensures { result ≡ [] }
     {
         Children {
-            values: Vec::new(alloc),
+            parts: Parts::none(alloc),
             given: ISet::default(),
             base: Base::none(),
             index: ValueIndex::new(alloc),
@@ -185,7 +187,7 @@ impl Children {
         };
         let values = placeholders(alloc, count)?;
         Ok(Children {
-            values,
+            parts: Parts::of_values(values),
             given,
             base: Base::none(),
             index: ValueIndex::new(alloc),
@@ -199,8 +201,34 @@ impl Children {
         ensures handed_back { IfErr result (λ back. back.items ≡ values.items) }
     {
         match numbers_below(alloc, values.len()) {
-            Ok(numbers) => Ok(Children::of_parts(values, numbers, base)),
+            Ok(numbers) => {
+                let parts = Parts::of_values(values);
+                Ok(Children::of_parts(alloc, parts, numbers, base))
+            }
             Err(_) => Err(values),
+        }
+    }
+
+    /// The keys and values, in turn, of so many entries, no two of which have keys that are `same`,
+    /// as children that are all there; or the entries back where there is no memory. Doesn't look at
+    /// each.
+    pub fn of_entries(
+        alloc: Global,
+        entries: Vec<(Value, Value)>,
+        count: u32,
+    ) -> Result<Children, Vec<(Value, Value)>>
+        requires count { count ≡ length entries.items }
+        requires apart { none_twice (keys (entries_view entries.items)) ≡ true }
+        ensures there { IfOk result (λ it.
+            it ≡ cells_of_vals (in_turn (entries_view entries.items))) }
+        ensures handed_back { IfErr result (λ back. back.items ≡ entries.items) }
+    {
+        let Ok(numbers) = numbers_below(alloc, 2 * count as usize) else {
+            return Err(entries);
+        };
+        match Parts::of_entries(alloc, entries) {
+            Ok(parts) => Ok(Children::of_parts(alloc, parts, numbers, Base::Entries(count))),
+            Err(back) => Err(back),
         }
     }
 
@@ -208,7 +236,7 @@ impl Children {
     pub fn len(&self) -> usize
         ensures count { result ≡ length self.now }
     {
-        self.values.len()
+        self.parts.len()
     }
 
     /// A child's value, where it is there.
@@ -217,7 +245,7 @@ impl Children {
         ensures value { option_map view (option_copied result) ≡ value_at self.now i }
     {
         if self.given.get(i) {
-            Some(&self.values[i])
+            Some(self.parts.value(i))
         } else {
             None
         }
@@ -231,7 +259,7 @@ impl Children {
         if self.given.get(i) {
             return None;
         }
-        slot_in(&self.values[i])
+        slot_in(self.parts.value(i))
     }
 
     /// Puts a child into a slot of its own, of this number, and hands its value out, if it was there.
@@ -243,7 +271,7 @@ impl Children {
         let was_given = self.given.get(i);
         cut_at(&mut self.base, &mut self.index, i);
         self.given.unset(i);
-        let held = std::mem::replace(&mut self.values[i], in_place(slot));
+        let held = self.parts.replace(i, in_place(slot));
         if !was_given {
             return None;
         }
@@ -259,7 +287,7 @@ impl Children {
         let was_given = self.given.get(i);
         cut_at(&mut self.base, &mut self.index, i);
         self.given.unset(i);
-        let held = std::mem::replace(&mut self.values[i], nothing());
+        let held = self.parts.replace(i, nothing());
         if !was_given {
             return None;
         }
@@ -273,7 +301,7 @@ impl Children {
     {
         cut_at(&mut self.base, &mut self.index, i);
         self.given.unset(i);
-        self.values[i] = nothing();
+        let _held = self.parts.replace(i, nothing());
     }
 
     /// Puts a child's value in the stead of what stood there.
@@ -283,7 +311,7 @@ impl Children {
     {
         cut_at(&mut self.base, &mut self.index, i);
         self.given.set(i);
-        self.values[i] = value;
+        let _held = self.parts.replace(i, value);
     }
 
     /// One child more behind the others, which isn't there yet. Doesn't look at the others, but
@@ -292,9 +320,9 @@ impl Children {
         ensures added { OnOk result (self.new ≡ self.old ++ absent ∷ []) }
         ensures refused { OnErr result (self.new ≡ self.old) }
     {
-        let count = self.values.len();
+        let count = self.parts.len();
         make_room(alloc, &mut self.given, count)?;
-        let Ok(()) = self.values.push(nothing()) else {
+        let Ok(()) = self.parts.push(nothing()) else {
             return Err(OutOfMemory);
         };
         self.given.unset(count);
@@ -320,17 +348,20 @@ impl Children {
         ensures { (rest : List Cell) (last : Cell) → self.old ≡ rest ++ last ∷ []
             → self.new ≡ rest }
     {
-        self.values.pop();
-        cut_at(&mut self.base, &mut self.index, self.values.len());
+        self.parts.pop();
+        cut_at(&mut self.base, &mut self.index, self.parts.len());
     }
 
     /// Lets the index have all of the base, if that pays by now, and there is memory.
     fn index_more(&mut self)
         ensures { self.new ≡ self.old }
     {
+        let Some(values) = self.parts.as_slice() else {
+            return;
+        };
         let count = self.base.len();
         if self.index.pays(count) {
-            let _added = self.index.add(&self.values[..count]);
+            let _added = self.index.add(&values[..count]);
         }
     }
 
@@ -363,12 +394,15 @@ impl Children {
     fn has_same(&self, value: &Value) -> bool
         ensures { result ≡ has_same_cell (view value.now) self.now }
     {
+        let Some(values) = self.parts.as_slice() else {
+            return self.has_same_from(0, value);
+        };
         let indexed = self.index.len();
         let count = self.base.len();
-        if self.index.find(&self.values[..indexed], value).is_some() {
+        if self.index.find(&values[..indexed], value).is_some() {
             return true;
         }
-        is_among(&self.values[indexed..count], value) || self.has_same_from(count, value)
+        is_among(&values[indexed..count], value) || self.has_same_from(count, value)
     }
 
     /// Lets a child that isn't there and the next one change places.
@@ -431,28 +465,27 @@ impl Children {
 
     /// The values of children, each of which is there, the set of their numbers, and what is known
     /// of the first ones. Takes no memory.
-    pub fn into_parts(self) -> (Vec<Value>, ISet, Base)
+    pub fn into_parts(self) -> (Parts, ISet, Base)
         requires { IsSome (values_of self) }
-        ensures values { values_of self ≡ Some (vals_view result.0.items) }
-        ensures numbers { HasNumbers (length result.0.items) result.1 }
-        ensures base { AreApart result.2 result.0.items }
+        ensures values { values_of self ≡ Some (vals_view result.0) }
+        ensures numbers { HasNumbers (length result.0) result.1 }
+        ensures base { AreApart result.2 result.0 }
     {
-        (self.values, self.given, self.base)
+        (self.parts, self.given, self.base)
     }
 
     /// Children that are all there with these values, whose numbers are in this set, where this is
     /// known of the first ones. Takes no memory.
-    pub fn of_parts(values: Vec<Value>, numbers: ISet, base: Base) -> Children
-        requires numbers { HasNumbers (length values.items) numbers }
-        requires base { AreApart base values.items }
-        ensures { result ≡ map (λ v. given (view v)) values.items }
+    pub fn of_parts(alloc: Global, parts: Parts, numbers: ISet, base: Base) -> Children
+        requires numbers { HasNumbers (length parts) numbers }
+        requires base { AreApart base parts }
+        ensures { result ≡ map (λ v. given (view v)) parts }
     {
-        let index = ValueIndex::new(*values.allocator());
         Children {
-            values,
+            parts,
             given: numbers,
             base,
-            index,
+            index: ValueIndex::new(alloc),
         }
     }
 
@@ -460,7 +493,7 @@ impl Children {
     pub fn are_all_there(&self) -> bool
         ensures { result ≡ is_some (values_of self.now) }
     {
-        self.given.all_set(self.values.len())
+        self.given.all_set(self.parts.len())
     }
 
     /// The values of the children, each of which is there. Takes no memory.
@@ -468,6 +501,6 @@ impl Children {
         requires { IsSome (values_of self) }
         ensures { values_of self ≡ Some (vals_view result.items) }
     {
-        self.values
+        self.parts.into_values()
     }
 }

@@ -7,6 +7,7 @@ ghost use Rattle.fr_model.specs.Dynamics.{dynamics_in, members_in, elements_in, 
 
 use crate::children::Children;
 use crate::keys::{Keys, text_of};
+use crate::parts::Parts;
 use fr_shape::{Dyn, Items, Ledger, OutOfMemory, Text, Value, release};
 use std::alloc::Global;
 
@@ -49,19 +50,19 @@ fn array_with(elements: Vec<Dyn>) -> Value
 
 /// The dynamic array of these values. Those that aren't dynamic count as none, and are released.
 /// Without memory all are handed back.
-pub fn array_of(alloc: Global, values: Vec<Value>, ledger: &mut Ledger) -> Result<Value, Vec<Value>>
-    requires room { Room (vals_occur (vals_view values.items)) ledger.old }
+pub fn array_of(alloc: Global, values: Parts, ledger: &mut Ledger) -> Result<Value, Parts>
+    requires room { Room (vals_occur (vals_view values)) ledger.old }
     ensures value { IfOk result (λ v.
-        view v ≡ dyn (dyn_array (dynamics_in (vals_view values.items)))) }
-    ensures conserved { IfOk result (λ v. Conserved (vals_occur (vals_view values.items)) ledger.old
+        view v ≡ dyn (dyn_array (dynamics_in (vals_view values)))) }
+    ensures conserved { IfOk result (λ v. Conserved (vals_occur (vals_view values)) ledger.old
         (occurs (view v)) ledger.new) }
-    ensures handed_back { IfErr result (λ back. back.items ≡ values.items) }
+    ensures handed_back { IfErr result (λ back. back ≡ values) }
     ensures ledger_kept { OnErr result (ledger.new ≡ ledger.old) }
 {
     let Ok(elements) = Vec::with_capacity(alloc, values.len()) else {
         return Err(values);
     };
-    Ok(array_with(put_elements(elements, values, ledger)))
+    Ok(array_with(put_elements(elements, values.into_values(), ledger)))
 }
 
 /// The entries that these names and values make: each value under its name, as far as there are
@@ -103,23 +104,23 @@ fn object_with(members: Vec<(Text, Dyn)>) -> Value
 pub fn object_of(
     alloc: Global,
     keys: &mut Keys,
-    values: Vec<Value>,
+    values: Parts,
     ledger: &mut Ledger,
-) -> Result<Value, Vec<Value>>
-    requires room { Room (vals_occur (vals_view values.items)) ledger.old }
+) -> Result<Value, Parts>
+    requires room { Room (vals_occur (vals_view values)) ledger.old }
     ensures value { IfOk result (λ v.
-        view v ≡ dyn (dyn_object (members_in keys.old (vals_view values.items)))) }
-    ensures conserved { IfOk result (λ v. Conserved (vals_occur (vals_view values.items)) ledger.old
+        view v ≡ dyn (dyn_object (members_in keys.old (vals_view values)))) }
+    ensures conserved { IfOk result (λ v. Conserved (vals_occur (vals_view values)) ledger.old
         (occurs (view v)) ledger.new) }
     ensures keys_kept { OnErr result (keys.new ≡ keys.old) }
-    ensures handed_back { IfErr result (λ back. back.items ≡ values.items) }
+    ensures handed_back { IfErr result (λ back. back ≡ values) }
     ensures ledger_kept { OnErr result (ledger.new ≡ ledger.old) }
 {
     let Ok(members) = Vec::with_capacity(alloc, keys.len()) else {
         return Err(values);
     };
     let names = std::mem::replace(keys, Keys::none()).into_names(alloc);
-    Ok(object_with(put_members(members, names, values, ledger)))
+    Ok(object_with(put_members(members, names, values.into_values(), ledger)))
 }
 
 /// Puts elements at children, of which there are as many. Takes no memory.

@@ -3,6 +3,7 @@ ghost use Rattle.fr_values.specs.Common.{Conserved, IfErr, IfOk, OnErr, Room, []
 ghost use Rattle.std.specs.Prelude.{◌*◌, take, vec_len, vec_capacity, ◌++◌, ◌+◌, ◌<◌, ◌∷◌, ◌≡◌, ◌≤◌};
 
 use crate::key_places::{KeyedParts, places_of_keys};
+use crate::parts::Parts;
 use fr_model::law_gathering;
 use fr_shape::{Ledger, Value, release};
 use std::alloc::Global;
@@ -15,46 +16,48 @@ use std::vec::IntoIter;
 /// handed back.
 pub fn merge_entries(
     alloc: Global,
-    parts: Vec<Value>,
+    parts: Parts,
     base: usize,
     ledger: &mut Ledger,
-) -> Result<Vec<(Value, Value)>, Vec<Value>>
-    requires within { 2 * base ≤ length parts.items }
-    requires distinct { none_twice (first_keys base (vals_view parts.items)) ≡ true }
-    requires room { Room (vals_occur (vals_view parts.items)) ledger.old }
+) -> Result<Vec<(Value, Value)>, Parts>
+    requires within { 2 * base ≤ length parts }
+    requires distinct { none_twice (first_keys base (vals_view parts)) ≡ true }
+    requires room { Room (vals_occur (vals_view parts)) ledger.old }
     ensures merged { IfOk result (λ entries.
-        entries_view entries.items ≡ entries_in no_entries (vals_view parts.items)) }
+        entries_view entries.items ≡ entries_in no_entries (vals_view parts)) }
     ensures conserved { IfOk result (λ entries.
-        Conserved (vals_occur (vals_view parts.items)) ledger.old
+        Conserved (vals_occur (vals_view parts)) ledger.old
         (entries_occur (entries_view entries.items)) ledger.new) }
-    ensures handed_back { IfErr result (λ back. back.items ≡ parts.items) }
+    ensures handed_back { IfErr result (λ back. back ≡ parts) }
     ensures ledger_kept { OnErr result (ledger.new ≡ ledger.old) }
 {
-    let Ok(places) = places_of_keys(alloc, KeyedParts::Entries(parts.as_slice()), base) else {
+    let (held, new) = parts.as_slices();
+    let Ok(places) = places_of_keys(alloc, KeyedParts::Entries(held, new), base) else {
         return Err(parts);
     };
-    let Ok(mut entries) = Vec::with_capacity(alloc, parts.len() / 2) else {
-        return Err(parts);
+    let (mut entries, values) = match parts.into_entries(base) {
+        Ok(split) => split,
+        Err(back) => return Err(back),
     };
-    let mut rest = parts.into_iter();
+    let mut rest = values.into_iter();
     take_entries(&mut entries, &mut rest, base);
     law_gathering();
     Ok(put_entries(entries, rest, places.as_slice(), ledger))
 }
 
-/// Takes so many entries as they come.
+/// Takes entries as they come, until there are so many.
 fn take_entries(entries: &mut Vec<(Value, Value)>, rest: &mut IntoIter<Value>, count: usize)
-    requires empty { entries.old.items ≡ [] }
+    requires fewer { length entries.old.items ≤ count }
     requires space { count ≤ vec_capacity entries.old }
-    requires within { 2 * count ≤ into_iter_len rest.old }
+    requires within { 2 * count ≤ 2 * length entries.old.items + into_iter_len rest.old }
     requires counted { into_iter_len rest.old ≡ length (into_iter_items rest.old) }
-    ensures taken { into_iter_items rest.old
+    ensures taken { parts_of_entries entries.old.items ++ into_iter_items rest.old
         ≡ parts_of_entries entries.new.items ++ into_iter_items rest.new }
     ensures count { length entries.new.items ≡ count }
     ensures counted { into_iter_len rest.new ≡ length (into_iter_items rest.new) }
     ensures capacity { vec_capacity entries.new ≡ vec_capacity entries.old }
 {
-    for _taken in 0..count {
+    for _taken in entries.len()..count {
         let key = next_part(rest);
         let value = next_part(rest);
         entries.push_reserved((key, value));
@@ -139,26 +142,27 @@ fn put_entry(
 /// distinct: one that is `same` as an earlier one is released. Without memory they are handed back.
 pub fn distinct_items(
     alloc: Global,
-    mut items: Vec<Value>,
+    parts: Parts,
     base: usize,
     ledger: &mut Ledger,
-) -> Result<Vec<Value>, Vec<Value>>
-    requires within { base ≤ length items.items }
-    requires distinct { none_twice (vals_view (take base items.items)) ≡ true }
-    requires room { Room (vals_occur (vals_view items.items)) ledger.old }
+) -> Result<Vec<Value>, Parts>
+    requires within { base ≤ length parts }
+    requires distinct { none_twice (vals_view (take base parts)) ≡ true }
+    requires room { Room (vals_occur (vals_view parts)) ledger.old }
     ensures distinct { IfOk result (λ kept.
-        vals_view kept.items ≡ items_in no_vals (vals_view items.items)) }
+        vals_view kept.items ≡ items_in no_vals (vals_view parts)) }
     ensures conserved { IfOk result (λ kept.
-        Conserved (vals_occur (vals_view items.items)) ledger.old
+        Conserved (vals_occur (vals_view parts)) ledger.old
         (vals_occur (vals_view kept.items)) ledger.new) }
-    ensures handed_back { IfErr result (λ back. back.items ≡ items.items) }
+    ensures handed_back { IfErr result (λ back. back ≡ parts) }
     ensures ledger_kept { OnErr result (ledger.new ≡ ledger.old) }
 {
+    let mut items = parts.into_values();
     let Ok(places) = places_of_keys(alloc, KeyedParts::Items(items.as_slice()), base) else {
-        return Err(items);
+        return Err(Parts::of_values(items));
     };
     let Ok(new) = items.split_off(base) else {
-        return Err(items);
+        return Err(Parts::of_values(items));
     };
     law_gathering();
     Ok(keep_items(items, new, places.as_slice(), ledger))

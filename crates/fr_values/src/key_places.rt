@@ -9,12 +9,12 @@ use std::collections::{BTreeMap, BTreeSet};
 /// So many keys are sooner compared one by one with each other key than sorted.
 const FEW: usize = 8;
 
-/// The keys among some values: the items of a set are keys themselves, and of the parts of a map's
-/// entries each second one is a value.
+/// The keys among some values: the items of a set are keys themselves; a map has entries, each with
+/// a key, and behind them the parts of more, of which each second one is a value.
 #[derive(Clone, Copy)]
 pub(crate) enum KeyedParts<'a> {
     Items(&'a [Value]),
-    Entries(&'a [Value]),
+    Entries(&'a [(Value, Value)], &'a [Value]),
 }
 
 impl<'a> KeyedParts<'a> {
@@ -24,7 +24,7 @@ impl<'a> KeyedParts<'a> {
     {
         match self {
             KeyedParts::Items(items) => items.len(),
-            KeyedParts::Entries(parts) => parts.len() / 2,
+            KeyedParts::Entries(entries, parts) => entries.len() + parts.len() / 2,
         }
     }
 
@@ -35,7 +35,13 @@ impl<'a> KeyedParts<'a> {
     {
         match self {
             KeyedParts::Items(items) => ByContents(&items[number]),
-            KeyedParts::Entries(parts) => ByContents(&parts[2 * number]),
+            KeyedParts::Entries(entries, parts) => {
+                if number < entries.len() {
+                    ByContents(&entries[number].0)
+                } else {
+                    ByContents(&parts[2 * (number - entries.len())])
+                }
+            }
         }
     }
 

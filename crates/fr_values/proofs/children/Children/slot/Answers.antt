@@ -5,8 +5,8 @@ use Rattle.fr_values.proofs.children.Children.slot.Goals as goal
 pub get-requires : goal.get-requires
 get-requires c = record { inside = has_room c.self.inside.given _ _ c.self.view_is c.args.i c.self.invariant.room c.requires.inside }
 
-pub index-requires : goal.index-requires
-index-requires c = omega (arith, same_length c.self.inside.given _ _ c.self.view_is)
+pub value-requires : goal.value-requires
+value-requires c = omega (arith, same_length c.self.inside.given _ _ c.self.view_is)
 
 pub returns-then-get : goal.returns-then-get
 returns-then-get c = record { slot = no_slot_at c.self.inside.given _ _ c.self.view_is c.args.i (sym c.get.ensures.member ∙ c.if-get.true) }
@@ -15,6 +15,6 @@ pub returns : goal.returns
 returns c = record {
   slot =
       c.slot_in.ensures
-      ∙ slot_here c.self.inside.given _ _ c.self.view_is c.args.i c.index.result.now c.requires.inside c.index.ensures
+      ∙ slot_here c.self.inside.given _ _ c.self.view_is c.args.i c.value.result.now c.requires.inside c.value.ensures.value
       (sym c.get.ensures.member ∙ c.if-get.false);
 }

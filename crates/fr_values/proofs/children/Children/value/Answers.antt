@@ -5,13 +5,13 @@ use Rattle.fr_values.proofs.children.Children.value.Goals as goal
 pub get-requires : goal.get-requires
 get-requires c = record { inside = has_room c.self.inside.given _ _ c.self.view_is c.args.i c.self.invariant.room c.requires.inside }
 
-pub index-requires : goal.index-requires
-index-requires c = omega (arith, same_length c.self.inside.given _ _ c.self.view_is)
+pub value-requires : goal.value-requires
+value-requires c = omega (arith, same_length c.self.inside.given _ _ c.self.view_is)
 
 pub returns-then-get : goal.returns-then-get
 returns-then-get c = record {
   value =
-      value_here c.self.inside.given _ _ c.self.view_is c.args.i c.index.result.now c.requires.inside c.index.ensures
+      value_here c.self.inside.given _ _ c.self.view_is c.args.i c.value.result.now c.requires.inside c.value.ensures.value
       (sym c.get.ensures.member ∙ c.if-get.true);
 }
 
