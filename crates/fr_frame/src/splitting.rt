@@ -1,6 +1,6 @@
 //! Taking a value apart into those of the children that it has at a place that is begun.
-ghost use Rattle.std.specs.Prelude.{vec_capacity, ◌*◌, ◌+◌, ◌≡◌, ◌≤◌};
-ghost use Rattle.fr_frame.specs.Common.{HoldsNothingTwice, IfOk, IfSome, IsSome, OnErr, Some, [], as_content, as_entries, as_tracker, cells_of_vals, entries_of, entries_view, dynamic_in, length, map_of, member_vals, option_map, parts_of, parts_of_entries, set_items_of, view};
+ghost use Rattle.std.specs.Prelude.{◌+◌, ◌≡◌};
+ghost use Rattle.fr_frame.specs.Common.{HoldsNothingTwice, IfOk, IfSome, IsSome, OnErr, Some, as_content, as_entries, as_tracker, cells_of_vals, entries_of, entries_view, dynamic_in, length, map_of, member_vals, option_map, parts_of, set_items_of, view};
 ghost use Rattle.fr_model.specs.Contents.{content_of};
 ghost use Rattle.fr_model.specs.Dynamics.{members_of_object, object_keys};
 ghost use Rattle.fr_model.specs.Places.{base_in, items_of};

@@ -1,6 +1,9 @@
 -- Values side by side, of which the first are keys and values of entries in turn.
-use Rattle.std.proofs.Common.{◌≡◌, ℕ, zero, suc, ◌+◌, ◌-◌, ◌*◌, ◌<◌, ◌≤◌, true, List, [], ◌∷◌, ◌++◌, length, map, take, get_or, set, refl, sym, ap, ◌∙◌, arith}
+use Rattle.std.proofs.Common.{◌≡◌, ℕ, zero, suc, ◌+◌, ◌-◌, ◌*◌, ◌<◌, ◌≤◌, true, List, [], ◌∷◌, ◌++◌, length, map, take, get_or, set, false, refl, sym, ap, ◌∙◌, arith}
 use Rattle.std.proofs.lemmas.List.{get_or_append_left, get_or-append_right, set-append_right}
+use Rattle.std.proofs.lemmas.Grind.{common_steps}
+use Rattle.std.proofs.lemmas.Bool.Decides.{nat_tests}
+use Rattle.std.specs.Prelude.{◌==◌}
 use Rattle.fr_model.specs.Places.{in_turn}
 use Rattle.fr_values.specs.Common.{AreApart, Base, Cell, Value, cells_of_vals, entries_view, first, first_keys, given, keys, none_twice, parts_of_entries, vals_view, view}
 
@@ -26,6 +29,9 @@ put_behind es vs n i x count h = sym (set-append_right (parts_of_entries es) vs 
 pub parts_count : (es : List (Value × Value)) (vs : List Value) → length (parts_of_entries es ++ vs) ≡ 2 * length es + length vs
 parts_count [] vs = omega arith
 parts_count (e ∷ es) vs = omega (arith, parts_count es vs)
+
+pub not_none : (n : ℕ) → (n == 0) ≡ false → 0 < n
+not_none n e = grind (arith, common_steps, nat_tests)
 
 one_less : (x : Value) (vs : List Value) → 0 < length vs → take (length vs) (x ∷ vs) ≡ x ∷ take (length vs - 1) vs
 one_less x [] h = absurd (omega (arith, h))

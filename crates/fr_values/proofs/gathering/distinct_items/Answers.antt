@@ -1,4 +1,4 @@
-use Rattle.std.proofs.Common.{◌≡◌, List, drop, map, take, subst, sym, ap, ◌∙◌}
+use Rattle.std.proofs.Common.{List, drop, map, take, subst, sym, ap, ◌∙◌}
 use Rattle.fr_values.specs.Common.{Conserved, Room, Value, both, item_places, items_in, no_vals, none_twice, places_of, same, vals_occur, vals_view, view}
 use Rattle.fr_values.proofs.Gathered.{items_behind, items_held, items_joined}
 use Rattle.fr_values.proofs.gathering.distinct_items.Goals as goal

@@ -1,4 +1,4 @@
-use Rattle.std.proofs.Common.{◌*◌, ◌∙◌, List, length, map, ap, subst, sym, arith, ℕ}
+use Rattle.std.proofs.Common.{◌∙◌, List, length, map, ap, subst, sym, arith, ℕ}
 use Rattle.fr_values.specs.Cells.{HasNumbers}
 use Rattle.fr_values.specs.Common.{AreApart, Base, Value, given, view}
 use Rattle.fr_values.proofs.PartLaws.{turns_apart, turns_count, turns_given}
