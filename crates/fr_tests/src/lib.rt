@@ -14,6 +14,8 @@ mod hook_tests;
 #[cfg(test)]
 mod lookup_tests;
 #[cfg(test)]
+mod parsing_tests;
+#[cfg(test)]
 mod path_tests;
 #[cfg(test)]
 mod table_tests;
