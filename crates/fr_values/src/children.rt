@@ -148,11 +148,11 @@ fn is_among(values: &[Value], value: &Value) -> bool
     false
 }
 
-/// A set of the numbers of so many children.
-fn numbers_below(alloc: Global, count: usize) -> Result<ISet, OutOfMemory>
+/// A set of the numbers of so many children, with room for those of more.
+fn numbers_below(alloc: Global, count: usize, more: usize) -> Result<ISet, OutOfMemory>
     ensures { IfOk result (λ numbers. HasNumbers count numbers) }
 {
-    let Ok(mut numbers) = ISet::new(alloc, count) else {
+    let Ok(mut numbers) = ISet::new(alloc, count.saturating_add(more)) else {
         return Err(OutOfMemory);
     };
     numbers.set_all(count);
@@ -200,7 +200,7 @@ impl Children {
         ensures there { IfOk result (λ it. it ≡ map (λ v. given (view v)) values.items) }
         ensures handed_back { IfErr result (λ back. back.items ≡ values.items) }
     {
-        match numbers_below(alloc, values.len()) {
+        match numbers_below(alloc, values.len(), 0) {
             Ok(numbers) => {
                 let parts = Parts::of_values(values);
                 Ok(Children::of_parts(alloc, parts, numbers, base))
@@ -211,7 +211,7 @@ impl Children {
 
     /// The keys and values, in turn, of so many entries, no two of which have keys that are `same`,
     /// as children that are all there; or the entries back where there is no memory. Doesn't look at
-    /// each.
+    /// each, and has room for one entry more.
     pub fn of_entries(
         alloc: Global,
         entries: Vec<(Value, Value)>,
@@ -223,7 +223,7 @@ impl Children {
             it ≡ cells_of_vals (in_turn (entries_view entries.items))) }
         ensures handed_back { IfErr result (λ back. back.items ≡ entries.items) }
     {
-        let Ok(numbers) = numbers_below(alloc, 2 * count as usize) else {
+        let Ok(numbers) = numbers_below(alloc, 2 * count as usize, 2) else {
             return Err(entries);
         };
         match Parts::of_entries(alloc, entries) {

@@ -93,7 +93,7 @@ impl Parts {
     }
 
     /// The keys and values of these entries, in turn, or the entries back where there is no memory.
-    /// Doesn't look at each.
+    /// Doesn't look at each, and has room for one entry more.
     pub(crate) fn of_entries(
         alloc: Global,
         entries: Vec<(Value, Value)>,
@@ -101,10 +101,10 @@ impl Parts {
         ensures parts { IfOk result (λ it. it ≡ parts_of_entries entries.items) }
         ensures handed_back { IfErr result (λ back. back.items ≡ entries.items) }
     {
-        if entries.len() > usize::MAX / 2 {
+        if entries.len() >= usize::MAX / 2 {
             return Err(entries);
         }
-        match Vec::with_capacity(alloc, 2 * entries.len()) {
+        match Vec::with_capacity(alloc, 2 * entries.len() + 2) {
             Ok(values) => Ok(Parts { entries, values }),
             Err(_) => Err(entries),
         }
