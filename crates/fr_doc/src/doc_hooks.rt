@@ -135,7 +135,7 @@ fn convert_same(
 ) -> Result<Value, HookFault>
     requires room { Room (occurs (view value)) ledger.old }
     ensures meaning { Answers (if_it_fits table.now target.0 (view value)) result }
-    ensures kept { IfOk result (λ v.
+    ensures kept_or_released { IfOk result (λ v.
         Conserved (occurs (view value)) ledger.old (occurs (view v)) ledger.new) }
     ensures released { OnErr result (RoseBy (occurs (view value)) ledger.old ledger.new) }
 {
@@ -187,7 +187,7 @@ fn convert_not_zero(
 ) -> Result<Value, HookFault>
     requires room { Room (occurs (view value)) ledger.old }
     ensures meaning { Answers (not_zero table.now target.0 (view value)) result }
-    ensures kept { IfOk result (λ v.
+    ensures kept_or_released { IfOk result (λ v.
         Conserved (occurs (view value)) ledger.old (occurs (view v)) ledger.new) }
     ensures released { OnErr result (RoseBy (occurs (view value)) ledger.old ledger.new) }
 {
