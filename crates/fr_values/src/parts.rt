@@ -83,7 +83,7 @@ impl Parts {
     }
 
     /// These values. Takes no memory.
-    pub fn of_values(values: Vec<Value>) -> Parts
+    pub(crate) fn of_values(values: Vec<Value>) -> Parts
         ensures values { result ≡ values.items }
     {
         Parts {
@@ -111,7 +111,7 @@ impl Parts {
     }
 
     /// How many values there are.
-    pub fn len(&self) -> usize
+    pub(crate) fn len(&self) -> usize
         ensures count { result ≡ length self.now }
     {
         2 * self.entries.len() + self.values.len()
