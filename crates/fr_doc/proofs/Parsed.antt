@@ -10,7 +10,8 @@ use Rattle.std.specs.Str.Parse.{digits_value, starts_with_minus, ParsesUnsigned,
 use Rattle.std.specs.Int.{w128}
 use Rattle.std.proofs.lemmas.Str.{chars_past_char, encodes-chars, scalars-chars, chars-nil}
 use Rattle.std.proofs.lemmas.Str.Parse.{IsNumeralModel, numerals_by_value, tells_all_ascii_digits, parse_digits, parse_signed_digits, parse_signed_minus}
-use Rattle.fr_doc.specs.Numerals.{is_digits, without_minus, signed, digits_nat, digits_int, only, one_char}
+use Rattle.fr_shape.specs.Parsing.{is_numeral, only}
+use Rattle.fr_doc.specs.Numerals.{without_minus, signed, digits_nat, digits_int, one_char}
 
 own : IsNumeralModel (λ ds. all_ascii_digits ds ≡ true) (digits_value 10)
 own = numerals_by_value _ tells_all_ascii_digits
@@ -22,19 +23,19 @@ ok_where (Ok y) P false x h to from = let impossible : false ≡ true = from h.0
 ok_where (Err e) P true x h to from = absurd (h (to refl))
 ok_where (Err e) P false x h to from = refl
 
-digits_parts : (bs : List ℕ) → is_digits bs ≡ true → (all_ascii_digits bs ≡ true) × (0 < length bs)
+digits_parts : (bs : List ℕ) → is_numeral bs ≡ true → (all_ascii_digits bs ≡ true) × (0 < length bs)
 digits_parts bs digits =
     let both = and_parts (nat_lt 0 (length bs)) (all_ascii_digits bs) digits in (both.1, ltb-true 0 (length bs) both.0)
 
 -- a text of digits parses as the number that they write, if that has 128 bits
-pub nat_parses : {E : Type 0} (bs : List ℕ) (r : Result ℕ E) → ParsesUnsigned 128 10 bs r → is_digits bs ≡ true → result_ok r ≡ digits_nat bs
+pub nat_parses : {E : Type 0} (bs : List ℕ) (r : Result ℕ E) → ParsesUnsigned 128 10 bs r → is_numeral bs ≡ true → result_ok r ≡ digits_nat bs
 unfolding digits_nat
 nat_parses bs r h digits =
     let parts = digits_parts bs digits in
     let n = digits_value 10 bs in
     rw digits (ok_where r ((0 < length bs) × (n < 2 ^ 128)) (nat_lt n (2 ^ 128)) n (parse_digits own 128 bs r h parts.0) (λ b. (parts.1, ltb-true n (2 ^ 128) b)) (λ p. lt-ltb n (2 ^ 128) p.1))
 
-pub nat_not_digits : (bs : List ℕ) → is_digits bs ≡ false → digits_nat bs ≡ None
+pub nat_not_digits : (bs : List ℕ) → is_numeral bs ≡ false → digits_nat bs ≡ None
 unfolding digits_nat
 nat_not_digits bs other = rw other
 
@@ -43,7 +44,7 @@ no_minus [] h = refl
 no_minus (c ∷ rest) h =
     let e : (c == 45) ≡ false = ne_eqb c 45 (λ same. h rest (ap (λ x. x ∷ rest) same)) in rw e
 
-int_signed : {E : Type 0} (bs : List ℕ) (r : Result ℤ E) → ParsesSigned w128 10 bs r → (minus : Bool) → starts_with_minus bs ≡ minus → is_digits (cond minus (drop 1 bs) bs) ≡ true → result_ok r ≡ signed minus (digits_value 10 (cond minus (drop 1 bs) bs))
+int_signed : {E : Type 0} (bs : List ℕ) (r : Result ℤ E) → ParsesSigned w128 10 bs r → (minus : Bool) → starts_with_minus bs ≡ minus → is_numeral (cond minus (drop 1 bs) bs) ≡ true → result_ok r ≡ signed minus (digits_value 10 (cond minus (drop 1 bs) bs))
 int_signed bs r h true e digits =
     let parts = digits_parts (drop 1 bs) digits in
     let n = digits_value 10 (drop 1 bs) in
@@ -57,11 +58,11 @@ int_signed bs r h false e digits =
     (λ b. (parts.1, ltb-true n (2 ^ 127) b))
     (λ p. lt-ltb n (2 ^ 127) p.1)
 
-pub int_parses : {E : Type 0} (bs : List ℕ) (r : Result ℤ E) → ParsesSigned w128 10 bs r → is_digits (without_minus bs) ≡ true → result_ok r ≡ digits_int bs
+pub int_parses : {E : Type 0} (bs : List ℕ) (r : Result ℤ E) → ParsesSigned w128 10 bs r → is_numeral (without_minus bs) ≡ true → result_ok r ≡ digits_int bs
 unfolding digits_int
 int_parses bs r h digits = rw digits (int_signed bs r h (starts_with_minus bs) refl digits)
 
-pub int_not_digits : (bs : List ℕ) → is_digits (without_minus bs) ≡ false → digits_int bs ≡ None
+pub int_not_digits : (bs : List ℕ) → is_numeral (without_minus bs) ≡ false → digits_int bs ≡ None
 unfolding digits_int
 int_not_digits bs other = rw other
 

@@ -7,7 +7,7 @@ use Rattle.fr_shape.specs.Fits.{fits}
 use Rattle.fr_shape.specs.Tokens.{occurs}
 use Rattle.fr_shape.specs.Hooks.{Meaning, gives, refuses, unsupported, IfGives, FitsTarget, HoldsTokensOf, HoldsNoToken, IsLawful}
 use Rattle.fr_doc.specs.Integers.{is_zero}
-use Rattle.fr_doc.specs.DocHooks.{doc_hooks, if_it_fits, first_child, not_zero, refused, converted, text_parsed, parsed, utf8_parsed, bytes_parsed}
+use Rattle.fr_doc.specs.DocHooks.{doc_hooks, if_it_fits, first_child, not_zero, refused, hook_converted, text_parsed, hook_parsed, utf8_parsed, hook_parsed_bytes}
 use Rattle.fr_doc.specs.declared.doc_hooks.TheConstants.{CONVERT_FIRST_CHILD, CONVERT_SAME, CONVERT_NEVER, CONVERT_NOT_ZERO, PARSE_TEXT, PARSE_BYTES_UTF8}
 
 -- what holds of the one meaning where the test is true, and of the other, holds of what the test picks
@@ -72,7 +72,7 @@ module _ (table : Table) (target : ℕ) where
   -- of whatever is converted: it is the source or its first child
   converted_where_it_fits : (hook : ℕ) (source : Val) (So : Val → Type 0) → (fits table target source ≡ true → So source)
       → ((child : Val) (others : Vals) → source ≡ product (first child others) → fits table target child ≡ true → So child)
-      → IfGives (converted table hook target source) So
+      → IfGives (hook_converted table hook target source) So
   converted_where_it_fits hook source So whole part =
       either (nat_eq hook CONVERT_FIRST_CHILD) (first_child table target source) _ So
       (λ e. child_where_it_fits source So part)
@@ -86,11 +86,11 @@ module _ (table : Table) (target : ℕ) where
   text_where_it_fits : (t : List ℕ) (So : Val → Type 0) → (fits table target (text t) ≡ true → So (text t)) → IfGives (text_parsed table target t) So
   text_where_it_fits t So holds = either (fits table target (text t)) (gives (text t)) refused So holds tt
 
-  parsed_where_it_fits : (hook : ℕ) (t : List ℕ) (So : Val → Type 0) → (fits table target (text t) ≡ true → So (text t)) → IfGives (parsed table hook target t) So
+  parsed_where_it_fits : (hook : ℕ) (t : List ℕ) (So : Val → Type 0) → (fits table target (text t) ≡ true → So (text t)) → IfGives (hook_parsed table hook target t) So
   parsed_where_it_fits hook t So holds =
       either (nat_eq hook PARSE_TEXT) (text_parsed table target t) unsupported So (λ e. text_where_it_fits t So holds) tt
 
-  bytes_parsed_where_it_fits : (hook : ℕ) (bytes : List ℕ) (So : Val → Type 0) → (fits table target (text bytes) ≡ true → So (text bytes)) → IfGives (bytes_parsed table hook target bytes) So
+  bytes_parsed_where_it_fits : (hook : ℕ) (bytes : List ℕ) (So : Val → Type 0) → (fits table target (text bytes) ≡ true → So (text bytes)) → IfGives (hook_parsed_bytes table hook target bytes) So
   bytes_parsed_where_it_fits hook bytes So holds =
       either (nat_eq hook PARSE_BYTES_UTF8) (utf8_parsed table target bytes) unsupported So
       (λ e. either (is_utf8 bytes) (text_parsed table target bytes) refused So (λ e'. text_where_it_fits bytes So holds) tt)

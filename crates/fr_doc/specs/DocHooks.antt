@@ -9,8 +9,8 @@ use Rattle.fr_doc.specs.Integers.{integers, is_zero, none_is_zero, are_in_order,
 use Rattle.fr_doc.specs.declared.doc_hooks.TheConstants.{CHECK_NO_ZERO, CHECK_IN_ORDER, CHECK_NEVER, CHECK_NO_NEGATIVE, CONVERT_FIRST_CHILD, CONVERT_SAME, CONVERT_NEVER, CONVERT_NOT_ZERO, PARSE_TEXT, PARSE_BYTES_UTF8}
 
 -- whether the value passes the check of this number
-abbrev pub passes : (hook : ℕ) → Val → Bool
-passes hook v =
+abbrev pub passes_check : (hook : ℕ) → Val → Bool
+passes_check hook v =
     if nat_eq hook CHECK_NO_ZERO then none_is_zero (integers v) else
     if nat_eq hook CHECK_IN_ORDER then are_in_order (integers v) else
     if nat_eq hook CHECK_NEVER then false else
@@ -40,8 +40,8 @@ not_zero table target (nat n) = unless_zero (pos n) (if_it_fits table target (na
 not_zero table target _ = unsupported
 
 -- what the conversion of this number makes of a source
-abbrev pub converted : Table → (hook target : ℕ) → (source : Val) → Meaning
-converted table hook target source =
+abbrev pub hook_converted : Table → (hook target : ℕ) → (source : Val) → Meaning
+hook_converted table hook target source =
     if nat_eq hook CONVERT_FIRST_CHILD then first_child table target source else
     if nat_eq hook CONVERT_SAME then if_it_fits table target source else
     if nat_eq hook CONVERT_NEVER then refused else
@@ -52,22 +52,22 @@ abbrev pub text_parsed : Table → (target : ℕ) → List ℕ → Meaning
 text_parsed table target t = if fits table target (text t) then gives (text t) else refused
 
 -- what the parsing hook of this number makes of a text
-abbrev pub parsed : Table → (hook target : ℕ) → List ℕ → Meaning
-parsed table hook target t = if nat_eq hook PARSE_TEXT then text_parsed table target t else unsupported
+abbrev pub hook_parsed : Table → (hook target : ℕ) → List ℕ → Meaning
+hook_parsed table hook target t = if nat_eq hook PARSE_TEXT then text_parsed table target t else unsupported
 
 -- bytes as a text, if they are UTF-8 and it fits the target
 abbrev pub utf8_parsed : Table → (target : ℕ) → (bytes : List ℕ) → Meaning
 utf8_parsed table target bytes = if is_utf8 bytes then text_parsed table target bytes else refused
 
 -- what the hook of this number that parses bytes makes of bytes
-abbrev pub bytes_parsed : Table → (hook target : ℕ) → (bytes : List ℕ) → Meaning
-bytes_parsed table hook target bytes = if nat_eq hook PARSE_BYTES_UTF8 then utf8_parsed table target bytes else unsupported
+abbrev pub hook_parsed_bytes : Table → (hook target : ℕ) → (bytes : List ℕ) → Meaning
+hook_parsed_bytes table hook target bytes = if nat_eq hook PARSE_BYTES_UTF8 then utf8_parsed table target bytes else unsupported
 
 -- the hooks that documents name by number
 abbrev pub doc_hooks : Meanings
 doc_hooks = record {
-  check = passes;
-  convert = converted;
-  parse = parsed;
-  parse_bytes = bytes_parsed;
+  check = passes_check;
+  convert = hook_converted;
+  parse = hook_parsed;
+  parse_bytes = hook_parsed_bytes;
 }

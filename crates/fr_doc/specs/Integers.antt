@@ -70,7 +70,7 @@ keep IntegerRule.NoNegative zs = none_is_negative zs
 
 -- How a pass over the integers tests them, one after another.
 
--- the number that is written
+-- the integer that it is
 abbrev pub number : Integer → ℤ
 number (Integer.Int z) = z
 number (Integer.Nat n) = pos n

@@ -1,19 +1,16 @@
 -- Numbers and characters in a document.
-use Rattle.std.specs.Prelude.{ℕ, ◌+◌, ◌^◌, ◌&&◌, nat_lt, cond, ℤ, pos, neg_ℤ, Bool, true, false, List, [], ◌∷◌, drop, length, Option, Some, None, if◌then◌else◌}
-use Rattle.std.specs.Str.{all_ascii_digits, chars}
+use Rattle.std.specs.Prelude.{ℕ, ◌+◌, ◌^◌, ◌&&◌, nat_lt, cond, ℤ, pos, neg_ℤ, Bool, true, false, List, drop, Option, Some, None, if◌then◌else◌}
+use Rattle.std.specs.Str.{chars}
 use Rattle.std.specs.Str.Parse.{digits_value, starts_with_minus}
+use Rattle.fr_shape.specs.Parsing.{is_numeral, only}
 use Rattle.serde_json.specs.Data.{Data, number, string}
 use Rattle.serde_json.specs.Find.{as_number, as_u64, as_i64, as_integer}
 use Rattle.fr_doc.specs.Steps.{◌>>=◌}
 
--- one or more of the digits 0 to 9
-abbrev pub is_digits : List ℕ → Bool
-is_digits text = nat_lt 0 (length text) && all_ascii_digits text
-
 -- the number that the digits of a text write, if it has 128 bits
 unfoldable pub digits_nat : List ℕ → Option ℕ
 digits_nat text =
-    if is_digits text && nat_lt (digits_value 10 text) (2 ^ 128) then Some (digits_value 10 text) else None
+    if is_numeral text && nat_lt (digits_value 10 text) (2 ^ 128) then Some (digits_value 10 text) else None
 
 -- a text without the minus that it begins with, if it does
 abbrev pub without_minus : List ℕ → List ℕ
@@ -27,11 +24,7 @@ signed false n = if nat_lt n (2 ^ 127) then Some (pos n) else None
 -- the signed number that a text writes by digits, which may follow a minus
 unfoldable pub digits_int : List ℕ → Option ℤ
 digits_int text =
-    if is_digits (without_minus text) then signed (starts_with_minus text) (digits_value 10 (without_minus text)) else None
-
-abbrev pub only : List ℕ → Option ℕ
-only (c ∷ []) = Some c
-only _ = None
+    if is_numeral (without_minus text) then signed (starts_with_minus text) (digits_value 10 (without_minus text)) else None
 
 -- the character of a text that has no other
 abbrev pub one_char : List ℕ → Option ℕ

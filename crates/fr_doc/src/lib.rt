@@ -43,7 +43,7 @@ pub use doc_hooks::{
 };
 pub use fault::{DocFault, DocPlace, DocSize, ReadError};
 pub use fr_shape::TableFault;
-pub use laws::law_printed_float_free;
+pub use laws::{law_doc_hooks, law_printed_float_free};
 pub use looping::{DOCUMENT_LIMIT, INPUT_LIMIT, InputFault, read_input, write_report};
 pub use members::{has_float, has_only};
 pub use memory::{MemSink, MemSource};

@@ -1,6 +1,7 @@
 //! Numbers and characters in a document.
 ghost use Rattle.std.specs.Prelude.{◌≡◌, ◌↔◌, IsTrue, true};
-ghost use Rattle.fr_doc.specs.Numerals.{is_digits, without_minus, digits_nat, digits_int, nat_form, int_form, small_int_form, char_form, one_char, length_form, whole_number, byte};
+ghost use Rattle.fr_shape.specs.Parsing.{is_numeral};
+ghost use Rattle.fr_doc.specs.Numerals.{without_minus, digits_nat, digits_int, nat_form, int_form, small_int_form, char_form, one_char, length_form, whole_number, byte};
 ghost use Rattle.fr_doc.specs.ProxyForms.{id_form, hook_form};
 ghost use Rattle.serde_json.specs.View.{view as data_of};
 
@@ -9,7 +10,7 @@ use serde_json::Value as Json;
 
 /// Whether a text is one or more of the digits 0 to 9.
 fn has_digits(text: &[u8]) -> bool
-    ensures { result ≡ is_digits text.now }
+    ensures { result ≡ is_numeral text.now }
 {
     for byte in text {
         if !byte.is_ascii_digit() {

@@ -6,8 +6,8 @@ pub mod Choosing
 pub mod Common
 pub mod DynamicBeginnings
 pub mod Ending
-pub mod EntryRefusals
 pub mod HeldPlan
+pub mod KeyRefusals
 pub mod Looks
 pub mod Making
 pub mod Modes

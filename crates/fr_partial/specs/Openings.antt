@@ -1,4 +1,4 @@
--- Lists, arrays and pointers to slices: which places come to be begun so, and which take items.
+-- Which places come to be begun as their definition tells, and which take items.
 use Rattle.std.specs.Prelude.{◌≡◌, ℕ, Bool, true, false, IsSome}
 use Rattle.fr_shape.specs.declared.shape.Def.{Def}
 use Rattle.fr_frame.specs.Bodies.{HoldsNothingTwice}

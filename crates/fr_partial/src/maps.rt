@@ -3,7 +3,7 @@ ghost use Rattle.fr_partial.specs.Common.{Call, Decides, HasItems, IfOk, IfSome,
 ghost use Rattle.std.specs.Prelude.{suc, ◌≡◌, ◌≢◌};
 ghost use Rattle.fr_shape.specs.declared.error.ReflectErrorKind.{ReflectErrorKind as Kind};
 ghost use Rattle.fr_model.specs.Collections.{unless_map};
-ghost use Rattle.fr_partial.specs.EntryRefusals.{key_refusal_by, value_refusal_by};
+ghost use Rattle.fr_partial.specs.KeyRefusals.{key_refusal_by, value_refusal_by};
 
 use crate::dynamic_places::{Parts, is_dynamic};
 use crate::lists::{at_shape, unexpected};

@@ -105,7 +105,7 @@ BranchesLater k [] second = ⊥
 BranchesLater k (i ∷ first) [] = ⊥
 BranchesLater k (i ∷ first) (j ∷ second) = IsAfterBelow k i j ⊎ ((i ≡ j) × BranchesLater (kid_below i k) first second)
 
--- the shorter way comes first, and of two of one length that which is above
+-- the shorter way comes first, and of two of one length that which branches later
 abbrev pub ComesEarlier : Kid → (first second : Place) → Type 0
 ComesEarlier k first second = (length first < length second) ⊎ ((length first ≡ length second) × BranchesLater k first second)
 
