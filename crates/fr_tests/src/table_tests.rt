@@ -2,5 +2,6 @@
 //! each call that allocates with ample memory, and hooks.
 mod calls;
 mod fits_rows;
+mod invariants;
 mod malformed;
 mod many;
