@@ -2,8 +2,7 @@
 use Rattle.std.proofs.Common.{◌≡◌, false, refl, ℕ, suc, ◌+◌, ◌-◌, ◌<◌, List, [], ◌∷◌, length, slice_get, ap, arith}
 use Rattle.fr_shape.specs.declared.shape.Def.{Def}
 use Rattle.fr_shape.specs.Val.{Val, unit, bool, char, int, nat, text, token, product, variant, none, some, ok, err, list_of, map_of, set_of, ptr, dyn}
-use Rattle.fr_shape.specs.Look.{Table, settled}
-use Rattle.fr_shape.specs.Invariants.{shape_behind, settled_shape_in}
+use Rattle.fr_shape.specs.Look.{Table, settled, shape_behind, settled_shape_in}
 use Rattle.fr_shape.specs.Fits.{fits, count_vals}
 use Rattle.fr_shape.specs.View.{vals_view}
 use Rattle.fr_shape.specs.declared.value.Value.{Value}

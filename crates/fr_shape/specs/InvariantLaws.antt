@@ -13,13 +13,13 @@ use Rattle.fr_shape.specs.declared.shape.HookId.{HookId}
 use Rattle.fr_shape.specs.declared.shape.Def.{Def}
 use Rattle.fr_shape.specs.declared.shape.Field.{Field}
 use Rattle.fr_shape.specs.declared.shape.VariantDef.{VariantDef}
-use Rattle.fr_shape.specs.Look.{Table, def_or_other, inner_or_none, behind, settled_in, settled}
+use Rattle.fr_shape.specs.Look.{Table, def_or_other, inner_or_none, behind, settled_in, settled, own_or_wrapped, shape_behind, settled_shape_in, settled_shape}
 use Rattle.fr_shape.specs.Lists.{is_nil}
 use Rattle.fr_shape.specs.Checked.{fields_of, proxies_of}
 use Rattle.fr_shape.specs.Fits.{fits, all_fit, fields_fit, entries_fit, takes_product, takes_variant, takes_some, takes_ok, takes_err, takes_list, takes_set, takes_map, takes_ptr, fields_of_variant, points_at, count_vals}
 use Rattle.fr_shape.specs.Same.{none_twice, keys}
 use Rattle.fr_shape.specs.Plannable.{Reached, at_root, further, made_of, children_by, children_of, own_sources, field_sources, leads_to, is_plain_shape, is_plain_field, is_dynamic, IsPlain}
-use Rattle.fr_shape.specs.Invariants.{own_or_wrapped, shape_behind, settled_shape_in, settled_shape, if_struct, asked_of, passes_own, keeps_invariants, all_keep, fields_keep, entries_keep}
+use Rattle.fr_shape.specs.Invariants.{HasNoInvariant, if_struct, asked_of, passes_own, keeps_invariants, all_keep, fields_keep, entries_keep}
 use Rattle.fr_shape.specs.Val.{Val, Vals, Entries, unit, bool, char, int, nat, text, token, product, variant, none, some, ok, err, list_of, map_of, set_of, ptr, dyn, no_vals, first, no_entries, entry}
 
 -- one step leads to the definition of the shape that it leads to
@@ -55,11 +55,6 @@ settled_in_by_shape table (suc n) id =
 -- a shape settles to the definition of the shape that it stands for
 pub settled_by_shape : (table : Table) (id : ℕ) (shape : Option Shape) → shape ≡ settled_shape table id → def_or_other shape ≡ settled table id
 settled_by_shape table id shape is = ap def_or_other is ∙ settled_in_by_shape table (length table) id
-
--- no shape that the root reaches has an invariant
-abbrev pub HasNoInvariant : Table → ℕ → Type 0
-HasNoInvariant table root =
-    (id : ℕ) (shape : Shape) → Reached table root id → slice_get table id ≡ Some shape → shape.invariant ≡ None
 
 -- a plain table has none
 pub plain_has_none : (table : Table) (root : ℕ) → IsPlain table root → HasNoInvariant table root

@@ -1,35 +1,16 @@
 -- The invariants of the struct values in a value, by the value's shape. The words of `Fits` tell of each form which shapes its parts
 -- have; all is said of values that fit.
-use Rattle.std.specs.Prelude.{ℕ, zero, suc, Bool, true, ◌&&◌, List, ◌∷◌, length, slice_get, Option, Some, None}
+use Rattle.std.specs.Prelude.{◌≡◌, ℕ, Bool, true, ◌&&◌, List, ◌∷◌, slice_get, Option, Some, None}
 use Rattle.std.specs.Option.{option_map_or}
 use Rattle.fr_shape.specs.declared.shape.Shape.{Shape}
 use Rattle.fr_shape.specs.declared.shape.ShapeId.{ShapeId}
 use Rattle.fr_shape.specs.declared.shape.HookId.{HookId}
 use Rattle.fr_shape.specs.declared.shape.Def.{Def}
 use Rattle.fr_shape.specs.declared.shape.Field.{Field}
-use Rattle.fr_shape.specs.Look.{Table, settled}
+use Rattle.fr_shape.specs.Look.{Table, settled, settled_shape}
+use Rattle.fr_shape.specs.Plannable.{Reached}
 use Rattle.fr_shape.specs.Fits.{takes_product, takes_variant, takes_some, takes_ok, takes_err, takes_list, takes_set, takes_map, takes_ptr, count_vals}
 use Rattle.fr_shape.specs.Val.{Val, Vals, Entries, unit, bool, char, int, nat, text, token, product, variant, none, some, ok, err, list_of, map_of, set_of, ptr, dyn, no_vals, first, no_entries, entry}
-
--- a shape of this definition, or where that is `Other`, what it wraps
-abbrev pub own_or_wrapped : Def → Option ShapeId → (own : Shape) → (ℕ → Option Shape) → Option Shape
-own_or_wrapped Def.Other (Some wrapped) own stands_for = stands_for wrapped.0
-own_or_wrapped Def.Other None own stands_for = None
-own_or_wrapped _ inner own stands_for = Some own
-
--- an `Other` stands for what it wraps, any other shape for itself
-abbrev pub shape_behind : Option Shape → (ℕ → Option Shape) → Option Shape
-shape_behind None stands_for = None
-shape_behind (Some shape) stands_for = own_or_wrapped shape.def shape.inner shape stands_for
-
--- the first shape on a shape's chain of `inner` that isn't an `Other`, in at most n steps
-abbrev pub settled_shape_in : Table → ℕ → ℕ → Option Shape
-settled_shape_in table zero id = None
-settled_shape_in table (suc n) id = shape_behind (slice_get table id) (λ wrapped. settled_shape_in table n wrapped)
-
--- the same, however long the chain is
-abbrev pub settled_shape : Table → ℕ → Option Shape
-settled_shape table id = settled_shape_in table (length table) id
 
 -- only a struct's invariant is asked
 abbrev pub if_struct : Def → Option HookId → Option HookId
@@ -86,3 +67,8 @@ abbrev mutual
   entries_keep check table k v no_entries = true
   entries_keep check table k v (entry key value es) =
       keeps_invariants check table k key && keeps_invariants check table v value && entries_keep check table k v es
+
+-- no shape that the root reaches has an invariant
+abbrev pub HasNoInvariant : Table → ℕ → Type 0
+HasNoInvariant table root =
+    (id : ℕ) (shape : Shape) → Reached table root id → slice_get table id ≡ Some shape → shape.invariant ≡ None

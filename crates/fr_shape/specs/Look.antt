@@ -61,6 +61,26 @@ settled_in table (suc n) id = behind (def_of table id) (inner_of table id) (λ w
 abbrev pub settled : Table → ℕ → Def
 settled table id = settled_in table (length table) id
 
+-- a shape of this definition, or where that is `Other`, what it wraps
+abbrev pub own_or_wrapped : Def → Option ShapeId → (own : Shape) → (ℕ → Option Shape) → Option Shape
+own_or_wrapped Def.Other (Some wrapped) own stands_for = stands_for wrapped.0
+own_or_wrapped Def.Other None own stands_for = None
+own_or_wrapped _ inner own stands_for = Some own
+
+-- an `Other` stands for what it wraps, any other shape for itself
+abbrev pub shape_behind : Option Shape → (ℕ → Option Shape) → Option Shape
+shape_behind None stands_for = None
+shape_behind (Some shape) stands_for = own_or_wrapped shape.def shape.inner shape stands_for
+
+-- the first shape on a shape's chain of `inner` that isn't an `Other`, in at most n steps
+abbrev pub settled_shape_in : Table → ℕ → ℕ → Option Shape
+settled_shape_in table zero id = None
+settled_shape_in table (suc n) id = shape_behind (slice_get table id) (λ wrapped. settled_shape_in table n wrapped)
+
+-- the same, however long the chain is
+abbrev pub settled_shape : Table → ℕ → Option Shape
+settled_shape table id = settled_shape_in table (length table) id
+
 -- the variants of an enum
 abbrev pub variants_of : Def → List VariantDef
 variants_of (Def.Enum enumeration) = enumeration.variants

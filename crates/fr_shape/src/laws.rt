@@ -5,10 +5,9 @@ ghost use Rattle.fr_shape.specs.Val.{Val};
 ghost use Rattle.fr_shape.specs.Look.{Table, def_of};
 ghost use Rattle.fr_shape.specs.Fits.{fits};
 ghost use Rattle.fr_shape.specs.Tokens.{tokens};
-ghost use Rattle.fr_shape.specs.Plannable.{IsPlain};
 ghost use Rattle.fr_shape.specs.Hooks.{IfGives, IsLawful, no_hooks};
 ghost use Rattle.fr_shape.specs.Parsing.{parsed};
-ghost use Rattle.fr_shape.specs.Invariants.{keeps_invariants};
+ghost use Rattle.fr_shape.specs.Invariants.{HasNoInvariant, keeps_invariants};
 ghost use Rattle.fr_shape.specs.Once.{ConservingKeepsOrReleases};
 
 use crate::{Hooks, NoHooks};
@@ -36,9 +35,9 @@ pub fn law_parsing()
     ensures no_token { (def : Def) (s : List ℕ) → IfGives (parsed def s) (λ v. tokens v ≡ []) }
 {}
 
-/// Over a table that is plain for a root, each value that fits the root keeps the invariants.
+/// Where no shape that a root reaches has an invariant, each value that fits the root keeps them.
 pub fn law_invariants()
     ensures kept { (check : ℕ → Val → Bool) (table : Table) (root : ℕ) (v : Val)
-        → IsPlain table root → fits table root v ≡ true
+        → HasNoInvariant table root → fits table root v ≡ true
         → keeps_invariants check table root v ≡ true }
 {}

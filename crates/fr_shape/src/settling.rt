@@ -1,8 +1,7 @@
 //! What a shape stands for: the first shape behind its wrappers.
 ghost use Rattle.std.specs.Prelude.{◌≡◌, unwrap_or};
 ghost use Rattle.std.specs.Option.{option_copied};
-ghost use Rattle.fr_shape.specs.Look.{settled};
-ghost use Rattle.fr_shape.specs.Invariants.{settled_shape};
+ghost use Rattle.fr_shape.specs.Look.{settled, settled_shape};
 ghost use Rattle.fr_shape.specs.declared.shape.Def.{Def as TheDef};
 
 use crate::{Def, Shape, ShapeId, ShapeTable};

@@ -1,5 +1,5 @@
 use Rattle.std.proofs.Common.{◌≡◌, ◌-◌, length}
-use Rattle.fr_shape.specs.Invariants.{settled_shape_in, settled_shape}
+use Rattle.fr_shape.specs.Look.{settled_shape_in, settled_shape}
 use Rattle.fr_shape.proofs.settling.settle.Given as goal
 
 -- where the chain has come stands for the same, in as many steps as are left
