@@ -1,6 +1,7 @@
 pub mod Build
 pub mod Fields
 pub mod FillQuestions
+pub mod Invariants
 pub mod Lists
 pub mod LookupLaws
 pub mod Lookups

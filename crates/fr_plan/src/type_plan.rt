@@ -1,27 +1,29 @@
 //! The plan of a type.
-ghost use Rattle.std.specs.Prelude.{◌≡◌, ℕ, ◌<◌, ◌≤◌, ◌+◌, [], length, replicate, slice_get, Some, IfOk, IfErr};
+ghost use Rattle.std.specs.Prelude.{◌≡◌, ℕ, ◌<◌, ◌≤◌, ◌+◌, [], length, replicate, slice_get, true, false, Some, IfOk, IfErr};
 ghost use Rattle.fr_shape.specs.Checked.{IsChecked};
 ghost use Rattle.fr_shape.specs.Look.{Table, IsIn, def_of, variants_of};
 ghost use Rattle.fr_shape.specs.Plannable.{Reached};
+ghost use Rattle.fr_shape.specs.Invariants.{HasNoInvariant};
 ghost use Rattle.fr_shape.specs.declared.shape.ShapeId.{ShapeId as Id};
 ghost use Rattle.fr_rules.specs.Pools.{part_of};
 ghost use Rattle.fr_rules.specs.VariantLookups.{variant_named};
 ghost use Rattle.fr_plan.specs.Build.{planned};
 ghost use Rattle.fr_plan.specs.Fields.{has_validators};
+ghost use Rattle.fr_plan.specs.Invariants.{HasInvariant, has_invariant, have_invariants};
 ghost use Rattle.fr_plan.specs.Names.{declared_field, variant_told_by};
 ghost use Rattle.fr_plan.specs.Results.{IsMeant};
 ghost use Rattle.fr_plan.specs.declared.outlines.Mark.{Mark as TheMark};
 
 use crate::node_building::build_shape;
 use crate::nodes::{NodeId, TypePlanNode};
-use crate::outlines::{Mark, Walk};
+use crate::outlines::{Mark, Outline, Walk};
 use crate::plan_lists::PlanLists;
 use crate::plans::{FieldPlan, FieldRange, ValidatorRange, VariantPlanMeta, VariantRange};
 use crate::shape_fields::{
     ShapeFields, all_kept, are_validated, find_declared, find_named, find_told_by,
 };
 use crate::telling::nodes_of;
-use fr_arena::{Arena, Idx};
+use fr_arena::{Arena, Idx, SliceRange};
 use fr_rules::{LookupPool, PrecomputedValidator};
 use fr_shape::{OutOfMemory, PlanError, ShapeId, ShapeTable};
 use std::alloc::Global;
@@ -36,6 +38,8 @@ pub struct TypePlanCore {
     pub(crate) lists: PlanLists,
     pub(crate) walk: Walk,
     pub(crate) shape_fields: Arena<ShapeFields>,
+    /// Whether the shape of a node has an invariant.
+    pub(crate) has_invariants: bool,
 }
 
 impl Model for TypePlanCore {
@@ -43,7 +47,7 @@ impl Model for TypePlanCore {
 
     ghost Value = { Plan };
 
-    ghost view = { λ core. record { nodes = core.nodes; root = core.root; lists = core.lists; walk = core.walk; shape_fields = core.shape_fields } };
+    ghost view = { λ core. record { nodes = core.nodes; root = core.root; lists = core.lists; walk = core.walk; shape_fields = core.shape_fields; has_invariants = core.has_invariants } };
 
     ghost use Rattle.std.specs.Prelude.{◌<◌, length};
 
@@ -73,6 +77,7 @@ impl TypePlanCore {
         let Ok(shape_fields) = all_kept(alloc, table, &walk.marks) else {
             return Err(PlanError::OutOfMemory);
         };
+        let has_invariants = have_invariants(table, &walk.nodes);
         let mut lists = PlanLists::new(alloc);
         match nodes_of(alloc, table, &walk.nodes, &mut lists) {
             Ok(nodes) => Ok(TypePlanCore {
@@ -81,6 +86,7 @@ impl TypePlanCore {
                 lists,
                 walk,
                 shape_fields,
+                has_invariants,
             }),
             Err(OutOfMemory) => Err(PlanError::OutOfMemory),
         }
@@ -216,12 +222,47 @@ impl TypePlanCore {
         are_validated(&self.shape_fields, shape, variant)
     }
 
+    /// Whether the root reaches a shape with an invariant. It was asked once, for the plan.
+    pub fn has_invariants(&self) -> bool
+        ensures none { (table : Table) (root : Id) → IsChecked table → IsIn table root.0
+            → IsPlanOf table root self.now → result ≡ false → HasNoInvariant table root.0 }
+        ensures some { (table : Table) (root : Id) → IsChecked table → IsIn table root.0
+            → IsPlanOf table root self.now → result ≡ true → HasInvariant table root.0 }
+    {
+        self.has_invariants
+    }
+
     /// How many nodes there are.
     pub fn node_count(&self) -> usize
         ensures count { result ≡ length self.now.nodes }
     {
         self.nodes.len()
     }
+}
+
+/// Whether the shape of a node has an invariant.
+fn has_invariant(table: &ShapeTable, outline: &Outline) -> bool
+    ensures { result ≡ has_invariant table.now outline.now }
+{
+    match table.get(outline.shape) {
+        Some(shape) => shape.invariant.is_some(),
+        None => false,
+    }
+}
+
+/// Whether that of any of these nodes has one.
+fn any_has_invariant(table: &ShapeTable, outlines: &[Outline]) -> bool
+    ensures { result ≡ have_invariants table.now outlines.now }
+{
+    outlines.iter().any(|outline| has_invariant(table, outline))
+}
+
+/// The same of all nodes of a plan.
+fn have_invariants(table: &ShapeTable, outlines: &Arena<Outline>) -> bool
+    ensures { result ≡ have_invariants table.now outlines.now }
+{
+    let all = SliceRange::new(0, outlines.len() as u32);
+    any_has_invariant(table, outlines.get_slice(all))
 }
 
 /// The walk before it starts: no node is there, and no shape was met.

@@ -29,6 +29,7 @@ returns-in-Ok-nodes_of-clause-plan c = record {
       ∙ c.in-Ok-build_shape.ensures;
   told = c.in-Ok-nodes_of.ensures.told;
   fields = c.in-Ok-all_kept.ensures;
+  invariants = c.have_invariants-has_invariants.ensures;
 }
 
 -- as many nodes as outlines
