@@ -6,7 +6,7 @@ pub use Rattle.fr_frame.specs.Bodies.{AreUnplaced, Body, HasAllChildren, HoldsNo
 pub use Rattle.fr_frame.specs.Asking.{HasValidators, IsAnswer, IsPlanned, IsUnfilled, ask, ask_field, ask_holes, asked, cells_or_holes, defaulted_nth, question_of, refused_of, unmet_child}
 pub use Rattle.fr_values.specs.Cells.{Cell, absent, and_item_cell, cell, cell_occurs, cells_occur, cells_of, cells_of_vals, given, has_same_cell, in_slot, is_same_cell, placed, slot_at, slot_of_cell, value_at, value_occurs, value_of_cell, values_of, without_cell}
 pub use Rattle.fr_frame.specs.Changes.{Becomes, IfInUse, IsInUse, SameTokens, Shows}
-pub use Rattle.fr_values.specs.ChildIndex.{IsIndexed}
+pub use Rattle.fr_values.specs.ChildIndex.{IndexesChildren}
 pub use Rattle.fr_frame.specs.Closed.{IsClosedAt}
 pub use Rattle.fr_frame.specs.Completing.{FillsAt, IsFilled, IsFull, IsPlanFor, MayComplete, WhyNot, shape_of, takes_template}
 pub use Rattle.fr_frame.specs.Defaults.{KeepGiven, KeepsTracker, WhyNotDefault, defaulted, defaulted_by, defaulted_cell, defaulted_cells, defaulted_struct, first_asked, first_hole_left, invalid, unmet}
@@ -15,7 +15,7 @@ pub use Rattle.fr_frame.specs.Heap.{Heap, Node, as_tracker, body_of, depth_below
 pub use Rattle.fr_values.specs.Indexing.{Indexes, IsRun, has_number, is_held, joined, numbers_from, runs_of, val_at}
 pub use Rattle.fr_frame.specs.ListItems.{FreesItem, FreesItems, HeldItems, IsListedIn, IsPlain, IsPlainAt, IsReserved, IsUsedAt, KeepsReserved, children_with, held_items, is_list, is_used, item_cell, item_in, item_or, keeps_items, partial_with, place_with, slot_seen, slots_seen, value_held, with_items, with_placed}
 pub use Rattle.fr_values.specs.KeyNames.{names_of}
-pub use Rattle.fr_values.specs.KeyPlaces.{Holds, Knows, entry_place, entry_places, first_keys, item_place, item_places, keys_among, place, place_known, places_of, turn_keys, with_key}
+pub use Rattle.fr_values.specs.KeyPlaces.{HasKeys, Knows, entry_place, entry_places, first_keys, item_place, item_places, keys_among, place, place_known, places_of, turn_keys, with_new_key}
 pub use Rattle.fr_frame.specs.OutlineLaws.{of_outline, same_body}
 pub use Rattle.fr_frame.specs.Outlines.{is_begun_body, is_list_body, outlined}
 pub use Rattle.fr_frame.specs.RawItems.{HasRoomIn, IsSeenAs}

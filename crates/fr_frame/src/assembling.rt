@@ -8,7 +8,7 @@ ghost use Rattle.fr_frame.specs.Bodies.{around_as, boxed_as, boxes, gathers, is_
 use crate::partial_values::release_partial;
 use crate::places::{ContentKind, EntriesKind, ItemsKind, PartialValue, Tracker};
 use fr_shape::{Items, Ledger, OutOfMemory, Value};
-use fr_values::{Base, Children, Parts, array_of, distinct_items, merge_entries, object_of};
+use fr_values::{Base, ChildValues, Children, array_of, distinct_items, merge_entries, object_of};
 use std::alloc::Global;
 
 /// The list of these. Takes no memory.
@@ -79,7 +79,12 @@ fn value_of_box(tracker: &Tracker, held: Box<Value>) -> Value
 
 /// The set of those of these values that aren't `same` as an earlier one, which are released.
 /// Without memory they are handed back.
-fn set_of(alloc: Global, parts: Parts, base: Base, ledger: &mut Ledger) -> Result<Value, Parts>
+fn set_of(
+    alloc: Global,
+    parts: ChildValues,
+    base: Base,
+    ledger: &mut Ledger,
+) -> Result<Value, ChildValues>
     requires base { AreApart base parts }
     requires room { Room (vals_occur (vals_view parts)) ledger.old }
     ensures value { IfOk result (λ v.
@@ -104,7 +109,12 @@ fn of_entries(entries: Vec<(Value, Value)>) -> Value
 
 /// The map of these keys and values, which take turns. A key that comes again takes the new value;
 /// the new key and the old value are released. Without memory they are handed back.
-fn map_of(alloc: Global, parts: Parts, base: Base, ledger: &mut Ledger) -> Result<Value, Parts>
+fn map_of(
+    alloc: Global,
+    parts: ChildValues,
+    base: Base,
+    ledger: &mut Ledger,
+) -> Result<Value, ChildValues>
     requires base { AreApart base parts }
     requires room { Room (vals_occur (vals_view parts)) ledger.old }
     ensures value { IfOk result (λ v.
@@ -125,10 +135,10 @@ fn map_of(alloc: Global, parts: Parts, base: Base, ledger: &mut Ledger) -> Resul
 fn value_gathered(
     alloc: Global,
     tracker: &mut Tracker,
-    parts: Parts,
+    parts: ChildValues,
     base: Base,
     ledger: &mut Ledger,
-) -> Result<Value, Parts>
+) -> Result<Value, ChildValues>
     requires base { AreApart base parts }
     requires gathers { gathers (as_tracker tracker.old) ≡ true }
     requires room { Room (vals_occur (vals_view parts)) ledger.old }

@@ -1,4 +1,4 @@
-//! What is put at one place as a dynamic value.
+//! The entries of a dynamic object that is begun at one place, under their keys.
 ghost use Rattle.std.specs.Prelude.{◌++◌, ◌∷◌, ◌≡◌};
 ghost use Rattle.fr_frame.specs.Common.{None, OnErr, OnOk, [], absent, body_occurs, body_of, entry_found, keys_apart, keys_in, true, with_entry_for, ℕ};
 ghost use Rattle.fr_frame.specs.Bodies.{IsObjectBody};

@@ -12,7 +12,7 @@ use Rattle.fr_shape.specs.Look.{Table, def_of, field_in}
 use Rattle.fr_path.specs.declared.path_steps.PathStep.{PathStep}
 use Rattle.fr_path.specs.declared.step_shapes.TheConstants.{MOST_ELEMENTS}
 use Rattle.fr_path.specs.declared.step_shapes.Inside.{Inside}
-use Rattle.fr_path.specs.declared.step_shapes.Parts.{Parts}
+use Rattle.fr_path.specs.declared.step_shapes.PartShapes.{PartShapes}
 
 -- ---- what is behind a pointer
 
@@ -80,7 +80,7 @@ abbrev pub element_of : (item : ShapeId) → (count : ℕ) → Option ShapeId
 element_of item count = if nat_le 1 count && nat_le count MOST_ELEMENTS then Some item else None
 
 -- a place none of whose parts is known
-abbrev pub no_parts : Parts
+abbrev pub no_parts : PartShapes
 no_parts = record {
   index = None;
   deref = None;
@@ -94,7 +94,7 @@ no_parts = record {
 }
 
 -- the shapes of a place's parts, by the steps that lead to them from a place made so. An enum's parts are not known
-abbrev pub parts_of : Table → (place : ShapeId) → Def → Parts
+abbrev pub parts_of : Table → (place : ShapeId) → Def → PartShapes
 parts_of table place (Def.Array item n) = record no_parts { index = element_of item n }
 parts_of table place (Def.List item) = record no_parts { index = Some item }
 parts_of table place (Def.Pointer pointer) =
@@ -126,7 +126,7 @@ source_at None = None
 
 -- ---- a step
 
-abbrev pub parts_at : Table → (place : ShapeId) → Parts
+abbrev pub parts_at : Table → (place : ShapeId) → PartShapes
 parts_at table place = parts_of table place (def_of table place.0)
 
 -- the shape that a step leads to from a place of a known shape, where it is known then: not after a step that such a

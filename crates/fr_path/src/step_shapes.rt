@@ -18,7 +18,7 @@ pub(crate) enum Inside {
 
 /// The shapes of a place's parts, by the steps that lead to them, where they are known.
 #[derive(Drop)]
-pub(crate) struct Parts {
+pub(crate) struct PartShapes {
     index: Option<ShapeId>,
     deref: Option<ShapeId>,
     option_some: Option<ShapeId>,
@@ -94,10 +94,10 @@ fn element_of(item: ShapeId, count: u32) -> Option<ShapeId>
     }
 }
 
-fn no_parts() -> Parts
+fn no_parts() -> PartShapes
     ensures { result ≡ no_parts }
 {
-    Parts {
+    PartShapes {
         index: None,
         deref: None,
         option_some: None,
@@ -111,7 +111,7 @@ fn no_parts() -> Parts
 }
 
 // The parts of a place that is made so.
-fn parts_of(table: &ShapeTable, place: ShapeId, def: &Def) -> Parts
+fn parts_of(table: &ShapeTable, place: ShapeId, def: &Def) -> PartShapes
     ensures { result ≡ parts_of table.now place def.now }
 {
     let mut parts = no_parts();

@@ -3,7 +3,7 @@ use Rattle.std.proofs.Common.{◌≡◌, ℕ, zero, suc, ◌+◌, ◌*◌, ◌/�
 use Rattle.std.specs.Prelude.{option_map, slice_get}
 use Rattle.std.proofs.Math.Seq.{take-append_seam, drop-append_seam}
 use Rattle.std.proofs.lemmas.List.{take-append-drop, take-map, drop-map}
-use Rattle.fr_values.specs.Common.{Entries, Val, Vals, Value, both, entries_in, entries_occur, entries_view, entry, entry_place, entry_places, first, first_keys, is_there, item_place, item_places, items_in, keys, no_entries, no_vals, none_twice, parts_of_entries, place, places_of, same, turn_keys, vals_occur, vals_view, view, with_entry_in, with_item_in, with_key}
+use Rattle.fr_values.specs.Common.{Entries, Val, Vals, Value, both, entries_in, entries_occur, entries_view, entry, entry_place, entry_places, first, first_keys, is_there, item_place, item_places, items_in, keys, no_entries, no_vals, none_twice, parts_of_entries, place, places_of, same, turn_keys, vals_occur, vals_view, view, with_entry_in, with_item_in, with_new_key}
 use Rattle.fr_shape.specs.View.{vals_of}
 use Rattle.fr_model.specs.Gathering.{and_last_val}
 use Rattle.fr_model.specs.GatheringLaws.{DistinctEntriesStay, DistinctItemsStay}
@@ -58,18 +58,18 @@ with_item_first u v there = by (same u v) (is_there v there)
     by false true = refl
     by false false = refl
 
-items_with : (there : List Val) (v : Val) → vals_of (with_key same there v) ≡ with_item_in (vals_of there) v
+items_with : (there : List Val) (v : Val) → vals_of (with_new_key same there v) ≡ with_item_in (vals_of there) v
 items_with [] v = refl
 items_with (u ∷ there) v = by (same u v) (items_with there v) ∙ sym (with_item_first u v (vals_of there))
   where
-    by : (b : Bool) → vals_of (with_key same there v) ≡ with_item_in (vals_of there) v → vals_of (cond b (u ∷ there) (u ∷ with_key same there v)) ≡ cond b (first u (vals_of there)) (first u (with_item_in (vals_of there) v))
+    by : (b : Bool) → vals_of (with_new_key same there v) ≡ with_item_in (vals_of there) v → vals_of (cond b (u ∷ there) (u ∷ with_new_key same there v)) ≡ cond b (first u (vals_of there)) (first u (with_item_in (vals_of there) v))
     by true e = refl
     by false e = ap (first u) e
 
 pub items_placed : (there vs : List Val) → places_of same there vs ≡ item_places (vals_of there) (vals_of vs)
 items_placed there [] = refl
 items_placed there (v ∷ vs) =
-    (λ j. items_at there v j ∷ items_placed (with_key same there v) vs j)
+    (λ j. items_at there v j ∷ items_placed (with_new_key same there v) vs j)
     ∙ ap (λ l. item_place (vals_of there) v ∷ item_places l (vals_of vs)) (items_with there v)
 
 -- Entries
@@ -85,11 +85,11 @@ entries_at (entry l w there) k =
     or_count (same l k) (place same (keys_list there) k) (length (keys_list there))
     ∙ ap (λ n. cond (same l k) 0 (suc n)) (entries_at there k)
 
-entries_with : (there : Entries) (k v : Val) → with_key same (keys_list there) k ≡ keys_list (with_entry_in there k v)
+entries_with : (there : Entries) (k v : Val) → with_new_key same (keys_list there) k ≡ keys_list (with_entry_in there k v)
 entries_with no_entries k v = refl
 entries_with (entry l w there) k v = by (same l k) (entries_with there k v)
   where
-    by : (b : Bool) → with_key same (keys_list there) k ≡ keys_list (with_entry_in there k v) → cond b (l ∷ keys_list there) (l ∷ with_key same (keys_list there) k) ≡ keys_list (cond b (entry l v there) (entry l w (with_entry_in there k v)))
+    by : (b : Bool) → with_new_key same (keys_list there) k ≡ keys_list (with_entry_in there k v) → cond b (l ∷ keys_list there) (l ∷ with_new_key same (keys_list there) k) ≡ keys_list (cond b (entry l v there) (entry l w (with_entry_in there k v)))
     by true e = refl
     by false e = ap (λ ks. l ∷ ks) e
 

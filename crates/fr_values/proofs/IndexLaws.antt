@@ -5,7 +5,7 @@ use Rattle.std.proofs.lemmas.List.{length-set, length-take, length-take-le, leng
 use Rattle.std.proofs.lemmas.Option.{same_Some}
 use Rattle.std.proofs.lemmas.Slice.{between_is}
 use Rattle.std.specs.FinSet as finite
-use Rattle.fr_values.specs.Common.{AreApart, Base, BitSet, Cell, Indexes, IsIndexed, Val, Value, cell, cells_of, count_in_base, given, has_same_cell, is_same_cell, is_there, same, vals_view, value_of_cell, view}
+use Rattle.fr_values.specs.Common.{AreApart, Base, BitSet, Cell, Indexes, IndexesChildren, Val, Value, cell, cells_of, count_in_base, given, has_same_cell, is_same_cell, is_there, same, vals_view, value_of_cell, view}
 use Rattle.std.specs.Option.{option_map}
 use Rattle.fr_values.specs.Bases.{IsGrown}
 use Rattle.fr_values.specs.ChildIndex.{AreCutAt}
@@ -16,16 +16,16 @@ use Rattle.fr_values.specs.SliceLaws.{element, set_gets}
 
 -- An index and a base of the first values.
 
-pub count_is : (bits : BitSet) (values : List Value) (base : Base) (index : ValueIndex) (n : ℕ) → IsIndexed bits values base index
+pub count_is : (bits : BitSet) (values : List Value) (base : Base) (index : ValueIndex) (n : ℕ) → IndexesChildren bits values base index
     → ((vs : List Value) → Indexes index vs → n ≡ length vs) → n ≡ index.len
 count_is bits values base index n is counted =
     counted (take index.len values) is.just ∙ length-take-le index.len values (omega (arith, is.within, is.apart.within))
 
 -- they stay, as far as they are not cut, where values begin alike, and bits too
 pub still_indexed : (bits other : BitSet) (vs ws : List Value) (base fewer : Base) (index cut : ValueIndex) (n : ℕ)
-    → IsIndexed bits vs base index → AreCutAt n base fewer index cut → length ws ≤ other.capacity → count_in_base fewer ≤ length ws
+    → IndexesChildren bits vs base index → AreCutAt n base fewer index cut → length ws ≤ other.capacity → count_in_base fewer ≤ length ws
     → take n ws ≡ take n vs → ((j : ℕ) → j < n → finite.contains other.members j ≡ finite.contains bits.members j)
-    → IsIndexed other ws fewer cut
+    → IndexesChildren other ws fewer cut
 still_indexed bits other vs ws base fewer index cut n is so room inside alike same =
     let counts = cut_count n base fewer so.cut in
     let within = so.within is.within in record {
@@ -44,9 +44,9 @@ not_cut base index n h = record { cut = uncut n base h; within = λ i. i; kept =
 
 -- one value changes
 pub put_indexed : (bits other : BitSet) (values : List Value) (base fewer : Base) (index cut : ValueIndex) (i : ℕ) (x : Value)
-    → IsIndexed bits values base index → AreCutAt i base fewer index cut → other.capacity ≡ bits.capacity
+    → IndexesChildren bits values base index → AreCutAt i base fewer index cut → other.capacity ≡ bits.capacity
     → ((j : ℕ) → j ≢ i → finite.contains other.members j ≡ finite.contains bits.members j)
-    → IsIndexed other (set values i x) fewer cut
+    → IndexesChildren other (set values i x) fewer cut
 put_indexed bits other values base fewer index cut i x is so room same =
     let counts = cut_count i base fewer so.cut in
     let long = length-set values i x in
@@ -56,9 +56,9 @@ put_indexed bits other values base fewer index cut i x is so room same =
 
 -- one comes behind the others
 pub pushed_indexed : (bits other : BitSet) (values : List Value) (base : Base) (index : ValueIndex) (x : Value)
-    → IsIndexed bits values base index → length values < other.capacity
+    → IndexesChildren bits values base index → length values < other.capacity
     → ((j : ℕ) → j < length values → finite.contains other.members j ≡ finite.contains bits.members j)
-    → IsIndexed other (values ++ x ∷ []) base index
+    → IndexesChildren other (values ++ x ∷ []) base index
 pushed_indexed bits other values base index x is room same =
     let long = length_push values x in
     still_indexed bits other values (values ++ x ∷ []) base base index index (length values) is
@@ -67,8 +67,8 @@ pushed_indexed bits other values base index x is room same =
 
 -- the last one goes
 pub popped_indexed : (bits : BitSet) (values rest : List Value) (base fewer : Base) (index cut : ValueIndex) (n m : ℕ)
-    → IsIndexed bits values base index → AreCutAt n base fewer index cut → rest ≡ take m values → n ≡ length rest
-    → IsIndexed bits rest fewer cut
+    → IndexesChildren bits values base index → AreCutAt n base fewer index cut → rest ≡ take m values → n ≡ length rest
+    → IndexesChildren bits rest fewer cut
 popped_indexed bits values rest base fewer index cut n m is so e count =
     let counts = cut_count n base fewer so.cut in
     let long : length rest ≡ min m (length values) = ap length e ∙ length-take m values in
@@ -78,7 +78,7 @@ popped_indexed bits values rest base fewer index cut n m is so e count =
 -- an index of nothing
 pub none_indexed : (bits : BitSet) (values : List Value) (base : Base) (index : ValueIndex) → length values ≤ bits.capacity
     → ((j : ℕ) → j < count_in_base base → finite.contains bits.members j ≡ true) → AreApart base values → Indexes index []
-    → IsIndexed bits values base index
+    → IndexesChildren bits values base index
 none_indexed bits values base index room there apart e = record {
   room = room;
   there = there;
@@ -116,7 +116,7 @@ there_of v vs = is_there v (vals_view vs)
 
 -- it is so of one that the index has, of a later one of the base, or of one behind
 module _ (bits : BitSet) (values : List Value) (base : Base) (index : ValueIndex) (cs : List Cell) (v : Val) (i n : ℕ)
-    (is : IsIndexed bits values base index) (seen : cells_of bits 0 values ≡ cs) (indexed : i ≡ index.len) (count : n ≡ count_in_base base) where
+    (is : IndexesChildren bits values base index) (seen : cells_of bits 0 values ≡ cs) (indexed : i ≡ index.len) (count : n ≡ count_in_base base) where
   parted : has_same_cell v cs ≡ (there_of v (take i values) || (there_of v (slice_range values i n) || has_same_cell v (drop n cs)))
   parted =
       subst (λ (ds : List Cell). has_same_cell v ds ≡ (there_of v (take n values) || has_same_cell v (drop n ds))) seen
@@ -158,11 +158,11 @@ is_given true v w e = (refl, cc)
 is_given false v w e = let no : None ≡ Some v = sym (in_slot_no_value w) ∙ ap value_of_cell e in cc
 
 pub grown_indexed : (bits : BitSet) (values : List Value) (base grown : Base) (index : ValueIndex) (cs : List Cell) (v : Val) (i : ℕ)
-    → IsIndexed bits values base index → IsGrown i base grown → i < length cs → cells_of bits 0 values ≡ set cs i (given v)
-    → has_same_cell v cs ≡ false → IsIndexed bits values grown index
-grown_indexed bits values base grown index cs v i is (inl same) inside seen e = subst (λ (b : Base). IsIndexed bits values b index) (sym same) is
+    → IndexesChildren bits values base index → IsGrown i base grown → i < length cs → cells_of bits 0 values ≡ set cs i (given v)
+    → has_same_cell v cs ≡ false → IndexesChildren bits values grown index
+grown_indexed bits values base grown index cs v i is (inl same) inside seen e = subst (λ (b : Base). IndexesChildren bits values b index) (sym same) is
 grown_indexed bits values base grown index cs v i is (inr more) inside seen e =
-    subst (λ (b : Base). IsIndexed bits values b index) (sym more.1) (record {
+    subst (λ (b : Base). IndexesChildren bits values b index) (sym more.1) (record {
       room = is.room;
       there = there;
       apart = one_more_apart i values x.0 within x.1 (ap (λ (u : Val). is_there u (vals_view (take i values))) told.1
@@ -171,8 +171,8 @@ grown_indexed bits values base grown index cs v i is (inr more) inside seen e =
       just = were.just;
     })
   where
-    were : IsIndexed bits values (Base.Items i) index
-    were = subst (λ (b : Base). IsIndexed bits values b index) more.0 is
+    were : IndexesChildren bits values (Base.Items i) index
+    were = subst (λ (b : Base). IndexesChildren bits values b index) more.0 is
 
     before : (j : ℕ) → j < i → finite.contains bits.members j ≡ true
     before j h = were.there j h

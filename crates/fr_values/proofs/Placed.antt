@@ -3,16 +3,16 @@ use Rattle.std.proofs.Common.{◌≡◌, ℕ, suc, ◌+◌, ◌<◌, Bool, true,
 use Rattle.std.specs.Prelude.{option_map}
 use Rattle.std.proofs.lemmas.List.{take_more, drop_more, append_assoc}
 use Rattle.std.specs.Cmp.{IsEquivalence}
-use Rattle.fr_values.specs.Common.{place, places_of, with_key}
+use Rattle.fr_values.specs.Common.{place, places_of, with_new_key}
 
 -- the distinct keys when more have come
 abbrev pub keys_after : {K : Type 0} → (eq : K → K → Bool) → List K → List K → List K
 keys_after eq there [] = there
-keys_after eq there (k ∷ ks) = keys_after eq (with_key eq there k) ks
+keys_after eq there (k ∷ ks) = keys_after eq (with_new_key eq there k) ks
 
-pub keys_after_push : {K : Type 0} (eq : K → K → Bool) (there ks : List K) (k : K) → keys_after eq there (ks ++ k ∷ []) ≡ with_key eq (keys_after eq there ks) k
+pub keys_after_push : {K : Type 0} (eq : K → K → Bool) (there ks : List K) (k : K) → keys_after eq there (ks ++ k ∷ []) ≡ with_new_key eq (keys_after eq there ks) k
 keys_after_push eq there [] k = refl
-keys_after_push eq there (l ∷ ks) k = keys_after_push eq (with_key eq there l) ks k
+keys_after_push eq there (l ∷ ks) k = keys_after_push eq (with_new_key eq there l) ks k
 
 -- what comes before
 pub split_none : (n : Option ℕ) (b : Bool) → cond b (Some 0) (option_map suc n) ≡ None → (b ≡ false) × (n ≡ None)
@@ -21,25 +21,25 @@ split_none None false e = (refl, refl)
 split_none (Some n) false e = absurd (cc e)
 
 -- a key that is not there comes behind the others
-pub with_key_absent : {K : Type 0} (eq : K → K → Bool) (there : List K) (k : K) → place eq there k ≡ None → with_key eq there k ≡ there ++ k ∷ []
+pub with_key_absent : {K : Type 0} (eq : K → K → Bool) (there : List K) (k : K) → place eq there k ≡ None → with_new_key eq there k ≡ there ++ k ∷ []
 with_key_absent eq [] k absent = refl
 with_key_absent eq (l ∷ there) k absent =
     let parts = split_none (place eq there k) (eq l k) absent in
-    ap (λ b. cond b (l ∷ there) (l ∷ with_key eq there k)) parts.0 ∙ ap (λ ks. l ∷ ks) (with_key_absent eq there k parts.1)
+    ap (λ b. cond b (l ∷ there) (l ∷ with_new_key eq there k)) parts.0 ∙ ap (λ ks. l ∷ ks) (with_key_absent eq there k parts.1)
 
 -- one that is there changes nothing
-pub with_key_present : {K : Type 0} (eq : K → K → Bool) (there : List K) (k : K) (n : ℕ) → place eq there k ≡ Some n → with_key eq there k ≡ there
+pub with_key_present : {K : Type 0} (eq : K → K → Bool) (there : List K) (k : K) (n : ℕ) → place eq there k ≡ Some n → with_new_key eq there k ≡ there
 with_key_present eq [] k n present = absurd (cc present)
 with_key_present eq (l ∷ there) k n present = by (λ m. with_key_present eq there k m) (eq l k) refl
   where
-    rest : ((m : ℕ) → place eq there k ≡ Some m → with_key eq there k ≡ there) → (m : Option ℕ) → place eq there k ≡ m → option_map suc m ≡ Some n → with_key eq there k ≡ there
+    rest : ((m : ℕ) → place eq there k ≡ Some m → with_new_key eq there k ≡ there) → (m : Option ℕ) → place eq there k ≡ m → option_map suc m ≡ Some n → with_new_key eq there k ≡ there
     rest more None is e = absurd (cc e)
     rest more (Some m) is e = more m is
 
-    by : ((m : ℕ) → place eq there k ≡ Some m → with_key eq there k ≡ there) → (b : Bool) → eq l k ≡ b → with_key eq (l ∷ there) k ≡ l ∷ there
-    by more true e = ap (λ b. cond b (l ∷ there) (l ∷ with_key eq there k)) e
+    by : ((m : ℕ) → place eq there k ≡ Some m → with_new_key eq there k ≡ there) → (b : Bool) → eq l k ≡ b → with_new_key eq (l ∷ there) k ≡ l ∷ there
+    by more true e = ap (λ b. cond b (l ∷ there) (l ∷ with_new_key eq there k)) e
     by more false e =
-        ap (λ b. cond b (l ∷ there) (l ∷ with_key eq there k)) e
+        ap (λ b. cond b (l ∷ there) (l ∷ with_new_key eq there k)) e
         ∙ ap (λ ks. l ∷ ks) (rest more (place eq there k) refl (sym (ap (λ b. cond b (Some 0) (option_map suc (place eq there k))) e) ∙ present))
 
 module _ {K : Type 0} {eq : K → K → Bool} (laws : IsEquivalence eq) where
@@ -58,12 +58,12 @@ module _ {K : Type 0} {eq : K → K → Bool} (laws : IsEquivalence eq) where
 
 -- One more key, the one at i.
 module _ {K : Type 0} (eq : K → K → Bool) (keys : List K) (i : ℕ) (k : K) (within : i < length keys) (is : k ≡ get_or keys i k) where
-  pub after_more : (base : List K) → keys_after eq base (take (i + 1) keys) ≡ with_key eq (keys_after eq base (take i keys)) k
+  pub after_more : (base : List K) → keys_after eq base (take (i + 1) keys) ≡ with_new_key eq (keys_after eq base (take i keys)) k
   after_more base =
       ap (keys_after eq base) (take_more keys i k within ∙ ap (λ l. take i keys ++ l ∷ []) (sym is))
       ∙ keys_after_push eq base (take i keys) k
 
-  pub placed_more : (there after : List K) (done new all : List ℕ) (p : ℕ) → new ≡ done ++ p ∷ [] → after ≡ with_key eq there k → p ≡ unwrap_or (place eq there k) (length there) → done ++ places_of eq there (drop i keys) ≡ all → new ++ places_of eq after (drop (i + 1) keys) ≡ all
+  pub placed_more : (there after : List K) (done new all : List ℕ) (p : ℕ) → new ≡ done ++ p ∷ [] → after ≡ with_new_key eq there k → p ≡ unwrap_or (place eq there k) (length there) → done ++ places_of eq there (drop i keys) ≡ all → new ++ places_of eq after (drop (i + 1) keys) ≡ all
   placed_more there after done new all p pushed came at so =
       ap (λ l. l ++ places_of eq after (drop (i + 1) keys)) pushed ∙
       append_assoc done (p ∷ []) (places_of eq after (drop (i + 1) keys))

@@ -22,7 +22,7 @@ pub record AreApart (base : Base) (values : List Value) : Type 0 where
   pub within : count_in_base base ≤ length values
   pub once : none_twice (told_apart base values) ≡ true
 
--- a base has no child from this number on, and of the others those that it had
+-- a base ends before this number, and has at most the children that it had
 abbrev pub IsCut : (number : ℕ) → (before after : Base) → Type 0
 IsCut number (Base.Items count) (Base.Items fewer) = (fewer ≤ number) × (fewer ≤ count)
 IsCut number (Base.Entries count) (Base.Entries fewer) = (2 * fewer ≤ number) × (fewer ≤ count)

@@ -10,7 +10,7 @@ use Rattle.fr_values.specs.Indexing.{Indexes}
 
 -- there is room for the children's numbers; those of the base are given and hold nothing twice; and the index has just the first of
 -- their values
-pub record IsIndexed (given : BitSet) (values : List Value) (base : Base) (index : ValueIndex) : Type 0 where
+pub record IndexesChildren (given : BitSet) (values : List Value) (base : Base) (index : ValueIndex) : Type 0 where
   pub room : length values ≤ given.capacity
   pub there : (j : ℕ) → j < count_in_base base → set.contains given.members j ≡ true
   pub apart : AreApart base values

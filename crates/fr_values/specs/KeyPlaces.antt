@@ -10,7 +10,7 @@ use Rattle.fr_shape.specs.View.{view}
 use Rattle.fr_shape.specs.declared.value.Value.{Value}
 use Rattle.fr_model.specs.Gathering.{with_item_in, with_entry_in}
 use Rattle.fr_shape.specs.declared.contents.ByContents.{ByContents}
-use Rattle.fr_values.specs.Turns.{parts_of_entries}
+use Rattle.fr_values.specs.EntryParts.{parts_of_entries}
 use Rattle.fr_values.specs.declared.key_places.KeyedParts.{KeyedParts}
 use Rattle.fr_values.specs.declared.key_places.KeyedParts.TheVariants.{Items, Entries as InTurn}
 
@@ -20,14 +20,14 @@ place eq [] q = None
 place eq (k ∷ ks) q = cond (eq k q) (Some 0) (option_map suc (place eq ks q))
 
 -- a key comes behind these, unless it equals one of them
-abbrev pub with_key : {K : Type 0} → (eq : K → K → Bool) → List K → K → List K
-with_key eq [] q = q ∷ []
-with_key eq (k ∷ ks) q = cond (eq k q) (k ∷ ks) (k ∷ with_key eq ks q)
+abbrev pub with_new_key : {K : Type 0} → (eq : K → K → Bool) → List K → K → List K
+with_new_key eq [] q = q ∷ []
+with_new_key eq (k ∷ ks) q = cond (eq k q) (k ∷ ks) (k ∷ with_new_key eq ks q)
 
 -- keys come one after the other: the place of each when it has come
 abbrev pub places_of : {K : Type 0} → (eq : K → K → Bool) → (there : List K) → List K → List ℕ
 places_of eq there [] = []
-places_of eq there (k ∷ ks) = unwrap_or (place eq there k) (length there) ∷ places_of eq (with_key eq there k) ks
+places_of eq there (k ∷ ks) = unwrap_or (place eq there k) (length there) ∷ places_of eq (with_new_key eq there k) ks
 
 -- the place of the first of some values that is `same` as a value, or how many they are
 abbrev pub item_place : Vals → Val → ℕ
@@ -59,9 +59,9 @@ abbrev pub keys_among : KeyedParts → List Val
 keys_among (Items items) = map view items.now
 keys_among (InTurn entries parts) = turn_keys (parts_of_entries entries.now ++ parts.now)
 
--- the set has these keys
-abbrev pub Holds : BTreeSet ByContents → List Val → Type 0
-Holds set keys = (q : ByContents) → contains (λ a b. compare (view a.0.now) (view b.0.now)) set q ≡ list_any (same (view q.0.now)) keys
+-- the set has these keys, and no others
+abbrev pub HasKeys : BTreeSet ByContents → List Val → Type 0
+HasKeys set keys = (q : ByContents) → contains (λ a b. compare (view a.0.now) (view b.0.now)) set q ≡ list_any (same (view q.0.now)) keys
 
 -- the place that a map has of a key
 abbrev pub place_known : BTreeMap ByContents ℕ → ByContents → Option ℕ

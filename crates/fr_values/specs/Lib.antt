@@ -4,9 +4,9 @@ pub mod Cells
 pub mod ChildIndex
 pub mod Common
 pub mod ConversionNeeds
+pub mod EntryParts
 pub mod Indexing
 pub mod ItemLaws
 pub mod KeyNames
 pub mod KeyPlaces
 pub mod SliceLaws
-pub mod Turns

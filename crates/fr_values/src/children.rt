@@ -1,5 +1,5 @@
 //! The children of a begun place.
-ghost use Rattle.fr_values.specs.Common.{All, AreApart, Cell, Conserved, IfErr, IfNone, IfOk, IfSome, IsIndexed, IsSome, List, OnErr, OnOk, Room, Some, [], and_item_cell, cells_occur, cells_of_vals, entries_view, false, has_same_cell, in_slot, is_same_cell, is_some, is_there, keys, length, none_twice, occurs, option_copied, option_map, slice_get, slice_set, slot_of_cell, true, unit, vals_view, view, without_cell, ℕ};
+ghost use Rattle.fr_values.specs.Common.{All, AreApart, Cell, Conserved, IfErr, IfNone, IfOk, IfSome, IndexesChildren, IsSome, List, OnErr, OnOk, Room, Some, [], and_item_cell, cells_occur, cells_of_vals, entries_view, false, has_same_cell, in_slot, is_same_cell, is_some, is_there, keys, length, none_twice, occurs, option_copied, option_map, slice_get, slice_set, slot_of_cell, true, unit, vals_view, view, without_cell, ℕ};
 ghost use Rattle.std.specs.Prelude.{IsOk, suc, map, replicate, drop, ◌++◌, ◌+◌, ◌<◌, ◌↔◌, ◌∷◌, ◌≡◌, ◌≤◌};
 ghost use Rattle.std.specs.FinSet as set;
 ghost use Rattle.fr_shape.specs.Val.{token};
@@ -8,7 +8,7 @@ ghost use Rattle.fr_model.specs.Places.{in_turn};
 ghost use Rattle.fr_values.specs.ChildIndex.{AreCutAt};
 
 use crate::bases::Base;
-use crate::parts::Parts;
+use crate::child_values::ChildValues;
 use crate::value_index::ValueIndex;
 use fr_arena::ISet;
 use fr_shape::{Ledger, OutOfMemory, Value, release, same};
@@ -27,7 +27,7 @@ use std::marker::Model;
 /// `index` finds a value among the first of these; it is there for the items of sets.
 #[derive(Drop)]
 pub struct Children {
-    parts: Parts,
+    parts: ChildValues,
     given: ISet,
     base: Base,
     index: ValueIndex,
@@ -44,9 +44,9 @@ impl Model for Children {
 
     ghost view = { λ it. cells_of it.given 0 it.parts };
 
-    ghost use Rattle.fr_values.specs.ChildIndex.{IsIndexed};
+    ghost use Rattle.fr_values.specs.ChildIndex.{IndexesChildren};
 
-    ghost invariant = { λ it. IsIndexed it.given it.parts it.base it.index };
+    ghost invariant = { λ it. IndexesChildren it.given it.parts it.base it.index };
 }
 
 /// So many values that stand for children that aren't there.
@@ -167,7 +167,7 @@ impl Children {
         ensures { result ≡ [] }
     {
         Children {
-            parts: Parts::none(alloc),
+            parts: ChildValues::none(alloc),
             given: ISet::default(),
             base: Base::none(),
             index: ValueIndex::new(alloc),
@@ -187,7 +187,7 @@ impl Children {
         };
         let values = placeholders(alloc, count)?;
         Ok(Children {
-            parts: Parts::of_values(values),
+            parts: ChildValues::of_values(values),
             given,
             base: Base::none(),
             index: ValueIndex::new(alloc),
@@ -202,7 +202,7 @@ impl Children {
     {
         match numbers_below(alloc, values.len(), 0) {
             Ok(numbers) => {
-                let parts = Parts::of_values(values);
+                let parts = ChildValues::of_values(values);
                 Ok(Children::of_parts(alloc, parts, numbers, base))
             }
             Err(_) => Err(values),
@@ -226,7 +226,7 @@ impl Children {
         let Ok(numbers) = numbers_below(alloc, 2 * count as usize, 2) else {
             return Err(entries);
         };
-        match Parts::of_entries(alloc, entries) {
+        match ChildValues::of_entries(alloc, entries) {
             Ok(parts) => Ok(Children::of_parts(alloc, parts, numbers, Base::Entries(count))),
             Err(back) => Err(back),
         }
@@ -465,7 +465,7 @@ impl Children {
 
     /// The values of children, each of which is there, the set of their numbers, and what is known
     /// of the first ones. Takes no memory.
-    pub fn into_parts(self) -> (Parts, ISet, Base)
+    pub fn into_parts(self) -> (ChildValues, ISet, Base)
         requires { IsSome (values_of self) }
         ensures values { values_of self ≡ Some (vals_view result.0) }
         ensures numbers { HasNumbers (length result.0) result.1 }
@@ -476,7 +476,7 @@ impl Children {
 
     /// Children that are all there with these values, whose numbers are in this set, where this is
     /// known of the first ones. Takes no memory.
-    pub fn of_parts(alloc: Global, parts: Parts, numbers: ISet, base: Base) -> Children
+    pub fn of_parts(alloc: Global, parts: ChildValues, numbers: ISet, base: Base) -> Children
         requires numbers { HasNumbers (length parts) numbers }
         requires base { AreApart base parts }
         ensures { result ≡ map (λ v. given (view v)) parts }

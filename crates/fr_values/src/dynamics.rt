@@ -5,9 +5,9 @@ ghost use Rattle.fr_shape.specs.Val.{dyn_array, dyn_object};
 ghost use Rattle.fr_shape.specs.View.{dynamics_view, members_view};
 ghost use Rattle.fr_model.specs.Dynamics.{dynamics_in, members_in, elements_in, members_of_object, object_keys};
 
+use crate::child_values::ChildValues;
 use crate::children::Children;
 use crate::keys::{Keys, text_of};
-use crate::parts::Parts;
 use fr_shape::{Dyn, Items, Ledger, OutOfMemory, Text, Value, release};
 use std::alloc::Global;
 
@@ -50,7 +50,11 @@ fn array_with(elements: Vec<Dyn>) -> Value
 
 /// The dynamic array of these values. Those that aren't dynamic count as none, and are released.
 /// Without memory all are handed back.
-pub fn array_of(alloc: Global, values: Parts, ledger: &mut Ledger) -> Result<Value, Parts>
+pub fn array_of(
+    alloc: Global,
+    values: ChildValues,
+    ledger: &mut Ledger,
+) -> Result<Value, ChildValues>
     requires room { Room (vals_occur (vals_view values)) ledger.old }
     ensures value { IfOk result (λ v.
         view v ≡ dyn (dyn_array (dynamics_in (vals_view values)))) }
@@ -104,9 +108,9 @@ fn object_with(members: Vec<(Text, Dyn)>) -> Value
 pub fn object_of(
     alloc: Global,
     keys: &mut Keys,
-    values: Parts,
+    values: ChildValues,
     ledger: &mut Ledger,
-) -> Result<Value, Parts>
+) -> Result<Value, ChildValues>
     requires room { Room (vals_occur (vals_view values)) ledger.old }
     ensures value { IfOk result (λ v.
         view v ≡ dyn (dyn_object (members_in keys.old (vals_view values)))) }

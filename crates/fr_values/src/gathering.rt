@@ -2,8 +2,8 @@
 ghost use Rattle.fr_values.specs.Common.{Conserved, IfErr, IfOk, OnErr, Room, [], both, entries_in, entries_occur, entries_view, entry_place, entry_places, first_keys, into_iter_items, into_iter_len, item_place, item_places, items_in, length, no_entries, no_vals, none_twice, occurs, parts_of_entries, true, vals_occur, vals_view, view, with_entry_in, with_item_in};
 ghost use Rattle.std.specs.Prelude.{◌*◌, take, vec_len, vec_capacity, ◌++◌, ◌+◌, ◌<◌, ◌∷◌, ◌≡◌, ◌≤◌};
 
+use crate::child_values::ChildValues;
 use crate::key_places::{KeyedParts, places_of_keys};
-use crate::parts::Parts;
 use fr_model::law_gathering;
 use fr_shape::{Ledger, Value, release};
 use std::alloc::Global;
@@ -16,10 +16,10 @@ use std::vec::IntoIter;
 /// handed back.
 pub fn merge_entries(
     alloc: Global,
-    parts: Parts,
+    parts: ChildValues,
     base: usize,
     ledger: &mut Ledger,
-) -> Result<Vec<(Value, Value)>, Parts>
+) -> Result<Vec<(Value, Value)>, ChildValues>
     requires within { 2 * base ≤ length parts }
     requires distinct { none_twice (first_keys base (vals_view parts)) ≡ true }
     requires room { Room (vals_occur (vals_view parts)) ledger.old }
@@ -142,10 +142,10 @@ fn put_entry(
 /// distinct: one that is `same` as an earlier one is released. Without memory they are handed back.
 pub fn distinct_items(
     alloc: Global,
-    parts: Parts,
+    parts: ChildValues,
     base: usize,
     ledger: &mut Ledger,
-) -> Result<Vec<Value>, Parts>
+) -> Result<Vec<Value>, ChildValues>
     requires within { base ≤ length parts }
     requires distinct { none_twice (vals_view (take base parts)) ≡ true }
     requires room { Room (vals_occur (vals_view parts)) ledger.old }
@@ -159,10 +159,10 @@ pub fn distinct_items(
 {
     let mut items = parts.into_values();
     let Ok(places) = places_of_keys(alloc, KeyedParts::Items(items.as_slice()), base) else {
-        return Err(Parts::of_values(items));
+        return Err(ChildValues::of_values(items));
     };
     let Ok(new) = items.split_off(base) else {
-        return Err(Parts::of_values(items));
+        return Err(ChildValues::of_values(items));
     };
     law_gathering();
     Ok(keep_items(items, new, places.as_slice(), ledger))

@@ -1,6 +1,6 @@
 //! At which place each key stands that comes to others, among the distinct ones of them.
 ghost use Rattle.std.specs.Prelude.{None, OnOk, Some, drop, if◌then◌else◌, length, slice_get, take, ◌≡◌, ◌≤◌, ◌<◌};
-ghost use Rattle.fr_values.specs.Common.{ByContents, Holds, IfOk, Knows, keys_among, option_or, place, place_known, places_of, same, view};
+ghost use Rattle.fr_values.specs.Common.{ByContents, HasKeys, IfOk, Knows, keys_among, option_or, place, place_known, places_of, same, view};
 
 use fr_shape::{ByContents, OutOfMemory, Value};
 use std::alloc::Global;
@@ -124,7 +124,7 @@ fn new_keys(
     base: usize,
 ) -> Result<BTreeSet<ByContents<'_>>, OutOfMemory>
     requires { base ≤ length (keys_among keys) }
-    ensures { IfOk result (λ new. Holds new (drop base (keys_among keys.entry))) }
+    ensures { IfOk result (λ new. HasKeys new (drop base (keys_among keys.entry))) }
 {
     let mut new = BTreeSet::new(alloc);
     for i in 0..keys.len() - base {

@@ -1,5 +1,5 @@
 use Rattle.std.proofs.Common.{List, ◌∙◌, ap, subst, sym, arith}
-use Rattle.fr_values.specs.Common.{BitSet, IsIndexed, Value, cell, cells_of, given, view}
+use Rattle.fr_values.specs.Common.{BitSet, IndexesChildren, Value, cell, cells_of, given, view}
 use Rattle.fr_values.specs.CellLaws.{same_length, has_room, cells_put, bit_set, bit_set_here}
 use Rattle.fr_values.proofs.children.Children.put.Goals as goal
 use Rattle.fr_values.proofs.IndexLaws.{put_indexed}
@@ -19,7 +19,7 @@ returns c =
 
 pub invariant_of-self : goal.invariant_of-self
 invariant_of-self c =
-    subst (λ (values : List Value). IsIndexed c.set.new.self values c.cut_at.new.base c.cut_at.new.index) (sym c.replace-held.ensures.replaced)
+    subst (λ (values : List Value). IndexesChildren c.set.new.self values c.cut_at.new.base c.cut_at.new.index) (sym c.replace-held.ensures.replaced)
     (put_indexed c.self.inside.given c.set.new.self c.self.inside.parts c.self.inside.base c.cut_at.new.base c.self.inside.index
     c.cut_at.new.index c.args.i c.args.value c.self.invariant c.cut_at.ensures (ap (λ (b : BitSet). b.capacity) c.set.ensures.value)
     (λ j ne. c.set.ensures.by_index j ∙ bit_set c.args.i j _ ne))

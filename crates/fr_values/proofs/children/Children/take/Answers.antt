@@ -1,5 +1,5 @@
 use Rattle.std.proofs.Common.{List, sym, ◌∙◌, ap, subst, arith}
-use Rattle.fr_values.specs.Common.{BitSet, IsIndexed, Value, absent, cells_of, in_slot}
+use Rattle.fr_values.specs.Common.{BitSet, IndexesChildren, Value, absent, cells_of, in_slot}
 use Rattle.fr_values.specs.CellLaws.{bit_unset, same_length, has_room, cells_unset, value_here, no_value_at}
 use Rattle.fr_values.proofs.children.Children.take.Goals as goal
 use Rattle.fr_values.proofs.IndexLaws.{put_indexed}
@@ -36,14 +36,14 @@ returns-clause-taken c =
 
 pub invariant_of-self : goal.invariant_of-self
 invariant_of-self c =
-    subst (λ (values : List Value). IsIndexed c.unset.new.self values c.cut_at.new.base c.cut_at.new.index) (sym c.replace-held.ensures.replaced)
+    subst (λ (values : List Value). IndexesChildren c.unset.new.self values c.cut_at.new.base c.cut_at.new.index) (sym c.replace-held.ensures.replaced)
     (put_indexed c.self.inside.given c.unset.new.self c.self.inside.parts c.self.inside.base c.cut_at.new.base c.self.inside.index
     c.cut_at.new.index c.args.i c.nothing.result c.self.invariant c.cut_at.ensures (ap (λ (b : BitSet). b.capacity) c.unset.ensures.value)
     (λ j ne. c.unset.ensures.by_index j ∙ bit_unset c.args.i j _ ne))
 
 pub invariant_of-self-2 : goal.invariant_of-self-2
 invariant_of-self-2 c =
-    subst (λ (values : List Value). IsIndexed c.unset.new.self values c.cut_at.new.base c.cut_at.new.index) (sym c.replace-held.ensures.replaced)
+    subst (λ (values : List Value). IndexesChildren c.unset.new.self values c.cut_at.new.base c.cut_at.new.index) (sym c.replace-held.ensures.replaced)
     (put_indexed c.self.inside.given c.unset.new.self c.self.inside.parts c.self.inside.base c.cut_at.new.base c.self.inside.index
     c.cut_at.new.index c.args.i c.nothing.result c.self.invariant c.cut_at.ensures (ap (λ (b : BitSet). b.capacity) c.unset.ensures.value)
     (λ j ne. c.unset.ensures.by_index j ∙ bit_unset c.args.i j _ ne))

@@ -1,6 +1,6 @@
 use Rattle.std.proofs.Common.{length, ap, arith}
 use Rattle.fr_values.proofs.PartLaws.{parts_count}
-use Rattle.fr_values.proofs.parts.Parts.len.Goals as goal
+use Rattle.fr_values.proofs.child_values.ChildValues.len.Goals as goal
 
 pub returns : goal.returns
 returns c = record {

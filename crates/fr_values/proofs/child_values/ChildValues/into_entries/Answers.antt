@@ -1,6 +1,6 @@
 use Rattle.std.proofs.Common.{length, ap, arith}
 use Rattle.fr_values.proofs.PartLaws.{parts_count}
-use Rattle.fr_values.proofs.parts.Parts.into_entries.Goals as goal
+use Rattle.fr_values.proofs.child_values.ChildValues.into_entries.Goals as goal
 
 pub returns-in-Ok-clause-room : goal.returns-in-Ok-clause-room
 returns-in-Ok-clause-room c =

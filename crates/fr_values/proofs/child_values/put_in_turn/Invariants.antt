@@ -1,6 +1,6 @@
 use Rattle.std.proofs.Common.{◌≡◌, ◌≤◌, ◌+◌, ◌*◌, ◌++◌, length, vec_len, vec_capacity}
 use Rattle.fr_values.specs.Common.{into_iter_items, into_iter_len, parts_of_entries}
-use Rattle.fr_values.proofs.parts.put_in_turn.Given as goal
+use Rattle.fr_values.proofs.child_values.put_in_turn.Given as goal
 
 abbrev pub invariant-loop-key : goal.invariant-loop-key
 invariant-loop-key l = record {

@@ -13,17 +13,17 @@ use std::marker::Model;
 /// There is always room for all of them side by side, so that the entries are spread out without
 /// memory.
 #[derive(Drop)]
-pub struct Parts {
+pub struct ChildValues {
     entries: Vec<(Value, Value)>,
     values: Vec<Value>,
 }
 
-impl Model for Parts {
+impl Model for ChildValues {
     ghost use Rattle.std.specs.Prelude.{List, ◌++◌};
     ghost use Rattle.std.specs.Coded.{coded_list};
     ghost use Rattle.fr_shape.specs.declared.value.Value.{Value as TheValue};
     ghost use Rattle.fr_shape.specs.contracts.value.Value as value;
-    ghost use Rattle.fr_values.specs.Turns.{HasRoom, parts_of_entries};
+    ghost use Rattle.fr_values.specs.EntryParts.{HasRoom, parts_of_entries};
 
     ghost Value = { List TheValue };
 
@@ -74,19 +74,19 @@ fn part_at(entries: &[(Value, Value)], i: usize) -> &Value
     if i % 2 == 0 { &entry.0 } else { &entry.1 }
 }
 
-impl Parts {
+impl ChildValues {
     /// No values. Takes no memory.
-    pub(crate) fn none(alloc: Global) -> Parts
+    pub(crate) fn none(alloc: Global) -> ChildValues
         ensures none { result ≡ [] }
     {
-        Parts::of_values(Vec::new(alloc))
+        ChildValues::of_values(Vec::new(alloc))
     }
 
     /// These values. Takes no memory.
-    pub(crate) fn of_values(values: Vec<Value>) -> Parts
+    pub(crate) fn of_values(values: Vec<Value>) -> ChildValues
         ensures values { result ≡ values.items }
     {
-        Parts {
+        ChildValues {
             entries: Vec::new(*values.allocator()),
             values,
         }
@@ -97,7 +97,7 @@ impl Parts {
     pub(crate) fn of_entries(
         alloc: Global,
         entries: Vec<(Value, Value)>,
-    ) -> Result<Parts, Vec<(Value, Value)>>
+    ) -> Result<ChildValues, Vec<(Value, Value)>>
         ensures parts { IfOk result (λ it. it ≡ parts_of_entries entries.items) }
         ensures handed_back { IfErr result (λ back. back.items ≡ entries.items) }
     {
@@ -105,7 +105,7 @@ impl Parts {
             return Err(entries);
         }
         match Vec::with_capacity(alloc, 2 * entries.len() + 2) {
-            Ok(values) => Ok(Parts { entries, values }),
+            Ok(values) => Ok(ChildValues { entries, values }),
             Err(_) => Err(entries),
         }
     }
@@ -197,7 +197,7 @@ impl Parts {
     pub(crate) fn into_entries(
         mut self,
         most: usize,
-    ) -> Result<(Vec<(Value, Value)>, Vec<Value>), Parts>
+    ) -> Result<(Vec<(Value, Value)>, Vec<Value>), ChildValues>
         ensures split { IfOk result (λ split.
             parts_of_entries split.0.items ++ split.1.items ≡ self) }
         ensures within { IfOk result (λ split. length split.0.items ≤ most) }
