@@ -75,8 +75,7 @@ entered_same column hooks table s checked plain fields =
     with_fields (field ∷ rest) None fills valid e some = e
 
     go : (def : Def) (preset : Option Val) → def_of table s ≡ def → preset_of table s ≡ preset
-        → (fills valid : Option Val) → fills ≡ valid → is_empty_struct def ≡ false
-        → by_entered def preset fills ≡ made_by def preset valid
+        → (fills valid : Option Val) → fills ≡ valid → is_empty_struct def ≡ false → by_entered def preset fills ≡ made_by def preset valid
     go (Def.Struct struct) preset is there fills valid e some = with_fields struct.fields preset fills valid e some
     go (Def.Option t) (Some v) is there fills valid e some = ap Some (option_preset table s t.0 v checked is there)
     go (Def.Option t) None is there fills valid e some = refl
@@ -112,7 +111,7 @@ makes_own table s (whole v) notes fill own touched (by_value e) = rw e refl
 makes_own table s (whole v) notes fill own touched (by_entry e none is) = rw e refl
 makes_own table s (begun tracker ts) notes fill own touched agrees = rw agrees.0 refl
 
-hole_makes : (h : Held) (fill own : Option Val) → h ≡ untouched → child_makes h fill own ≡ fill
+pub hole_makes : (h : Held) (fill own : Option Val) → h ≡ untouched → child_makes h fill own ≡ fill
 hole_makes h fill own e = rw e refl
 
 pub child_as_is : (table : Table) (s : ℕ) (tracker : Tracker) (i : ℕ) → HasParts tracker

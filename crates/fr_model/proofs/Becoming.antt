@@ -1,8 +1,8 @@
 -- Places at which a content is entered or a variant is selected: what is kept of them, and how they start anew.
 use Rattle.std.proofs.Common.{◌≡◌, ◌&&◌, ◌+◌, ◌==◌, if◌then◌else◌, ◌∷◌}
-use Rattle.fr_model.proofs.Common.{ℕ, zero, suc, eqb-true, Bool, true, false, List, [], length, Option, Some, None, unwrap_or, refl, sym, ◌∙◌, ap, ap₂, subst, arith, option_map, option_or, Def, ShapeId, VariantDef, Operation, is_option, fits, Table, def_of, Val, some, is_result, pointer_refusal, variant_anew, around, content_anew, slice_anew, kept_so, kept_in, reopened, kept_slice, content_of, kept_option, Place, content_shape, Tracker, as_fields, as_content, ContentKind, as_items, ItemsKind, as_entries, EntriesKind, base_of_tracker, keys_of_tracker, same_keys, same_tracker, Tree, hole, entered, whole, begun, Trees, no_trees, branch, child_as, shapes_from, count_trees, tree_occurs, Mode, strict, deferred, is_enum, fields_or_none, variant_fields, has_discriminant, selection_refusal, HasContent, HasFieldsOf, HasFields, TakesItemsAs, IsFullAs, MayBegin, IsBegunAs, MayPoint, IsTouched, IsContent, IsBegunRightly, Suits, SuitAll, IsBehindBase, RestsAround, AtCursor, OffBut, Leads}
+use Rattle.fr_model.proofs.Common.{ℕ, eqb-true, Bool, true, false, List, [], length, Option, Some, None, unwrap_or, refl, sym, ◌∙◌, ap, ap₂, subst, arith, option_map, option_or, Def, ShapeId, VariantDef, Operation, is_option, fits, Table, def_of, Val, some, is_result, pointer_refusal, variant_anew, around, content_anew, slice_anew, kept_so, kept_in, reopened, kept_slice, content_of, kept_option, Place, content_shape, Tracker, as_fields, as_content, ContentKind, as_items, ItemsKind, as_entries, EntriesKind, base_of_tracker, keys_of_tracker, same_keys, same_tracker, Tree, hole, entered, whole, begun, Trees, no_trees, branch, child_as, tree_occurs, Mode, strict, deferred, is_enum, fields_or_none, variant_fields, has_discriminant, selection_refusal, HasContent, HasFieldsOf, HasFields, TakesItemsAs, IsFullAs, MayBegin, IsBegunAs, MayPoint, IsTouched, IsContent, IsBegunRightly, Suits, IsBehindBase, RestsAround, AtCursor, OffBut, Leads}
 use Rattle.fr_model.specs.StateCode.{tracker_numbered, tracker_comes_back}
-use Rattle.fr_model.proofs.Basis.{bytes_are, enter_touched, fresh_suits, fresh_at_cursor, holes_off, all_deferred, rests_here, holes_rest, fresh_rests, rest_but, has_pointee, count_holes, holes_suit, settled_as, both_true, fresh_holds, holes_hold, done_none, done_but}
+use Rattle.fr_model.proofs.Basis.{bytes_are, enter_touched, fresh_suits, fresh_at_cursor, holes_off, all_deferred, rests_here, holes_rest, fresh_rests, rest_but, has_pointee, count_holes, holes_suit, settled_as, both_true, fresh_holds, holes_hold, done_none, done_but, suit_alike}
 
 -- what is begun just so
 
@@ -43,9 +43,7 @@ kept_so_is tracker (begun made ts) kept e = go _ refl e
           same = sym kept_is ∙ ap (λ (known : Tracker). begun known ts) is;
         }
     go false same e = cc
-kept_so_is tracker hole kept e = cc
-kept_so_is tracker entered kept e = cc
-kept_so_is tracker (whole v) kept e = cc
+kept_so_is tracker _ kept e = cc
 
 -- what becomes of a place: it suits its shape, and the cursor may go on from it this way
 pub record Placed (mode : Mode) (table : Table) (s : ℕ) (way : Place) (after : Tree) : Type 0 where
@@ -109,10 +107,8 @@ pub record MayHold (table : Table) (s : ℕ) (tracker : Tracker) : Type 0 where
 around_placed : (mode : Mode) (table : Table) (s : ℕ) (tracker : Tracker) (child : Tree) → MayHold table s tracker
     → Suits table (child_as table s tracker 0) child → IsTouched child → AtCursor mode child
     → Placed mode table s (0 ∷ []) (around tracker child)
-around_placed mode table s tracker child holds suits touched at = record {
-  suits = ((holds.full_as, holds.may), (suits, tt), holds.rightly child touched);
-  leads = (at, tt);
-}
+around_placed mode table s tracker child holds suits touched at =
+    record { suits = ((holds.full_as, holds.may), (suits, tt), holds.rightly child touched); leads = (at, tt) }
 
 anew_placed : (mode : Mode) (table : Table) (s : ℕ) (tracker : Tracker) → MayHold table s tracker
     → Placed mode table s (0 ∷ []) (content_anew table s tracker)
@@ -205,8 +201,7 @@ some_keeps mode table s (some held) kept holds here fit e =
 some_keeps mode table s _ kept holds here fit e = cc
 
 kept_option_keeps : (mode : Mode) (table : Table) (s : ℕ) (t kept : Tree) → MayHold table s (as_content ContentKind.Some) → IsOption table s
-    → Suits table s t → kept_option mode (def_of table (content_shape (def_of table s))) t ≡ Some kept
-    → IsKept mode table s (0 ∷ []) t kept
+    → Suits table s t → kept_option mode (def_of table (content_shape (def_of table s))) t ≡ Some kept → IsKept mode table s (0 ∷ []) t kept
 kept_option_keeps mode table s hole kept holds here suits e = cc
 kept_option_keeps mode table s entered kept holds here suits e = cc
 kept_option_keeps mode table s (whole v) kept holds here suits e = go _ e
@@ -245,25 +240,14 @@ side_holds table s (as_content ContentKind.Err) of_result e =
 side_holds table s _ of_result e = absurd of_result
 
 pub pointer_holds : (table : Table) (s : ℕ) → MayPoint table s false → MayHold table s (as_content ContentKind.Pointer)
-pointer_holds table s points = record {
-  full_as = has_pointee table _ points.0;
-  may = tt;
-  rightly = λ child touched. (touched, points);
-  holds = tt;
-}
+pointer_holds table s points =
+    record { full_as = has_pointee table _ points.0; may = tt; rightly = λ child touched. (touched, points); holds = tt }
 
 -- a pointer to a slice is open for items
 
 is_pointer : (table : Table) (def : Def) → pointer_refusal table def ≡ None → TakesItemsAs def ItemsKind.Slice
 is_pointer table (Def.Pointer pointer) e = tt
 is_pointer table _ e = cc
-
--- open or closed, a pointer to a slice has items of the same shape
-slices_alike : (table : Table) (s count i : ℕ)
-    → shapes_from table s (as_items ItemsKind.Slice) count i ≡ shapes_from table s (as_items ItemsKind.ClosedSlice) count i
-slices_alike table s zero i = refl
-slices_alike table s (suc count) i =
-    ap (λ (shapes : List ℕ). child_as table s (as_items ItemsKind.Slice) i ∷ shapes) (slices_alike table s count (suc i))
 
 taken_closed : (def : Def) → TakesItemsAs def ItemsKind.Slice → TakesItemsAs def ItemsKind.ClosedSlice
 taken_closed (Def.Pointer pointer) takes = takes
@@ -277,7 +261,7 @@ pub closed_suits : (table : Table) (s : ℕ) (ts : Trees) → Suits table s (beg
     → Suits table s (begun (as_items ItemsKind.ClosedSlice) ts)
 closed_suits table s ts suits = (
   (taken_closed _ suits.0.0, suits.0.1),
-  subst (λ (shapes : List ℕ). SuitAll table shapes ts) (slices_alike table s (count_trees ts) 0) suits.1,
+  suit_alike table s (as_items ItemsKind.Slice) (as_items ItemsKind.ClosedSlice) (λ i. refl) 0 ts suits.1,
   suits.2,
 )
 
@@ -285,7 +269,7 @@ open_suits : (table : Table) (s : ℕ) (ts : Trees) → Suits table s (begun (as
     → Suits table s (begun (as_items ItemsKind.Slice) ts)
 open_suits table s ts suits = (
   (taken_open _ suits.0.0, suits.0.1),
-  subst (λ (shapes : List ℕ). SuitAll table shapes ts) (sym (slices_alike table s _ 0)) suits.1,
+  suit_alike table s (as_items ItemsKind.ClosedSlice) (as_items ItemsKind.Slice) (λ i. refl) 0 ts suits.1,
   suits.2,
 )
 

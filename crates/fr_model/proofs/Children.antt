@@ -61,8 +61,7 @@ pub data ChildCase (def : Def) (i : ℕ) (t : Tree) : Type 0 where
 pub nothing_below : (i : ℕ) → nat_lt i 0 ≡ false
 nothing_below i = le-ltb i 0 (omega arith)
 
-struct_case : (struct : StructDef) (i : ℕ) (t : Tree) (b : Bool) → nat_lt i (length struct.fields) ≡ b
-    → ChildCase (Def.Struct struct) i t
+struct_case : (struct : StructDef) (i : ℕ) (t : Tree) (b : Bool) → nat_lt i (length struct.fields) ≡ b → ChildCase (Def.Struct struct) i t
 struct_case struct i t true e = a_child (field_of struct refl (ltb-true i (length struct.fields) e)) (rw e refl) (λ h sees. rw e refl)
 struct_case struct i t false e = no_child Operation.FieldIndexOutOfBounds (rw e refl) (λ h sees. rw e refl)
 
@@ -74,8 +73,7 @@ array_case item n i (whole v) true true e f = no_child Operation.ElementOfWholeA
 array_case item n i _ true true e f =
     a_child (element_of item n refl (ltb-true i n e) (leb-true n array_limit f) tt) (rw (e, f) refl) (λ h sees. rw (e, f, sees) refl)
 
-variant_case : (enumeration : EnumDef) (i : ℕ) (t : Tree) (chosen : Option ℕ) → selected t ≡ chosen
-    → ChildCase (Def.Enum enumeration) i t
+variant_case : (enumeration : EnumDef) (i : ℕ) (t : Tree) (chosen : Option ℕ) → selected t ≡ chosen → ChildCase (Def.Enum enumeration) i t
 variant_case enumeration i t None is = no_child Operation.FieldOfUnselectedVariant (rw is refl) (λ h sees. rw (nothing_below i) refl)
 variant_case enumeration i t (Some k) is = go _ refl
   where
@@ -95,8 +93,7 @@ child_case _ i t = no_child Operation.FieldOfOther refl (λ h sees. rw (nothing_
 
 -- begin_field
 
-found_below : (name : List ℕ) (i k : ℕ) (fields : List Field) → first_declared name i fields ≡ Some k
-    → (i ≤ k) × (k < i + length fields)
+found_below : (name : List ℕ) (i k : ℕ) (fields : List Field) → first_declared name i fields ≡ Some k → (i ≤ k) × (k < i + length fields)
 found_below name i k [] e = cc
 found_below name i k (field ∷ fields) e = go _ e (λ later. found_below name (suc i) k fields later)
   where
@@ -111,22 +108,14 @@ abbrev pub OnlyOfEnum : Def → Tree → Type 0
 OnlyOfEnum (Def.Enum enumeration) t = Unit {0}
 OnlyOfEnum _ t = selected t ≡ None
 
+none_selected : (def : Def) (t : Tree) → selected t ≡ None → OnlyOfEnum def t
+none_selected (Def.Enum enumeration) t none = tt
+none_selected _ t none = none
+
 pub only_of_enum : (table : Table) (s : ℕ) (t : Tree) → Suits table s t → OnlyOfEnum (def_of table s) t
-only_of_enum table s hole suits = go _
-  where
-    go : (def : Def) → OnlyOfEnum def hole
-    go (Def.Enum enumeration) = tt
-    go _ = refl
-only_of_enum table s entered suits = go _
-  where
-    go : (def : Def) → OnlyOfEnum def entered
-    go (Def.Enum enumeration) = tt
-    go _ = refl
-only_of_enum table s (whole v) suits = go _
-  where
-    go : (def : Def) → OnlyOfEnum def (whole v)
-    go (Def.Enum enumeration) = tt
-    go _ = refl
+only_of_enum table s hole suits = none_selected (def_of table s) hole refl
+only_of_enum table s entered suits = none_selected (def_of table s) entered refl
+only_of_enum table s (whole v) suits = none_selected (def_of table s) (whole v) refl
 only_of_enum table s (begun tracker ts) suits = go (def_of table s) tracker suits.0.0
   where
     go : (def : Def) (tracker : Tracker) → IsFullAs def tracker (count_trees ts) → OnlyOfEnum def (begun tracker ts)
@@ -140,8 +129,7 @@ pub data NamedCase (name : List ℕ) (def : Def) (t : Tree) : Type 0 where
       → field_named name def ≡ Some i → ((h : Held) → may_enter_by def i h ≡ true) → NamedCase name def t
   a_variant_named : (i k : ℕ) → ChildOf def i t → named_refusal def t ≡ None → field_found name def (selected t) ≡ Some i
       → selected t ≡ Some k → NamedCase name def t
-  no_such_name : named_refusal def t ≡ None → field_found name def (selected t) ≡ None → field_named name def ≡ None
-      → NamedCase name def t
+  no_such_name : named_refusal def t ≡ None → field_found name def (selected t) ≡ None → field_named name def ≡ None → NamedCase name def t
   no_names : (operation : Operation) → named_refusal def t ≡ Some operation → field_named name def ≡ None → NamedCase name def t
 
 named_in_variant : (name : List ℕ) (enumeration : EnumDef) (t : Tree) (chosen : Option ℕ) → selected t ≡ chosen

@@ -199,20 +199,16 @@ but_alike hooks table s tracker (suc on_way) becomes beneath (suc d) k (branch t
 -- the place at the cursor, with such a child
 here_alike : (hooks : Meanings) (table : Table) (s : ℕ) (tracker : Tracker) (ts us : Trees) → AreAlike hooks table s tracker 0 ts us
     → FinishAlike hooks table s [] (begun tracker ts) (begun tracker us)
-here_alike hooks table s tracker ts us alike = record {
-  become = ap (λ (values : Option Vals). option_map (begun_with tracker) values) alike.make;
-  fail = alike.fail;
-}
+here_alike hooks table s tracker ts us alike =
+    record { become = ap (λ (values : Option Vals). option_map (begun_with tracker) values) alike.make; fail = alike.fail }
 
 -- a place above the cursor
 above_alike : (hooks : Meanings) (table : Table) (s : ℕ) (tracker : Tracker) (i : ℕ) (cursor : Place) (ts us : Trees)
     → AreAlikeBut hooks table s tracker i (λ (shape : ℕ) (t : Tree). finished hooks table shape cursor t)
     (λ (shape : ℕ) (to : List PathStep) (t : Tree). failures_off hooks table shape to cursor t) 0 ts us
     → FinishAlike hooks table s (i ∷ cursor) (begun tracker ts) (begun tracker us)
-above_alike hooks table s tracker i cursor ts us alike = record {
-  become = ap (λ (children : Option Trees). option_map (begun tracker) children) alike.become;
-  fail = alike.fail;
-}
+above_alike hooks table s tracker i cursor ts us alike =
+    record { become = ap (λ (children : Option Trees). option_map (begun tracker) children) alike.become; fail = alike.fail }
 
 off_beneath : (c i : ℕ) (cursor here : Place) → c ≡ i → IsOffTheWay (c ∷ cursor) (i ∷ here) → IsOffTheWay cursor here
 off_beneath c i cursor here same off way e = off way (ap₂ (λ (k : ℕ) (rest : Place). k ∷ rest) same e)

@@ -1,9 +1,9 @@
 -- Sets and maps: what is begun suits its shape, and so it is with one more key.
 use Rattle.std.proofs.Common.{◌≡◌, if◌then◌else◌, ◌∷◌}
-use Rattle.fr_model.proofs.Common.{ℕ, zero, suc, Bool, true, false, [], Some, None, refl, sym, subst, arith, Def, ShapeId, Operation, fits, entries_fit, Table, def_of, is_dynamic, none_twice, keys, Val, Entries, unit, set_of, map_of, no_entries, entry, unless_map, unless_set, is_map, is_hole, ends_in_hole, lacks_value, key_refusal, value_refusal, with_key, last_of, count_entries, is_key, in_turn, opened, at_shape, init_map_refusal, init_set_refusal, as_items, ItemsKind, as_entries, EntriesKind, Tree, hole, entered, whole, begun, Trees, no_trees, branch, and_last, child_as, count_trees, count_below, wholes, fresh, tree_occurs, Mode, HasEntries, IsTouched, AreEntries, Suits, IsOff, AllOff, AtCursor, OffBut}
+use Rattle.fr_model.proofs.Common.{ℕ, zero, suc, Bool, true, false, [], Some, None, refl, sym, subst, arith, Def, ShapeId, Operation, fits, entries_fit, Table, def_of, is_dynamic, none_twice, keys, Val, Entries, unit, set_of, map_of, no_entries, entry, is_hole, ends_in_hole, key_refusal, value_refusal, with_key, last_of, count_entries, is_key, in_turn, opened, init_map_refusal, init_set_refusal, as_items, ItemsKind, as_entries, EntriesKind, Tree, hole, entered, whole, begun, Trees, no_trees, branch, and_last, child_as, count_trees, count_below, wholes, fresh, tree_occurs, Mode, HasEntries, IsTouched, AreEntries, Suits, IsOff, AllOff, AtCursor, OffBut}
 use Rattle.fr_model.proofs.Becoming.{Placed}
-use Rattle.fr_model.proofs.Items.{items_suit, last_suits, last_leads, last_holds, wholes_touched}
-use Rattle.fr_model.proofs.Basis.{Enterable, a_value, enter_touched, fresh_suits, fresh_at_cursor, hole_off, wholes_off, count_last, SuitFrom, settled_as, both_true, fresh_holds}
+use Rattle.fr_model.proofs.Items.{items_suit, last_suits, last_leads, last_holds}
+use Rattle.fr_model.proofs.Basis.{Enterable, a_value, enter_touched, fresh_suits, fresh_at_cursor, hole_off, wholes_off, count_last, SuitFrom, settled_as, both_true, fresh_holds, wholes_touched, odd_next}
 
 -- A set is begun
 
@@ -17,30 +17,17 @@ whole_set mode table s item _ is fit = let none = rw (settled_as table s is refl
 
 pub set_opens : (mode : Mode) (table : Table) (s : ℕ) (t : Tree) → init_set_refusal s (def_of table s) t ≡ None
     → Placed mode table s [] t → Placed mode table s [] (opened (def_of table s) t)
-set_opens mode table s hole e there = absurd there.leads
-set_opens mode table s entered e there = go _ refl e
+set_opens mode table s t e there = go (def_of table s) t refl e there
   where
-    go : (def : Def) → def_of table s ≡ def → at_shape s (unless_set Operation.InitSetOfOther def) ≡ None
-        → Placed mode table s [] (opened (def_of table s) entered)
-    go (Def.Set item) is e =
-        subst (λ (def : Def). Placed mode table s [] (opened def entered)) (sym is)
-        (record { suits = ((rw is tt, tt), tt, tt); leads = tt })
-    go _ is e = cc
-set_opens mode table s (whole v) e there = go _ refl e
-  where
-    go : (def : Def) → def_of table s ≡ def → at_shape s (unless_set Operation.InitSetOfOther def) ≡ None
-        → Placed mode table s [] (opened (def_of table s) (whole v))
-    go (Def.Set item) is e =
-        subst (λ (def : Def). Placed mode table s [] (opened def (whole v))) (sym is) (whole_set mode table s item v is there.suits)
-    go _ is e = cc
-set_opens mode table s (begun tracker ts) e there = there
+    go : (def : Def) (t : Tree) → def_of table s ≡ def → init_set_refusal s def t ≡ None → Placed mode table s [] t
+        → Placed mode table s [] (opened def t)
+    go def (begun tracker ts) is e there = there
+    go def hole is e there = absurd there.leads
+    go (Def.Set item) entered is e there = record { suits = ((rw is tt, tt), tt, tt); leads = tt }
+    go (Def.Set item) (whole v) is e there = whole_set mode table s item v is there.suits
+    go _ _ is e there = cc
 
 -- A map is begun
-
-not_key : (i : ℕ) → is_key i ≡ true → is_key (suc i) ≡ false
-not_key zero e = refl
-not_key (suc zero) e = cc
-not_key (suc (suc i)) e = not_key i e
 
 turns_suit : (table : Table) (s : ℕ) (key item : ShapeId) → def_of table s ≡ Def.Map key item → (base i : ℕ) → is_key i ≡ true
     → (es : Entries) → entries_fit table key.0 item.0 es ≡ true → SuitFrom table s (as_entries (EntriesKind.Map base)) i (wholes (in_turn es))
@@ -49,7 +36,7 @@ turns_suit table s key item is base i even (entry k v es) fit =
     let first = both_true _ _ fit in
     let both = both_true _ _ first.0 in
     let of_key : child_as table s (as_entries (EntriesKind.Map base)) i ≡ key.0 = rw (is, even) refl in
-    let of_value : child_as table s (as_entries (EntriesKind.Map base)) (suc i) ≡ item.0 = rw (is, not_key i even) refl in
+    let of_value : child_as table s (as_entries (EntriesKind.Map base)) (suc i) ≡ item.0 = rw (is, odd_next i even) refl in
     (rw of_key both.0, (rw of_value both.1, turns_suit table s key item is base (suc (suc i)) even es first.1))
 
 turns_count : (es : Entries) → is_key (count_trees (wholes (in_turn es))) ≡ true
@@ -73,24 +60,15 @@ whole_map mode table s key item _ is fit = let none = rw (settled_as table s is 
 
 pub map_opens : (mode : Mode) (table : Table) (s : ℕ) (t : Tree) → is_dynamic (def_of table s) ≡ false
     → init_map_refusal s (def_of table s) t ≡ None → Placed mode table s [] t → Placed mode table s [] (opened (def_of table s) t)
-map_opens mode table s hole other e there = absurd there.leads
-map_opens mode table s entered other e there = go _ refl other e
+map_opens mode table s t other e there = go (def_of table s) t refl other e there
   where
-    go : (def : Def) → def_of table s ≡ def → is_dynamic def ≡ false → at_shape s (unless_map Operation.InitMapOfOther def) ≡ None
-        → Placed mode table s [] (opened (def_of table s) entered)
-    go (Def.Map key item) is other e =
-        subst (λ (def : Def). Placed mode table s [] (opened def entered)) (sym is)
-        (record { suits = ((rw is refl, tt), tt, tt); leads = tt })
-    go _ is other e = cc
-map_opens mode table s (whole v) other e there = go _ refl other e
-  where
-    go : (def : Def) → def_of table s ≡ def → is_dynamic def ≡ false → at_shape s (unless_map Operation.InitMapOfOther def) ≡ None
-        → Placed mode table s [] (opened (def_of table s) (whole v))
-    go (Def.Map key item) is other e =
-        subst (λ (def : Def). Placed mode table s [] (opened def (whole v))) (sym is)
-        (whole_map mode table s key item v is there.suits)
-    go _ is other e = cc
-map_opens mode table s (begun tracker ts) other e there = there
+    go : (def : Def) (t : Tree) → def_of table s ≡ def → is_dynamic def ≡ false → init_map_refusal s def t ≡ None
+        → Placed mode table s [] t → Placed mode table s [] (opened def t)
+    go def (begun tracker ts) is other e there = there
+    go def hole is other e there = absurd there.leads
+    go (Def.Map key item) entered is other e there = record { suits = ((rw is refl, tt), tt, tt); leads = tt }
+    go (Def.Map key item) (whole v) is other e there = whole_map mode table s key item v is there.suits
+    go _ _ is other e there = cc
 
 -- A key is added
 
@@ -100,29 +78,21 @@ pub record IsMap (t : Tree) (lacking : Bool) : Type 0 where
   pub is : t ≡ begun (as_entries (EntriesKind.Map base)) children
   pub ends : ends_in_hole children ≡ lacking
 
-map_is : (t : Tree) (lacking : Bool) → is_map t ≡ true → lacks_value t ≡ lacking → IsMap t lacking
-map_is (begun (as_entries (EntriesKind.Map base)) ts) lacking e f = record { base = base; children = ts; is = refl; ends = f }
-map_is _ lacking e f = cc
-
 pub takes_a_key : (t : Tree) → key_refusal t ≡ None → IsMap t false
-takes_a_key t e = go (is_map t) _ refl refl e
+takes_a_key (begun (as_entries (EntriesKind.Map base)) ts) e = record { base = base; children = ts; is = refl; ends = go _ e }
   where
-    go : (b lacking : Bool) → is_map t ≡ b → lacks_value t ≡ lacking
-        → (if b then (if lacking then Some Operation.KeyBeforeValue else None) else Some Operation.KeyBeforeInitMap) ≡ None
-        → IsMap t false
-    go true false is ends e = map_is t false is ends
-    go true true is ends e = cc
-    go false lacking is ends e = cc
+    go : (lacking : Bool) → (if lacking then Some Operation.KeyBeforeValue else None) ≡ None → lacking ≡ false
+    go true e = cc
+    go false e = refl
+takes_a_key _ e = cc
 
 pub takes_a_value : (t : Tree) → value_refusal t ≡ None → IsMap t true
-takes_a_value t e = go (is_map t) _ refl refl e
+takes_a_value (begun (as_entries (EntriesKind.Map base)) ts) e = record { base = base; children = ts; is = refl; ends = go _ e }
   where
-    go : (b lacking : Bool) → is_map t ≡ b → lacks_value t ≡ lacking
-        → (if b then (if lacking then None else Some Operation.ValueBeforeKey) else Some Operation.ValueBeforeKey) ≡ None
-        → IsMap t true
-    go true true is ends e = map_is t true is ends
-    go true false is ends e = cc
-    go false lacking is ends e = cc
+    go : (lacking : Bool) → (if lacking then None else Some Operation.ValueBeforeKey) ≡ None → lacking ≡ true
+    go true e = refl
+    go false e = cc
+takes_a_value _ e = cc
 
 more_entries : (def : Def) (base n : ℕ) → HasEntries def (EntriesKind.Map base) n → HasEntries def (EntriesKind.Map base) (suc (suc n))
 more_entries (Def.Map key item) base n has = has
@@ -183,8 +153,7 @@ last_there : (ts : Trees) → ends_in_hole ts ≡ true → suc (last_of (count_t
 last_there no_trees e = cc
 last_there (branch t ts) e = refl
 
-pub value_enterable : (table : Table) (s : ℕ) (t : Tree) → IsMap t true → Suits table s t
-    → Enterable table s (last_of (count_below t)) t
+pub value_enterable : (table : Table) (s : ℕ) (t : Tree) → IsMap t true → Suits table s t → Enterable table s (last_of (count_below t)) t
 value_enterable table s t here suits =
     subst (λ (u : Tree). Enterable table s (last_of (count_below u)) u) (sym here.is)
     (go _ refl (subst (λ (u : Tree). Suits table s u) here.is suits).0.0)

@@ -1,5 +1,5 @@
 -- The names that most proofs cite, passed on from one place. Declares nothing.
-pub use Rattle.std.proofs.Common.{ltb-true, ◌∙◌, ap, subst, arith, sym, ap₂, eq-eqb, eqb-true, le-ltb, lt-ltb, leb-true, append-nil, length-append, true≢false, append_assoc, inl, inr, ⊎_elim, get_or, option_to_list}
+pub use Rattle.std.proofs.Common.{ltb-true, ◌∙◌, ap, subst, arith, sym, ap₂, eq-eqb, eqb-true, le-ltb, lt-ltb, leb-true, append-nil, length-append, append_assoc, inl, inr, ⊎_elim, option_to_list}
 pub use Rattle.std.proofs.lemmas.List.Elements.{Contains-append_left, Contains-append_right, Contains-append_cases, Contains-get_or}
 pub use Rattle.std.specs.List.{flat_map}
 pub use Rattle.std.proofs.Common.{◌≡◌, ◌+◌, ◌<◌, ◌==◌, if◌then◌else◌, ◌≤◌, ◌∷◌, ◌++◌, ◌&&◌, ◌-◌, ◌≢◌, ◌||◌, ◌⊎◌}
@@ -15,7 +15,7 @@ pub use Rattle.fr_shape.specs.declared.error.AllocError.{AllocError}
 pub use Rattle.fr_shape.specs.declared.error.PlanFault.{PlanFault}
 pub use Rattle.fr_shape.specs.declared.shape.EnumDef.{EnumDef}
 pub use Rattle.fr_shape.specs.declared.shape.StructDef.{StructDef}
-pub use Rattle.fr_model.specs.Collections.{key_refusal, value_refusal, last_of, set_item_refusal, unless_map, unless_set, is_map, is_hole, ends_in_hole, lacks_value, with_key, has_same, is_set, without_nth, and_item, with_ended_item, leaves_item_out, number_in, is_set_tracker}
+pub use Rattle.fr_model.specs.Collections.{key_refusal, value_refusal, last_of, set_item_refusal, is_hole, ends_in_hole, with_key, has_same, is_set, without_nth, and_item, with_ended_item, leaves_item_out, number_in, is_set_tracker}
 pub use Rattle.fr_model.specs.Basis.{Call, IsFieldCall, IsFieldScript, step_as, steps_in, step_below, path_of, brings, IsFitting, AllFitting}
 pub use Rattle.fr_model.specs.Complete.{complete, complete_all, valid_child, hole_takes, made, made_by, made_of_entered, failing_child, missing_child, unless_there, unless_failing, made_of_fills, lack_of_hole, lack_of_holes, lack_by, lack, lack_among, value_as, first_failing, failing_field}
 pub use Rattle.fr_model.specs.Contents.{is_result, pointer_refusal, points_to_slice, slice_anew, variant_anew, around, content_anew, kept_so, kept_in, reopened, kept_slice, content_of, kept_option, is_slice, pointee_refusal}
@@ -23,7 +23,7 @@ pub use Rattle.fr_model.specs.Converting.{converted, or_not_dynamic, from_bool, 
 pub use Rattle.fr_model.specs.Covering.{way_down, goes_on, is_entry_at, is_beneath, part_given, covering_part, since_covered, held_by_rules}
 pub use Rattle.fr_model.specs.DefaultLaws.{HasNoDefault, names_none, no_such_field, no_default, DefaultIsThreeCalls, and_step, three_calls, AreSameButCalls}
 pub use Rattle.fr_model.specs.Dropping.{dropped_by_completing, left_out_of, dropped_among, dropped_but, dropped_by_finishing}
-pub use Rattle.fr_model.specs.DynamicPlaces.{array_anew, object_anew, kept_array, kept_object, entry_refusal, is_begun_object, array_of, object_of, begun_array, begun_object, entry_found, entry_number, number_or_last, and_entry, with_entry, is_begun_dynamic, is_dynamic_tracker}
+pub use Rattle.fr_model.specs.DynamicPlaces.{array_anew, object_anew, kept_array, kept_object, entry_refusal, is_begun_object, array_of, object_of, entry_found, entry_number, number_or_last, and_entry, with_entry, is_begun_dynamic, is_dynamic_tracker}
 pub use Rattle.fr_model.specs.Dynamics.{element_vals, member_vals, member_keys, elements_in, members_of_object, dynamic_in, dynamics_in, members_in, lacks, keys_apart, key_nth}
 pub use Rattle.fr_model.specs.Entering.{Way, enters, opened, enter_child, enter, entered_on, number_on, opened_value, parts_as, opened_as}
 pub use Rattle.fr_model.specs.Failing.{unmet_mark, first_unmet, first_missing, first_invalid, lack_of_begun, Failure, failure_at, or_itself, failures, failures_among, unmet_by, unmet_mark_of, own_lack, first_by_walk, earlier_by, earlier}
@@ -31,7 +31,7 @@ pub use Rattle.fr_model.specs.FailingLaws.{IsHalfDone, LackingFails, NothingFail
 pub use Rattle.fr_model.specs.Finish.{finished, closed, one_more_tree, closed_all, closed_but, begun_with, failures_but, failures_off, finished_here, is_closed_slice, kind_of}
 pub use Rattle.fr_model.specs.DueNotes.{IsOffTheWay, IsAbove, IsLeft, IsHole, IsCursor, IsDue, StuckOrNoted, NotesWhatIsDue, AreDisjoint, LieApart, NotesLieApart}
 pub use Rattle.fr_model.specs.Gathering.{left_out, is_there, and_last_val, items_in, items_left_out, with_entry_in, entry_leaves_out, entries_in, entries_left_out, with_item_in}
-pub use Rattle.fr_model.specs.Items.{init_array_refusal, item_refusal, is_open_slice, closed_slice, shared_slice_refusal, unless_list, whole_array_refusal, begun_item_refusal, with_item, shared_slice_by}
+pub use Rattle.fr_model.specs.Items.{init_array_refusal, item_refusal, is_open_slice, closed_slice, shared_slice_refusal, whole_array_refusal, begun_item_refusal, with_item, shared_slice_by}
 pub use Rattle.fr_model.specs.Journal.{Note, entered_at, wrote_at, Journal, Held, in_parts, written, just_entered, untouched, held, longest, entered_struct, by_entered, entered_value, by_held, by_parts, child_makes, completes_within, completes, journal_run, beside, standing, after_write, at_least_entered, after_entry, is_written, may_enter_children, Standing, covers, beneath, both_notes, each_notes, writing, closing_by, closing, closing_beside, closing_parts, closing_here_by, closing_here, finish_notes, place_of, Progress, initial_progress, rule, then_rules, rules, outcome_in, outcome, may_enter, goes_to_child, goes_to_found, writes, ends, goes_up, end_rule, begin_deferred_rule, finishes_with, finish_rule}
 pub use Rattle.fr_model.specs.PathLaws.{EnteringAddsItsStep, HasBegun, HasBegunAs, IsAdmittedOn, IsKeptAs, KeptIsAdmitted, step_on, LeadAbove}
 pub use Rattle.fr_model.specs.Places.{Column, strict_column, deferred_column, is_root, Place, count_children, child_count, one_more, product_of, each_child, child_shape, fill_of_field, fill_at, content_shape, part, part_at, array_limit, count_entries, is_key, in_turn, up, shape_at, vals_nth, shape_of_field, shape_of_child, shape_or_zero, pointee_shape, item_shape, fill_by, fill_in}

@@ -1,7 +1,7 @@
 -- What completes, what fits of it, and what it holds.
 use Rattle.std.proofs.Common.{◌≡◌, ◌+◌}
 use Rattle.fr_model.proofs.Common.{ℕ, zero, suc, true, is_none, is_some, Option, Some, None, refl, ◌∙◌, ap, arith, option_or, ReflectErrorKind, Def, IsChecked, preset_of, fits, count_vals, Meanings, Table, def_of, Val, Vals, none, no_vals, first, occurs, vals_occur, Column, strict_column, child_count, one_more, each_child, fill_at, Tracker, as_fields, Tree, hole, entered, whole, begun, Trees, no_trees, branch, child_as, count_trees, tree_occurs, trees_occur, left_out_of, dropped_by_completing, dropped_among, left_out, complete, complete_all, unless_there, failing_child, unless_failing, valid_child, hole_takes, missing_child, made, made_of_fills, made_by, lack_of_hole, lack_of_holes, lack_by, lack, lack_among, IsFullAs, Suits}
-use Rattle.fr_model.proofs.Structs.{OneMore, one_more_is, ChildrenFit, made_is, SuitFrom, begun_full, IsSoundAs, sound_as, value_fits, value_holds, settled_as}
+use Rattle.fr_model.proofs.Structs.{OneMore, one_more_is, ChildrenFit, made_is, SuitFrom, IsSoundAs, sound_as, value_fits, value_holds, settled_as}
 use Rattle.fr_model.proofs.Templates.{IsTemplate, template_holds, preset_template, fill_in_template, fill_template}
 
 -- either a value or a lack
@@ -96,10 +96,8 @@ mutual
       → is_none (complete_all strict_column hooks table s tracker i ts) ≡ is_some (lack_among hooks table s tracker i ts)
   all_complete_or_lack hooks table s tracker i no_trees = refl
   all_complete_or_lack hooks table s tracker i (branch hole ts) =
-      not_all (valid_child hooks table s tracker i (hole_takes strict_column table s tracker i))
-      (complete_all strict_column hooks table s tracker (suc i) ts) (lack_of_hole hooks table s tracker i)
-      (lack_among hooks table s tracker (suc i) ts) (hole_or_lacks hooks table s tracker i)
-      (all_complete_or_lack hooks table s tracker (suc i) ts)
+      not_all _ (complete_all strict_column hooks table s tracker (suc i) ts) _ (lack_among hooks table s tracker (suc i) ts)
+      (hole_or_lacks hooks table s tracker i) (all_complete_or_lack hooks table s tracker (suc i) ts)
   all_complete_or_lack hooks table s tracker i (branch t ts) =
       child_or_lacks hooks table s tracker i _ _ (lack hooks table (child_as table s tracker i) t)
       (lack_among hooks table s tracker (suc i) ts) (completes_or_lacks hooks table (child_as table s tracker i) t)
@@ -157,8 +155,7 @@ child_and_more hooks table s tracker i count by_child by_rest of_child of_rest m
     more = others parts.tail parts.tail_is
 
 hole_child : (column : Column) (table : Table) (s : ℕ) (tracker : Tracker) (i : ℕ) → IsChecked table → (v : Val)
-    → hole_takes column table s tracker i ≡ Some v
-    → (fits table (child_as table s tracker i) v ≡ true) × ((t : ℕ) → occurs v t + 0 ≡ 0)
+    → hole_takes column table s tracker i ≡ Some v → (fits table (child_as table s tracker i) v ≡ true) × ((t : ℕ) → occurs v t + 0 ≡ 0)
 hole_child column table s tracker i checked v e =
     let template = taken_template column table s tracker i v checked e in
     (template.fit, λ t. omega (arith, template_holds table _ v t template))
@@ -176,10 +173,6 @@ fills_fit column hooks table s (suc count) i vs checked e =
 pub record Made (table : Table) (s : ℕ) (dropped held : ℕ → ℕ) (v : Val) : Type 0 where
   pub fit : fits table s v ≡ true
   pub hold : (t : ℕ) → occurs v t + dropped t ≡ held t
-
-made_pair : (table : Table) (s : ℕ) (dropped held : ℕ → ℕ) (v : Val) → Made table s dropped held v
-    → (fits table s v ≡ true) × ((t : ℕ) → occurs v t + dropped t ≡ held t)
-made_pair table s dropped held v made = (made.fit, made.hold)
 
 made_of_template : (table : Table) (s : ℕ) (v : Val) → IsTemplate table s v → Made table s (λ t. 0) (λ t. 0) v
 made_of_template table s v template = record { fit = template.fit; hold = λ t. omega (arith, template_holds table s v t template) }
@@ -231,7 +224,7 @@ mutual
   completing_makes column hooks table (begun tracker trees) s v checked suits e =
       made_of_children table s tracker (count_trees trees) (λ t. dropped_among column hooks table s tracker 0 trees t)
       (λ t. dropped_by_completing column hooks table s (begun tracker trees) t) (λ t. trees_occur trees t)
-      (complete_all column hooks table s tracker 0 trees) v (begun_full (def_of table s) tracker (count_trees trees) suits.0)
+      (complete_all column hooks table s tracker 0 trees) v suits.0.0
       (sound_as table s tracker trees suits.2)
       (λ vs is t. ap (λ (values : Option Vals). dropped_among column hooks table s tracker 0 trees t + left_out_of tracker values t) is)
       (λ vs. all_completing_make column hooks table trees s tracker 0 vs checked suits.1) e
@@ -252,7 +245,6 @@ mutual
       (λ t. dropped_by_completing column hooks table (child_as table s tracker i) tree t)
       (λ t. dropped_among column hooks table s tracker (suc i) trees t) (λ t. tree_occurs tree t) (λ t. trees_occur trees t)
       (complete column hooks table (child_as table s tracker i) tree) (complete_all column hooks table s tracker (suc i) trees) vs
-      (λ v is. made_pair table (child_as table s tracker i)
-      (λ t. dropped_by_completing column hooks table (child_as table s tracker i) tree t) (λ t. tree_occurs tree t) v
-      (completing_makes column hooks table tree (child_as table s tracker i) v checked suits.0 is))
+      (λ v is. let child = completing_makes column hooks table tree (child_as table s tracker i) v checked suits.0 is in
+      (child.fit, child.hold))
       (λ ws. all_completing_make column hooks table trees s tracker (suc i) ws checked suits.1) e

@@ -41,8 +41,7 @@ parts_along mode table s (i ∷ here) (begun tracker ts) notes leads agrees = (
 )
 parts_along mode table s (i ∷ here) _ notes leads agrees = absurd leads
 
-pub same_shape : (table : Table) (s : ℕ) (here : Place) (t : Tree) → PartsAlong here t
-    → shape_at table s here ≡ shape_in table s here t
+pub same_shape : (table : Table) (s : ℕ) (here : Place) (t : Tree) → PartsAlong here t → shape_at table s here ≡ shape_in table s here t
 same_shape table s [] t along = refl
 same_shape table s (i ∷ here) (begun (as_fields None) ts) along = same_shape table _ here _ along.1
 same_shape table s (i ∷ here) (begun as_elements ts) along = same_shape table _ here _ along.1
@@ -121,11 +120,12 @@ leads_up mode (i ∷ j ∷ here) (begun tracker ts) v leads =
     (λ child. change_at (j ∷ here) (λ old. whole v) child) ts (λ child. leads_up mode (j ∷ here) _ v child) leads
 leads_up mode (i ∷ j ∷ here) _ v leads = absurd leads
 
-off_same : (mode : Mode) (i : ℕ) (Below After : Tree → Type 0) (ts : Trees)
-    → (Below (tree_nth i ts) → After (tree_nth i ts)) → OffBut mode i Below ts → OffBut mode i After ts
-off_same mode i Below After no_trees step off = absurd off
-off_same mode zero Below After (branch t ts) step off = (step off.0, off.1)
-off_same mode (suc i) Below After (branch t ts) step off = (off.0, off_same mode i Below After ts step off.1)
+-- what lies off the way in either mode does so in deferred mode
+off_deferred : (mode : Mode) (start i : ℕ) (Below After : Tree → Type 0) (ts : Trees)
+    → (Below (tree_nth i ts) → After (tree_nth i ts)) → OffBut mode i Below ts → OffBut (deferred start) i After ts
+off_deferred mode start i Below After no_trees step off = absurd off
+off_deferred mode start zero Below After (branch t ts) step off = (step off.0, all_deferred start ts)
+off_deferred mode start (suc i) Below After (branch t ts) step off = (tt, off_deferred mode start i Below After ts step off.1)
 
 -- in deferred mode the cursor goes up from a place that is left as it is
 pub leads_left : (start : ℕ) (here : Place) (t : Tree) → Leads (deferred start) here t → Leads (deferred start) (up here) t
@@ -133,7 +133,7 @@ leads_left start [] t leads = leads
 leads_left start (i ∷ []) (begun tracker ts) leads = all_deferred start ts
 leads_left start (i ∷ []) _ leads = absurd leads
 leads_left start (i ∷ j ∷ here) (begun tracker ts) leads =
-    off_same (deferred start) i (λ child. Leads (deferred start) (j ∷ here) child)
+    off_deferred (deferred start) start i (λ child. Leads (deferred start) (j ∷ here) child)
     (λ child. Leads (deferred start) _ child) ts (λ child. leads_left start (j ∷ here) _ child) leads
 leads_left start (i ∷ j ∷ here) _ leads = absurd leads
 
@@ -144,16 +144,10 @@ strict_all start hole at = absurd at
 strict_all start (begun tracker ts) at = all_deferred start ts
 strict_all start _ at = tt
 
-off_deferred : (start i : ℕ) (Below After : Tree → Type 0) (ts : Trees)
-    → (Below (tree_nth i ts) → After (tree_nth i ts)) → OffBut strict i Below ts → OffBut (deferred start) i After ts
-off_deferred start i Below After no_trees step off = absurd off
-off_deferred start zero Below After (branch t ts) step off = (step off.0, all_deferred start ts)
-off_deferred start (suc i) Below After (branch t ts) step off = (tt, off_deferred start i Below After ts step off.1)
-
 pub leads_deferred : (start : ℕ) (here : Place) (t : Tree) → Leads strict here t → Leads (deferred start) here t
 leads_deferred start [] t leads = strict_all start t leads
 leads_deferred start (i ∷ here) (begun tracker ts) leads =
-    off_deferred start i (λ child. Leads strict here child) (λ child. Leads (deferred start) here child) ts
+    off_deferred strict start i (λ child. Leads strict here child) (λ child. Leads (deferred start) here child) ts
     (λ child. leads_deferred start here _ child) leads
 leads_deferred start (i ∷ here) _ leads = absurd leads
 
@@ -167,6 +161,10 @@ pub up_long : (here : Place) → length here ≤ suc (length (up here))
 up_long [] = omega arith
 up_long (i ∷ []) = omega arith
 up_long (i ∷ j ∷ here) = let below = up_long (j ∷ here) in omega arith
+
+pub began_up : (mode : Mode) (start : ℕ) (here : Place) → mode ≡ deferred start → start < length here → BeganAbove mode (up here)
+began_up strict start here is deeper = tt
+began_up (deferred from) start here is deeper = let same : from ≡ start = cc in omega (arith, deeper, up_long here)
 
 pub began_strict : (mode : Mode) (here : Place) → mode ≡ strict → BeganAbove mode here
 began_strict strict here is = tt
@@ -201,8 +199,7 @@ changed_in_order table root state change suits at order = record {
 -- and the cursor goes to its child i
 pub moved_in_order : (table : Table) (root : ℕ) (state : State) (i : ℕ) (change : Tree → Tree)
     → Suits table (cursor_shape table root state) (change (cursor_tree state))
-    → Leads state.mode (i ∷ []) (change (cursor_tree state)) → IsInOrder table root state
-    → IsInOrder table root (record state {
+    → Leads state.mode (i ∷ []) (change (cursor_tree state)) → IsInOrder table root state → IsInOrder table root (record state {
       tree = change_at state.cursor change state.tree;
       cursor = state.cursor ++ i ∷ [];
       calls = one_more_call state.calls;
@@ -250,19 +247,12 @@ completed_in_order column hooks table root state v checked began e order =
 -- a place is left as it is
 pub left_in_order : (table : Table) (root start : ℕ) (state : State) → state.mode ≡ deferred start
     → start < length state.cursor → IsInOrder table root state → IsInOrder table root (leaves state)
-left_in_order table root start state is deeper order = record {
-  suits = order.suits;
-  leads = of_mode state.mode is order.leads;
-  began = began_up state.mode is;
-}
+left_in_order table root start state is deeper order =
+    record { suits = order.suits; leads = of_mode state.mode is order.leads; began = began_up state.mode start state.cursor is deeper }
   where
     of_mode : (mode : Mode) → mode ≡ deferred start → Leads mode state.cursor state.tree → Leads mode (up state.cursor) state.tree
     of_mode strict is leads = cc
     of_mode (deferred from) is leads = leads_left from state.cursor state.tree leads
-
-    began_up : (mode : Mode) → mode ≡ deferred start → BeganAbove mode (up state.cursor)
-    began_up strict is = tt
-    began_up (deferred from) is = let same : from ≡ start = cc in omega (arith, deeper, up_long state.cursor)
 
 -- deferred mode begins at the cursor
 abbrev pub defers : State → State

@@ -1,6 +1,6 @@
 -- Worked scripts over tables with presets and defaults, by the machine and by the journal.
 use Rattle.std.proofs.Common.{rules, ◌≡◌, ◌∷◌}
-use Rattle.fr_model.proofs.Common.{plain_shape, plain_field, ℕ, List, [], None, Some, Ok, codes, Def, Field, DefaultSource, ReflectErrorKind, Operation, no_hooks, Table, IsServed, Val, nat, none, list_of, product, no_vals, first, Call, journal_run, full_run}
+use Rattle.fr_model.proofs.Common.{plain_shape, plain_field, List, [], None, Some, Ok, codes, Def, Field, DefaultSource, ReflectErrorKind, Operation, no_hooks, Table, IsServed, Val, nat, none, list_of, product, no_vals, first, Call, journal_run, full_run}
 use Rattle.fr_model.specs.Basis.{BeginField}
 use Rattle.fr_model.specs.ContentExamples.{id, refused, struct_of, u32, with_preset}
 use Rattle.fr_model.proofs.Rows.{Makes, pair_of, set, begin, end, field_at, lacks_field, lacks_value, failed}

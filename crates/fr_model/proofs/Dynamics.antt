@@ -1,9 +1,80 @@
--- Dynamic values as places: what is kept of one that is begun, and an object with one more entry.
-use Rattle.std.proofs.Common.{◌≡◌, ◌<◌, if◌then◌else◌, ◌∷◌, ◌++◌}
-use Rattle.fr_model.proofs.Common.{ℕ, zero, suc, Bool, true, false, List, [], length, length-append, Option, Some, None, refl, sym, ◌∙◌, ap, subst, arith, option_map, Def, Operation, fits, all_keys_once, members_keys_once, Table, def_of, is_dynamic, vals_occur, Val, dyn, Dynamics, Members, dyn_array, dyn_object, no_dynamics, first_dynamic, no_members, member, is_begun_object, array_of, object_of, array_anew, object_anew, begun_array, begun_object, kept_array, kept_object, entry_refusal, entry_found, entry_number, number_or_last, and_entry, with_entry, element_vals, member_vals, member_keys, elements_in, members_of_object, dynamic_in, Tracker, as_items, ItemsKind, as_entries, EntriesKind, Tree, hole, whole, begun, Trees, no_trees, branch, and_last, count_trees, wholes, fresh, tree_occurs, trees_occur, Mode, strict, deferred, TakesItemsAs, HasEntries, IsTouched, AreTouched, AreDone, Suits, RestsAround, IsOff, AllOff, AtCursor, OffBut}
+-- Dynamic values: what is made of a value of another shape, and as places, what is kept of one that is begun, and an object with one more
+-- entry.
+use Rattle.std.proofs.Common.{◌≡◌, if◌then◌else◌, ◌<◌, ◌∷◌, ◌++◌}
+use Rattle.fr_model.proofs.Common.{encode_utf8, ℕ, Bool, true, false, List, Option, Some, None, Ok, Err, refl, arith, option_map, Operation, Def, ScalarKind, keys_once, Table, occurs, vals_occur, Val, Vals, bool, char, int, nat, text, list_of, no_vals, first, Dynamic, dyn_bool, dyn_int, dyn_nat, dyn_text, dyn_bytes, or_not_dynamic, from_bool, from_char, from_int, from_nat, from_text, byte_before, bytes_of, from_bytes, from_scalar, converted, zero, suc, [], length, length-append, sym, ap, subst, fits, all_keys_once, members_keys_once, def_of, is_dynamic, dyn, Dynamics, Members, dyn_array, dyn_object, no_dynamics, first_dynamic, no_members, member, is_begun_object, array_of, object_of, array_anew, object_anew, kept_array, kept_object, entry_refusal, entry_found, entry_number, number_or_last, and_entry, with_entry, element_vals, member_vals, member_keys, elements_in, members_of_object, dynamic_in, as_items, ItemsKind, as_entries, EntriesKind, Tree, hole, whole, begun, Trees, no_trees, branch, and_last, count_trees, wholes, fresh, tree_occurs, trees_occur, Mode, strict, deferred, TakesItemsAs, HasEntries, IsTouched, AreTouched, AreDone, Suits, RestsAround, IsOff, AllOff, AtCursor, OffBut}
 use Rattle.fr_model.proofs.Becoming.{stays_kept, Placed, Becoming, IsKept, becoming}
-use Rattle.fr_model.proofs.Items.{last_suits, last_touched, last_leads, last_holds, wholes_touched}
-use Rattle.fr_model.proofs.Basis.{apart_last, found_at, member_keys_apart, enter_touched, fresh_suits, fresh_at_cursor, wholes_off, all_deferred, rests_here, wholes_rest, fresh_rests, rest_but, last_rests, count_last, SuitFrom, settled_as, both_true, fresh_holds, opened_holds, done_but, done_none, without_last}
+use Rattle.fr_model.proofs.Items.{last_suits, last_touched, last_leads, last_holds}
+use Rattle.fr_model.proofs.Basis.{apart_last, found_at, member_keys_apart, enter_touched, fresh_suits, fresh_at_cursor, wholes_off, all_deferred, rests_here, wholes_rest, fresh_rests, rest_but, last_rests, count_last, SuitFrom, settled_as, both_true, fresh_holds, opened_holds, done_but, done_none, without_last, wholes_touched, suit_alike}
+
+-- no object in the dynamic value has a key twice, and the value of which it was made holds no token
+pub record IsTaken (v : Val) (d : Dynamic) : Type 0 where
+  pub once : keys_once d ≡ true
+  pub holds : (t : ℕ) → occurs v t ≡ 0
+
+of_bool : (v : Val) (d : Dynamic) → or_not_dynamic (from_bool v) ≡ Ok d → IsTaken v d
+of_bool (bool b) d e = let same : dyn_bool b ≡ d = cc in rw (← same) (record { once = refl; holds = λ t. refl })
+of_bool _ d e = cc
+
+of_char : (v : Val) (d : Dynamic) → or_not_dynamic (from_char v) ≡ Ok d → IsTaken v d
+of_char (char c) d e = let same : dyn_text (encode_utf8 c) ≡ d = cc in rw (← same) (record { once = refl; holds = λ t. refl })
+of_char _ d e = cc
+
+of_int : (v : Val) (d : Dynamic) → or_not_dynamic (from_int v) ≡ Ok d → IsTaken v d
+of_int (int i) d e = let same : dyn_int i ≡ d = cc in rw (← same) (record { once = refl; holds = λ t. refl })
+of_int _ d e = cc
+
+of_nat : (v : Val) (d : Dynamic) → or_not_dynamic (from_nat v) ≡ Ok d → IsTaken v d
+of_nat (nat n) d e = let same : dyn_nat n ≡ d = cc in rw (← same) (record { once = refl; holds = λ t. refl })
+of_nat _ d e = cc
+
+of_text : (v : Val) (d : Dynamic) → or_not_dynamic (from_text v) ≡ Ok d → IsTaken v d
+of_text (text codes) d e = let same : dyn_text codes ≡ d = cc in rw (← same) (record { once = refl; holds = λ t. refl })
+of_text _ d e = cc
+
+bytes_hold : (vs : Vals) (bytes : List ℕ) (t : ℕ) → bytes_of vs ≡ Some bytes → vals_occur vs t ≡ 0
+bytes_hold no_vals bytes t e = refl
+bytes_hold (first (nat n) vs) bytes t e = go _ e (λ rest is. bytes_hold vs rest t is)
+  where
+    go : (found : Option (List ℕ)) → byte_before (nat n) found ≡ Some bytes
+        → ((rest : List ℕ) → found ≡ Some rest → vals_occur vs t ≡ 0) → vals_occur (first (nat n) vs) t ≡ 0
+    go (Some rest) e others = let none = others rest refl in omega arith
+    go None e others = cc
+bytes_hold (first _ vs) bytes t e = cc
+
+of_list : (v : Val) (d : Dynamic) → or_not_dynamic (from_bytes v) ≡ Ok d → IsTaken v d
+of_list (list_of vs) d e = go _ refl e
+  where
+    go : (found : Option (List ℕ)) → bytes_of vs ≡ found → or_not_dynamic (option_map dyn_bytes found) ≡ Ok d → IsTaken (list_of vs) d
+    go (Some bytes) is e =
+        let same : dyn_bytes bytes ≡ d = cc in rw (← same) (record { once = refl; holds = λ t. bytes_hold vs bytes t is })
+    go None is e = cc
+of_list _ d e = cc
+
+of_scalar : (kind : ScalarKind) (v : Val) (d : Dynamic) → from_scalar kind v ≡ Ok d → IsTaken v d
+of_scalar ScalarKind.Bool v d e = of_bool v d e
+of_scalar ScalarKind.Char v d e = of_char v d e
+of_scalar ScalarKind.U8 v d e = of_nat v d e
+of_scalar ScalarKind.U16 v d e = of_nat v d e
+of_scalar ScalarKind.U32 v d e = of_nat v d e
+of_scalar ScalarKind.U64 v d e = of_nat v d e
+of_scalar ScalarKind.USize v d e = of_nat v d e
+of_scalar ScalarKind.String v d e = of_text v d e
+of_scalar ScalarKind.I128 v d e = cc
+of_scalar ScalarKind.U128 v d e = cc
+of_scalar ScalarKind.CowStr v d e = cc
+of_scalar _ v d e = of_int v d e
+
+pub converted_is : (table : Table) (s : ℕ) (def : Def) (v : Val) (d : Dynamic) → converted table s def v ≡ Ok d → IsTaken v d
+converted_is table s (Def.Scalar kind) v d e = of_scalar kind v d e
+converted_is table s Def.Str v d e = of_text v d e
+converted_is table s (Def.List t) v d e = go _ _ e
+  where
+    go : (takes byte : Bool) → (if takes then (if byte then or_not_dynamic (from_bytes v) else Err Operation.NotDynamic)
+        else Err Operation.NotDynamic) ≡ Ok d → IsTaken v d
+    go true true e = of_list v d e
+    go true false e = cc
+    go false byte e = cc
+converted_is table s _ v d e = cc
 
 pub dynamic_def : (def : Def) → is_dynamic def ≡ true → def ≡ Def.Dynamic
 dynamic_def Def.Dynamic e = refl
@@ -71,8 +142,7 @@ members_counted no_members = refl
 members_counted (member key d ms) = ap suc (members_counted ms)
 
 whole_object_keeps : (mode : Mode) (table : Table) (s : ℕ) (v : Val) (kept : Tree) → def_of table s ≡ Def.Dynamic
-    → fits table s v ≡ true → option_map object_of (members_of_object (dynamic_in v)) ≡ Some kept
-    → IsKept mode table s [] (whole v) kept
+    → fits table s v ≡ true → option_map object_of (members_of_object (dynamic_in v)) ≡ Some kept → IsKept mode table s [] (whole v) kept
 whole_object_keeps mode table s (dyn (dyn_object ms)) kept is fit e =
     let same : object_of ms ≡ kept = cc in
     let once : members_keys_once ms ≡ true = rw (settled_as table s is refl) at fit in
@@ -124,12 +194,6 @@ takes_an_entry Def.Dynamic t e = go _ refl e
     go false is e = cc
 takes_an_entry _ t e = cc
 
--- whatever the keys, the shapes are the same
-keys_suit : (table : Table) (s : ℕ) (keys others : List (List ℕ)) (i : ℕ) (ts : Trees)
-    → SuitFrom table s (as_entries (EntriesKind.Object keys)) i ts → SuitFrom table s (as_entries (EntriesKind.Object others)) i ts
-keys_suit table s keys others i no_trees suit = tt
-keys_suit table s keys others i (branch t ts) suit = (suit.0, keys_suit table s keys others (suc i) ts suit.1)
-
 touched_off : (mode : Mode) (t : Tree) → IsOff mode t → IsTouched t → AtCursor mode t
 touched_off mode hole off touched = absurd touched
 touched_off strict (begun tracker ts) off touched = absurd off
@@ -164,7 +228,7 @@ entry_placed mode table s key keys ts there = go _ refl
         record {
           suits = (
             (has_keys _ _ _ had.0 (omega (arith, counted, long, had.1)), tt),
-            keys_suit table s keys (keys ++ key ∷ []) 0 _
+            suit_alike table s (as_entries (EntriesKind.Object keys)) (as_entries (EntriesKind.Object (keys ++ key ∷ []))) (λ i. refl) 0 _
                 (last_suits table s (as_entries (EntriesKind.Object keys)) (count_trees ts) 0 ts last (omega arith) there.suits.1 (fresh_suits table s)),
             (last_touched ts last there.suits.2.0 (enter_touched (def_of table s) hole), apart_last key keys none there.suits.2.1),
           );

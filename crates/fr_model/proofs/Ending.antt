@@ -1,15 +1,10 @@
 -- The cursor goes up: from a place that becomes whole with what it makes, and from an item that its set takes.
-use Rattle.std.proofs.Common.{◌≡◌, ◌+◌, ◌<◌, if◌then◌else◌, ◌∷◌}
-use Rattle.fr_model.proofs.Common.{ℕ, zero, suc, Bool, true, false, [], length, Some, refl, sym, ap, subst, arith, IsChecked, fits, Meanings, Table, occurs, Val, is_set, has_same, without_nth, and_item, with_ended_item, leaves_item_out, number_in, complete, dropped_by_completing, Place, Column, is_root, up, puts_and_leaves, is_set_item, takes_item, as_items, ItemsKind, Tree, whole, begun, Trees, no_trees, branch, tree_nth, tree_at, change_at, and_last, shape_in, child_as, count_trees, tree_occurs, trees_occur, Mode, strict, deferred, State, cursor_shape, cursor_tree, AreTouched, IsTouched, Suits, AllOff, OffBut, Leads, BeganAbove, IsInOrder}
-use Rattle.fr_model.proofs.Basis.{leads_child, Made, suits_at, suits_changed, off_change, leads_up, leads_left, leads_deferred, up_long, made_at, whole_off, SuitFrom, change_holds}
+use Rattle.std.proofs.Common.{◌≡◌, ◌+◌, if◌then◌else◌, ◌∷◌}
+use Rattle.fr_model.proofs.Common.{ℕ, zero, suc, Bool, true, false, [], Some, refl, sym, ap, subst, arith, IsChecked, fits, Meanings, Table, occurs, Val, is_set, has_same, without_nth, and_item, with_ended_item, leaves_item_out, number_in, complete, dropped_by_completing, Place, Column, is_root, up, is_set_item, takes_item, as_items, ItemsKind, Tree, whole, begun, Trees, no_trees, branch, tree_nth, tree_at, change_at, and_last, shape_in, child_as, count_trees, tree_occurs, trees_occur, Mode, strict, deferred, State, cursor_shape, cursor_tree, AreTouched, IsTouched, Suits, AllOff, OffBut, Leads, BeganAbove, IsInOrder}
+use Rattle.fr_model.proofs.Basis.{leads_child, Made, suits_at, suits_changed, off_change, leads_left, leads_deferred, made_at, whole_off, SuitFrom, change_holds}
 use Rattle.fr_model.proofs.Collections.{all_last}
 use Rattle.fr_model.proofs.Items.{last_suits, last_touched, last_holds}
-use Rattle.fr_model.proofs.Resting.{either_way}
-
--- deferred mode began above a place that is left
-pub began_up : (mode : Mode) (start : ℕ) (here : Place) → mode ≡ deferred start → start < length here → BeganAbove mode (up here)
-began_up strict start here is deeper = tt
-began_up (deferred from) start here is deeper = let same : from ≡ start = cc in omega (arith, deeper, up_long here)
+use Rattle.fr_model.proofs.Wholes.{either_way}
 
 -- Above the cursor, where whatever stands there may be half done
 

@@ -177,12 +177,8 @@ mutual
       (first_missing table s tracker i ts) (first_invalid hooks table s tracker i ts)
   all_complete_or_fail hooks table s tracker i path no_trees = refl
   all_complete_or_fail hooks table s tracker i path (branch hole ts) =
-      child_and_rest (valid_child hooks table s tracker i (hole_takes deferred_column table s tracker i))
-      (complete_all deferred_column hooks table s tracker (suc i) ts) false (unmet_mark table s tracker i)
-      (unless_there (hole_takes deferred_column table s tracker i) (missing_child s tracker i))
-      (failing_child hooks table s tracker i (hole_takes deferred_column table s tracker i))
-      (not (is_nil (failures_among hooks table s tracker (suc i) path ts))) (first_unmet table s tracker (suc i) ts)
-      (first_missing table s tracker (suc i) ts) (first_invalid hooks table s tracker (suc i) ts)
+      child_and_rest _ (complete_all deferred_column hooks table s tracker (suc i) ts) false (unmet_mark table s tracker i) _ _ _
+      (first_unmet table s tracker (suc i) ts) (first_missing table s tracker (suc i) ts) (first_invalid hooks table s tracker (suc i) ts)
       (hole_lacks hooks table s tracker i) (all_complete_or_fail hooks table s tracker (suc i) path ts)
   all_complete_or_fail hooks table s tracker i path (branch t ts) =
       failing_rest hooks table s tracker i (complete deferred_column hooks table (child_as table s tracker i) t) ts path

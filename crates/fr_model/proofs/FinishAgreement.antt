@@ -196,12 +196,7 @@ module _ (hooks : Meanings) (table : Table) (checked : IsChecked table) (notes :
   closed_ends s here seen hole same plain suits agrees =
       both_end hole [] refl (ap (λ (h : Held). closing_by h (writing here (completes deferred_column table notes s here)))
       (held_along notes here ∙ agrees)) (ap (λ (some : Journal). held some []) same ∙ agrees)
-  closed_ends s here seen entered same plain suits agrees =
-      left_ends s here seen entered tt (value_at s here entered plain suits agrees) agrees
-  closed_ends s here seen (whole v) same plain suits agrees =
-      left_ends s here seen (whole v) tt (value_at s here (whole v) plain suits agrees) agrees
-  closed_ends s here seen (begun tracker ts) same plain suits agrees =
-      left_ends s here seen (begun tracker ts) tt (value_at s here (begun tracker ts) plain suits agrees) agrees
+  closed_ends s here seen t same plain suits agrees = left_ends s here seen t tt (value_at s here t plain suits agrees) agrees
 
   -- the children of a place that is begun, all but the one on the way
   module _ (s : ℕ) (tracker : Tracker) (has : HasParts tracker) (above : Place) (plain : AllPlain table s) (on_way : ℕ) (base : Journal)
@@ -291,9 +286,7 @@ module _ (hooks : Meanings) (table : Table) (checked : IsChecked table) (notes :
     part_same k hole there suits agrees =
         hole_makes (held notes (above ++ k ∷ [])) _ _ (held_part k ∙ agrees) ∙ takes k
         ∙ sym (valid_same hooks table s tracker k _ has plain)
-    part_same k entered there suits agrees = touched_part k entered tt there suits agrees
-    part_same k (whole v) there suits agrees = touched_part k (whole v) tt there suits agrees
-    part_same k (begun made ts) there suits agrees = touched_part k (begun made ts) tt there suits agrees
+    part_same k t there suits agrees = touched_part k t tt there suits agrees
 
     whole_parts : (value : Option Val) (values : Option Vals)
         → one_more_tree (option_map whole value) (option_map wholes values) ≡ option_map wholes (one_more value values)
@@ -443,7 +436,6 @@ finish_agrees hooks table root state notes checked plain order agrees =
     go (finished hooks table root state.cursor state.tree) (finish_notes table notes root [] state.cursor)
     (ends_from hooks table checked notes state.mode state.cursor state.tree root [] plain order.leads order.suits agrees)
   where
-    go : (tree : Option Tree) (found : Option Journal) → BothEnd table root [] notes tree found
-        → BothFinish table root notes tree found
+    go : (tree : Option Tree) (found : Option Journal) → BothEnd table root [] notes tree found → BothFinish table root notes tree found
     go tree found (both_end after added is noted agree) = rw (is, noted, all_under_root added) agree
     go tree found (neither none none_found) = rw (none, none_found) tt

@@ -1,7 +1,9 @@
 -- What the end of deferred mode notes is what is due, and it can't end exactly where something due isn't there.
 use Rattle.std.proofs.Common.{◌≡◌, ◌≢◌, ◌⊎◌, ◌+◌, ◌<◌, ◌≤◌, ◌==◌, if◌then◌else◌, ◌∷◌, ◌++◌, ◌↔◌}
-use Rattle.fr_model.proofs.Common.{inl, inr, ⊎_elim, ℕ, zero, suc, Bool, true, false, eqb-true, eq-eqb, [], append_assoc, append-nil, get_or, Option, Some, None, refl, sym, ◌∙◌, ap, subst, arith, Contains, Contains-append_left, Contains-append_right, Contains-append_cases, Table, Val, IsAbove, IsLeft, IsHole, IsCursor, IsDue, StuckOrNoted, NotesWhatIsDue, Note, wrote_at, Journal, Held, in_parts, written, just_entered, untouched, held, child_makes, completes, both_notes, each_notes, writing, closing_by, closing, closing_here_by, closing_here, finish_notes, Place, deferred_column, child_count, child_shape, shape_at, fill_at}
+use Rattle.fr_model.proofs.Common.{inl, inr, ⊎_elim, ℕ, zero, suc, Bool, true, false, eqb-true, eq-eqb, [], append_assoc, append-nil, Option, Some, None, refl, sym, ◌∙◌, ap, subst, arith, Contains, Contains-append_left, Contains-append_right, Contains-append_cases, Table, Val, IsAbove, IsLeft, IsHole, IsCursor, IsDue, StuckOrNoted, NotesWhatIsDue, Note, wrote_at, Journal, Held, in_parts, written, just_entered, untouched, held, child_makes, completes, both_notes, each_notes, writing, closing_by, closing, closing_here_by, closing_here, finish_notes, Place, deferred_column, child_count, child_shape, shape_at, fill_at}
 use Rattle.fr_model.specs.DueNotes.{IsStuck}
+use Rattle.fr_model.proofs.Agreement.{hole_makes}
+use Rattle.fr_model.proofs.Templates.{only_one}
 
 -- a note writes the value that is due at its place
 pub record IsNoteOf (Due : Place → Option Val → Type 0) (note : Note) : Type 0 where
@@ -53,14 +55,10 @@ unfolding Means
 means_writing there None = (there, (refl, refl))
 means_writing there (Some v) = record {
   never = λ here due. let same = due.1 in cc;
-  noted = λ note among. record { here = there; value = v; writes = only_at among.0 note among.1 among.2; due = (refl, refl) };
+  noted = λ note among. record { here = there; value = v; writes = only_one _ note among; due = (refl, refl) };
   is_noted = λ here value due. it_is here value due.0 due.1;
 }
   where
-    only_at : (k : ℕ) (note : Note) → k < 1 → get_or (wrote_at there v ∷ []) k note ≡ note → note ≡ wrote_at there v
-    only_at zero note below is = sym is
-    only_at (suc k) note below is = absurd (omega arith)
-
     it_is : (here : Place) (value : Val) → here ≡ there → Some value ≡ Some v → Contains (wrote_at there v ∷ []) (wrote_at here value)
     it_is here value at same = let is : value ≡ v = cc in (zero, omega arith, cc)
 
@@ -214,12 +212,6 @@ never_back : (above : Place) (j : ℕ) (way : Place) → above ≡ above ++ j �
 never_back [] j way e = cc
 never_back (k ∷ above) j way e = let on : above ≡ above ++ j ∷ way = cc in never_back above j way on
 
-from_zero : (k count : ℕ) → k < count → k < 0 + count
-from_zero k count below = omega arith
-
-pub hole_makes : (h : Held) (fill own : Option Val) → h ≡ untouched → child_makes h fill own ≡ fill
-hole_makes h fill own e = rw e refl
-
 pub touched_makes : (h : Held) (fill own : Option Val) → h ≢ untouched → child_makes h fill own ≡ own
 touched_makes untouched fill own touched = absurd (touched refl)
 touched_makes _ fill own touched = refl
@@ -369,7 +361,7 @@ module _ (table : Table) (root : ℕ) (notes : Journal) (cursor : Place) where
             (
               left.i,
               omega arith,
-              from_zero left.i _ (subst (λ (place : Place). left.i < child_count table (shape_at table root place)) same left.there),
+              omega (arith, subst (λ (place : Place). left.i < child_count table (shape_at table root place)) same left.there),
               subst (λ (place : Place). PartOf table notes (shape_at table root place) place left.i here value) same
                   (left.child, makes ∙ sym (touched_makes _ _ _ touched)),
             ),
@@ -387,7 +379,7 @@ module _ (table : Table) (root : ℕ) (notes : Journal) (cursor : Place) where
             (
               some.i,
               omega arith,
-              from_zero some.i _ some.there,
+              omega (arith, some.there),
               (
                 some.child,
                 some.takes ∙ sym (hole_makes _ _ _ (ap (λ (place : Place). held notes place) (sym some.child) ∙ some.hole)),

@@ -3,7 +3,7 @@
 use Rattle.std.proofs.Common.{◌≡◌, ◌+◌, ◌≤◌, ◌∷◌}
 use Rattle.fr_model.proofs.Common.{subst, ℕ, zero, suc, [], Option, Some, refl, sym, ◌∙◌, ap, ap₂, arith, count_vals, Meanings, Table, none_twice, Vals, no_vals, first, without_nth, complete, complete_all, closed, closed_all, closed_but, begun_with, finished, Place, Column, deferred_column, Tracker, as_items, ItemsKind, as_entries, EntriesKind, Tree, hole, entered, whole, begun, Trees, no_trees, branch, wholes, in_front, IsBase, AreDone, Rests, AllRest, RestBut, IsBehindBase, RestsAround}
 use Rattle.fr_model.proofs.Finishes.{begun_with_is, mapped_is, one_more_tree_is}
-use Rattle.fr_model.proofs.MapBase.{StartsWith, starts_on, base_long, base_there, base_without, base_with}
+use Rattle.fr_model.proofs.Wholes.{StartsWith, starts_on, base_long, base_there, base_without, base_with}
 use Rattle.fr_model.proofs.Basis.{wholes_rest, one_more_is}
 use Rattle.fr_model.proofs.Templates.{some_is}
 

@@ -2,7 +2,7 @@
 -- stays, and it makes none exactly where there is something to refuse.
 use Rattle.std.proofs.Common.{◌≡◌, ◌+◌, ◌||◌, if◌then◌else◌, ◌∷◌, ◌++◌}
 use Rattle.fr_model.proofs.Common.{ℕ, zero, suc, Bool, true, false, not, is_none, is_some, List, [], Option, Some, None, refl, sym, ◌∙◌, ap, ap₂, subst, arith, option_map, option_or, IsChecked, count_vals, Meanings, is_nil, Table, def_of, Vals, no_vals, first, PathStep, Place, deferred_column, step_as, steps_in, Tracker, as_items, ItemsKind, Tree, hole, entered, whole, begun, Trees, no_trees, branch, tree_nth, tree_at, child_as, shape_in, wholes, count_trees, tree_occurs, trees_occur, Mode, strict, complete, complete_all, value_as, dropped_by_completing, dropped_among, dropped_but, dropped_by_finishing, own_lack, Failure, failures, failures_among, first_by_walk, closed, one_more_tree, closed_all, closed_but, is_closed_slice, begun_with, finished_here, finished, failures_but, failures_off, kind_of, left_out, IsFullAs, IsBegunAs, IsTouched, IsContent, AreTouched, AreEntries, IsBegunRightly, Suits, IsOff, AllOff, AtCursor, OffBut, Leads}
-use Rattle.fr_model.proofs.Basis.{completing_makes, Children, all_completing_make, right_kept, ChildrenFit, SuitFrom, sound_as, value_fits, value_holds, wholes_hold}
+use Rattle.fr_model.proofs.Basis.{completing_makes, Children, all_completing_make, right_kept, ChildrenFit, SuitFrom, sound_as, value_fits, value_holds, wholes_hold, wholes_off, wholes_touched}
 use Rattle.fr_model.proofs.Failing.{none_mapped, joined_there, some_or, completes_or_fails, all_complete_or_fail, entered_lacks}
 use Rattle.fr_model.proofs.Templates.{some_is}
 
@@ -67,20 +67,13 @@ pub record AllKept (table : Table) (s : ℕ) (tracker : Tracker) (i : ℕ) (drop
 
 none_kept : (table : Table) (s : ℕ) (tracker : Tracker) (i : ℕ) (us : Trees)
     → ◌≡◌ {A = Option Trees} (Some no_trees) (Some us) → AllKept table s tracker i (λ t. 0) no_trees us
-none_kept table s tracker i no_trees e = record {
-  suit = tt;
-  content = λ has. has;
-  touched = λ has. has;
-  there = tt;
-  counted = refl;
-  hold = λ t. refl;
-}
+none_kept table s tracker i no_trees e =
+    record { suit = tt; content = λ has. has; touched = λ has. has; there = tt; counted = refl; hold = λ t. refl }
 none_kept table s tracker i (branch u us) e = cc
 
 -- a child and the ones after it
 more_kept : (table : Table) (s : ℕ) (tracker : Tracker) (i : ℕ) (by_child by_rest : ℕ → ℕ) (tree : Tree) (ts : Trees)
-    (o : Option Tree) (os : Option Trees) (us : Trees)
-    → ((u : Tree) → o ≡ Some u → Kept table (child_as table s tracker i) by_child tree u)
+    (o : Option Tree) (os : Option Trees) (us : Trees) → ((u : Tree) → o ≡ Some u → Kept table (child_as table s tracker i) by_child tree u)
     → ((rest : Trees) → os ≡ Some rest → AllKept table s tracker (suc i) by_rest ts rest) → one_more_tree o os ≡ Some us
     → AllKept table s tracker i (λ t. by_child t + by_rest t) (branch tree ts) us
 more_kept table s tracker i by_child by_rest tree ts o os us child others e =
@@ -155,10 +148,6 @@ content_wholes : (ts : Trees) (vs : Vals) → count_vals vs ≡ count_trees ts �
 content_wholes no_trees vs e has = absurd has
 content_wholes (branch t ts) no_vals e has = absurd (omega arith)
 content_wholes (branch t ts) (first v vs) e has = tt
-
-wholes_touched : (vs : Vals) → AreTouched (wholes vs)
-wholes_touched no_vals = tt
-wholes_touched (first v vs) = (tt, wholes_touched vs)
 
 entries_wholes : (ts : Trees) (vs : Vals) → count_vals vs ≡ count_trees ts → AreEntries ts → AreEntries (wholes vs)
 entries_wholes ts no_vals e has = tt
@@ -293,10 +282,6 @@ closed_but_off hooks table s tracker (suc on_way) becomes mode Below After i (br
       closed_but_off hooks table s tracker on_way becomes mode Below After (suc i) ts parts.tail leads off.1 parts.tail_is,
     )
 
-wholes_off : (vs : Vals) → AllOff strict (wholes vs)
-wholes_off no_vals = tt
-wholes_off (first v vs) = (tt, wholes_off vs)
-
 -- what holds of the value that a begun place makes, and of that place with whole children, holds of what it becomes
 pub begun_with_is : (Is : Tree → Type 0) (tracker : Tracker) (vs : Vals) → Is (whole (value_as tracker vs))
     → Is (begun tracker (wholes vs)) → Is (begun_with tracker vs)
@@ -312,7 +297,7 @@ here_leads hooks table s mode hole u at e = absurd at
 here_leads hooks table s mode entered u at e = let to = mapped_is whole _ u e in rw to.same tt
 here_leads hooks table s mode (whole v) u at e = let same : whole v ≡ u = cc in rw (← same) tt
 here_leads hooks table s mode (begun tracker ts) u at e =
-    let to = mapped_is _ _ u e in rw to.same (begun_with_is (AtCursor strict) tracker to.from tt (wholes_off to.from))
+    let to = mapped_is _ _ u e in rw to.same (begun_with_is (AtCursor strict) tracker to.from tt (wholes_off strict to.from))
 
 -- where the cursor leads to a place, in whichever mode, it leads to it in strict mode
 pub finish_leads : (hooks : Meanings) (table : Table) (s : ℕ) (mode : Mode) (cursor : Place) (tree next : Tree)
@@ -387,8 +372,7 @@ closed_all_or_fail hooks table s tracker i path (branch t ts) =
     none_more_tree (closed hooks table (child_as table s tracker i) t) (closed_all hooks table s tracker (suc i) ts)
     ∙ ap₂ (λ (a b : Bool). a || b) (completes_or_fails hooks table (child_as table s tracker i) (path ++ step_as tracker i ∷ []) t)
     (closed_all_or_fail hooks table s tracker (suc i) path ts)
-    ∙ sym (joined_there (failures hooks table (child_as table s tracker i) (path ++ step_as tracker i ∷ []) t)
-    (failures_among hooks table s tracker (suc i) path ts))
+    ∙ sym (joined_there _ (failures_among hooks table s tracker (suc i) path ts))
 
 -- The children of a place above the cursor: child i, as many further on as `on_way`, lies on the way.
 closed_but_or_refused : (hooks : Meanings) (table : Table) (s : ℕ) (tracker : Tracker) (on_way : ℕ)
@@ -407,11 +391,9 @@ closed_but_or_refused hooks table s tracker zero becomes below lacking mode Belo
     (none_more_tree (becomes (child_as table s tracker k) t) (closed_all hooks table s tracker (suc k) ts)
     ∙ ap₂ (λ (a b : Bool). a || b) (step (child_as table s tracker k) (path ++ step_as tracker k ∷ []) t off.0)
     (closed_all_or_fail hooks table s tracker (suc k) path ts)
-    ∙ or_aside (not (is_nil (below (child_as table s tracker k) (path ++ step_as tracker k ∷ []) t)))
-    (lacking (child_as table s tracker k) t) (not (is_nil (failures_among hooks table s tracker (suc k) path ts)))
+    ∙ or_aside _ (lacking (child_as table s tracker k) t) (not (is_nil (failures_among hooks table s tracker (suc k) path ts)))
     ∙ ap (λ (b : Bool). b || lacking (child_as table s tracker k) t)
-    (sym (joined_there (below (child_as table s tracker k) (path ++ step_as tracker k ∷ []) t)
-    (failures_among hooks table s tracker (suc k) path ts))))
+    (sym (joined_there _ (failures_among hooks table s tracker (suc k) path ts))))
   where
     here : k ≡ i
     here = omega arith
@@ -420,12 +402,10 @@ closed_but_or_refused hooks table s tracker (suc on_way) becomes below lacking m
     (closed_but hooks table s tracker on_way becomes (suc k) ts) ∙ ap₂ (λ (a b : Bool). a || b)
     (completes_or_fails hooks table (child_as table s tracker k) (path ++ step_as tracker k ∷ []) t)
     (closed_but_or_refused hooks table s tracker on_way becomes below lacking mode Below (suc k) path ts i (omega arith) step
-    off.1) ∙ or_within (not (is_nil (failures hooks table (child_as table s tracker k) (path ++ step_as tracker k ∷ []) t)))
-    (not (is_nil (failures_but hooks table s tracker on_way below (suc k) path ts)))
+    off.1) ∙ or_within _ (not (is_nil (failures_but hooks table s tracker on_way below (suc k) path ts)))
     (lacking (child_as table s tracker i) (tree_nth on_way ts))
     ∙ ap (λ (b : Bool). b || lacking (child_as table s tracker i) (tree_nth on_way ts))
-    (sym (joined_there (failures hooks table (child_as table s tracker k) (path ++ step_as tracker k ∷ []) t)
-    (failures_but hooks table s tracker on_way below (suc k) path ts)))
+    (sym (joined_there _ (failures_but hooks table s tracker on_way below (suc k) path ts)))
 
 -- what the place at the cursor lacks
 abbrev lacks_at : Meanings → Table → Place → ℕ → Tree → Bool
@@ -457,7 +437,5 @@ pub finishes_or_refuses : (hooks : Meanings) (table : Table) (s : ℕ) (path : L
     (own_lack hooks table (shape_in table s cursor tree) (tree_at cursor tree)))
 finishes_or_refuses hooks table s path mode cursor tree leads =
     finished_or_refused hooks table s path mode cursor tree leads ∙ ap (λ (b : Bool). b || lacks_at hooks table cursor s tree)
-    (sym (kind_there (first_by_walk (failures_off hooks table s path cursor tree))
-    ∙ first_there (failures_off hooks table s path cursor tree)))
-    ∙ sym (some_or (kind_of (first_by_walk (failures_off hooks table s path cursor tree)))
-    (own_lack hooks table (shape_in table s cursor tree) (tree_at cursor tree)))
+    (sym (kind_there _ ∙ first_there (failures_off hooks table s path cursor tree)))
+    ∙ sym (some_or _ (own_lack hooks table (shape_in table s cursor tree) (tree_at cursor tree)))

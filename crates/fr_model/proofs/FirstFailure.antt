@@ -3,9 +3,7 @@ use Rattle.std.proofs.Common.{◌≡◌, ◌∷◌}
 use Rattle.fr_model.proofs.Common.{inl, inr, zero, suc, List, [], Option, Some, None, refl, ◌∙◌, ap, arith, Contains, Ordering, walk_order, Failure, earlier_by, earlier, first_by_walk, IsOrAfter}
 use Rattle.std.specs.Ordering.{ordering_reverse}
 use Rattle.fr_path.specs.OrderLaws.{walk_total}
-
-further : (f : Failure) (fs : List Failure) (g : Failure) → Contains fs g → Contains (f ∷ fs) g
-further f fs g (k, below, is) = (suc k, omega arith, is)
+use Rattle.fr_model.proofs.Templates.{further, itself}
 
 of_one : (o : Ordering) (f : Failure) → earlier_by o f f ≡ f
 of_one Ordering.Less f = refl
@@ -20,9 +18,6 @@ earlier_last f g (inl same) = rw same (of_one (walk_order f.path f.path) f)
 earlier_last f g (inr after) =
     let turned : walk_order g.path f.path ≡ Ordering.Greater = walk_total.antisymm g.path f.path ∙ ap ordering_reverse after in
     rw turned refl
-
-itself : (f : Failure) (fs : List Failure) (g : Failure) → f ≡ g → Contains (f ∷ fs) g
-itself f fs g same = (0, omega arith, same)
 
 one_of : (f : Failure) (fs : List Failure) (g : Failure) (found : Option Failure)
     → ((h : Failure) → found ≡ Some h → Contains fs h) → earlier f found ≡ g → Contains (f ∷ fs) g

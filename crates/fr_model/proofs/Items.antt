@@ -1,8 +1,8 @@
 -- Lists, arrays and pointers to slices: what is begun suits its shape and holds what was there, and so it is with one more item.
 use Rattle.std.proofs.Common.{◌≡◌, ◌+◌, if◌then◌else◌, ◌∷◌}
-use Rattle.fr_model.proofs.Common.{IsBegunAs, IsBegunRightly, ℕ, suc, leb-true, nat_le, Bool, true, false, [], Option, Some, None, refl, sym, subst, arith, option_or, Def, KnownPointer, ShapeId, Operation, fits, all_fit, points_at, Table, def_of, is_dynamic, Val, Vals, unit, list_of, ptr, no_vals, first, set_item_refusal, is_slice, unless_list, init_array_refusal, whole_array_refusal, begun_item_refusal, item_refusal, with_item, is_open_slice, closed_slice, shared_slice_by, shared_slice_refusal, array_limit, opened, at_shape, init_list_refusal, Tracker, as_elements, as_items, ItemsKind, Tree, hole, entered, whole, begun, Trees, no_trees, branch, and_last, child_as, count_trees, count_below, wholes, fresh, tree_occurs, trees_occur, Mode, IsTouched, AreTouched, Suits, AllOff, AtCursor, OffBut}
+use Rattle.fr_model.proofs.Common.{IsBegunAs, IsBegunRightly, ℕ, suc, leb-true, nat_le, Bool, true, false, [], Option, Some, None, refl, sym, subst, arith, option_or, Def, KnownPointer, ShapeId, Operation, fits, all_fit, points_at, Table, def_of, is_dynamic, Val, Vals, unit, list_of, ptr, no_vals, first, set_item_refusal, is_slice, init_array_refusal, whole_array_refusal, begun_item_refusal, item_refusal, with_item, is_open_slice, closed_slice, shared_slice_by, shared_slice_refusal, array_limit, opened, at_shape, init_list_refusal, Tracker, as_elements, as_items, ItemsKind, Tree, hole, entered, whole, begun, Trees, no_trees, branch, and_last, child_as, count_trees, count_below, wholes, fresh, tree_occurs, trees_occur, Mode, IsTouched, AreTouched, Suits, AllOff, AtCursor, OffBut}
 use Rattle.fr_model.proofs.Becoming.{Placed, closed_suits}
-use Rattle.fr_model.proofs.Basis.{enter_touched, fresh_suits, fresh_at_cursor, holes_off, wholes_off, SuitFrom, count_holes, holes_suit, settled_as, both_true, fresh_holds}
+use Rattle.fr_model.proofs.Basis.{enter_touched, fresh_suits, fresh_at_cursor, holes_off, wholes_off, SuitFrom, count_holes, holes_suit, settled_as, both_true, fresh_holds, wholes_touched}
 
 -- A list or an array is begun
 
@@ -12,10 +12,6 @@ pub items_suit : (table : Table) (s : ℕ) (tracker : Tracker) (item : ℕ) → 
 items_suit table s tracker item same i no_vals fit = tt
 items_suit table s tracker item same i (first v vs) fit =
     let both = both_true _ _ fit in (rw (same i) both.0, items_suit table s tracker item same (suc i) vs both.1)
-
-pub wholes_touched : (vs : Vals) → AreTouched (wholes vs)
-wholes_touched no_vals = tt
-wholes_touched (first v vs) = (tt, wholes_touched vs)
 
 whole_list : (mode : Mode) (table : Table) (s : ℕ) (item : ShapeId) (v : Val) → def_of table s ≡ Def.List item
     → fits table s v ≡ true → Placed mode table s [] (opened (Def.List item) (whole v))
@@ -27,59 +23,36 @@ whole_list mode table s item _ is fit = let none = rw (settled_as table s is ref
 
 pub list_opens : (mode : Mode) (table : Table) (s : ℕ) (t : Tree) → is_dynamic (def_of table s) ≡ false
     → init_list_refusal s (def_of table s) t ≡ None → Placed mode table s [] t → Placed mode table s [] (opened (def_of table s) t)
-list_opens mode table s hole other e there = absurd there.leads
-list_opens mode table s entered other e there = go _ refl other e
+list_opens mode table s t other e there = go (def_of table s) t refl other e there
   where
-    go : (def : Def) → def_of table s ≡ def → is_dynamic def ≡ false → at_shape s (unless_list Operation.InitListOfOther def) ≡ None
-        → Placed mode table s [] (opened (def_of table s) entered)
-    go (Def.List item) is other e =
-        subst (λ (def : Def). Placed mode table s [] (opened def entered)) (sym is)
-        (record { suits = ((rw is tt, tt), tt, tt); leads = tt })
-    go _ is other e = cc
-list_opens mode table s (whole v) other e there = go _ refl other e
-  where
-    go : (def : Def) → def_of table s ≡ def → is_dynamic def ≡ false → at_shape s (unless_list Operation.InitListOfWholeOther def) ≡ None
-        → Placed mode table s [] (opened (def_of table s) (whole v))
-    go (Def.List item) is other e =
-        subst (λ (def : Def). Placed mode table s [] (opened def (whole v))) (sym is) (whole_list mode table s item v is there.suits)
-    go _ is other e = cc
-list_opens mode table s (begun tracker ts) other e there = there
+    go : (def : Def) (t : Tree) → def_of table s ≡ def → is_dynamic def ≡ false → init_list_refusal s def t ≡ None
+        → Placed mode table s [] t → Placed mode table s [] (opened def t)
+    go def (begun tracker ts) is other e there = there
+    go def hole is other e there = absurd there.leads
+    go (Def.List item) entered is other e there = record { suits = ((rw is tt, tt), tt, tt); leads = tt }
+    go (Def.List item) (whole v) is other e there = whole_list mode table s item v is there.suits
+    go _ _ is other e there = cc
 
 pub array_opens : (mode : Mode) (table : Table) (s : ℕ) (t : Tree) → at_shape s (init_array_refusal (def_of table s) t) ≡ None
     → Placed mode table s [] t → Placed mode table s [] (opened (def_of table s) t)
-array_opens mode table s hole e there = absurd there.leads
-array_opens mode table s entered e there = go (def_of table s) refl e
+array_opens mode table s t e there = go (def_of table s) t refl e there
   where
-    few : (item : ShapeId) (n : ℕ) (b : Bool) → nat_le n array_limit ≡ b → def_of table s ≡ Def.Array item n
-        → at_shape s (option_or (if b then None else Some Operation.ArrayTooLarge) None) ≡ None
-        → Placed mode table s [] (opened (def_of table s) entered)
-    few item n true small is e =
+    few : (item : ShapeId) (n : ℕ) (t : Tree) (b : Bool) → nat_le n array_limit ≡ b → def_of table s ≡ Def.Array item n
+        → at_shape s (option_or (if b then None else Some Operation.ArrayTooLarge) (whole_array_refusal t)) ≡ None
+        → Placed mode table s [] t → Placed mode table s [] (opened (Def.Array item n) t)
+    few item n hole b small is e there = absurd there.leads
+    few item n (begun tracker ts) b small is e there = there
+    few item n entered true small is e there =
         let count = count_holes n in
         let limit = leb-true n array_limit small in
-        subst (λ (def : Def). Placed mode table s [] (opened def entered)) (sym is)
-        (record {
-          suits = ((rw is count, omega (arith, count, limit)), holes_suit table s as_elements 0 n, tt);
-          leads = holes_off mode n;
-        })
-    few item n false small is e = cc
+        record { suits = ((rw is count, omega (arith, count, limit)), holes_suit table s as_elements 0 n, tt); leads = holes_off mode n }
+    few item n (whole v) true small is e there = cc
+    few item n _ false small is e there = cc
 
-    go : (def : Def) → def_of table s ≡ def → at_shape s (init_array_refusal def entered) ≡ None
-        → Placed mode table s [] (opened (def_of table s) entered)
-    go (Def.Array item n) is e = few item n (nat_le n array_limit) refl is e
-    go _ is e = cc
-array_opens mode table s (whole v) e there = go (def_of table s) e
-  where
-    go : (def : Def) → at_shape s (init_array_refusal def (whole v)) ≡ None
-        → Placed mode table s [] (opened (def_of table s) (whole v))
-    go (Def.Array item n) e = of_whole _ e
-      where
-        of_whole : (b : Bool)
-            → at_shape s (option_or (if b then None else Some Operation.ArrayTooLarge) (whole_array_refusal (whole v))) ≡ None
-            → Placed mode table s [] (opened (def_of table s) (whole v))
-        of_whole true e = cc
-        of_whole false e = cc
-    go _ e = cc
-array_opens mode table s (begun tracker ts) e there = there
+    go : (def : Def) (t : Tree) → def_of table s ≡ def → at_shape s (init_array_refusal def t) ≡ None → Placed mode table s [] t
+        → Placed mode table s [] (opened def t)
+    go (Def.Array item n) t is e there = few item n t (nat_le n array_limit) refl is e there
+    go _ _ is e there = cc
 
 -- An item is added
 
@@ -190,8 +163,7 @@ closed_holds hole token = refl
 closed_holds _ token = refl
 
 -- an empty borrowed slice fits where it may be put
-pub shared_fits : (table : Table) (s : ℕ) → shared_slice_refusal table (def_of table s) ≡ None
-    → fits table s (ptr (list_of no_vals)) ≡ true
+pub shared_fits : (table : Table) (s : ℕ) → shared_slice_refusal table (def_of table s) ≡ None → fits table s (ptr (list_of no_vals)) ≡ true
 shared_fits table s e = go _ refl e
   where
     of_slice : (t : ShapeId) (def : Def) → def_of table t.0 ≡ def

@@ -2,50 +2,53 @@
 use Rattle.std.proofs.Common.{◌≡◌, ◌+◌, ◌≤◌, if◌then◌else◌, ◌∷◌}
 use Rattle.fr_model.proofs.Common.{ℕ, zero, suc, Bool, true, false, [], append-nil, Option, Some, None, Result, Ok, Err, refl, ◌∙◌, ap, subst, arith, ReflectErrorKind, Invariant, IsChecked, Meanings, Table, def_of, Val, Call, complete, Place, strict_column, is_root, removed, removed_by, replaced, removed_at_build, removed_by_build, IsFitting, brings, violates, step, cause, built, build_in, build, fresh, Tree, whole, change_at, Mode, strict, deferred, State, cursor_shape, cursor_tree, initial, tree_occurs, Suits, RestsAround, IsInOrder, AreDistinct, IsWell}
 use Rattle.fr_model.specs.Laws.{held_after, built_occurs, IsFresh}
-use Rattle.fr_model.proofs.Ways.{Move, stays, goes_on, goes_up, is_taken, stays_behind, is_deferred, is_over}
-use Rattle.fr_model.proofs.Basis.{completing_makes, completed_in_order, changed_in_order, moved_in_order, made_at, start_in_order, left_in_order, deferred_in_order, rests_here, fresh_rests, rest_on, rest_up, rest_put_up, rest_took, fresh_holds, change_holds}
+use Rattle.fr_model.proofs.Moving.{Move, stays, goes_on, goes_up, is_taken, stays_behind, is_parsed, is_deferred, is_over, moves}
+use Rattle.fr_shape.specs.Hooks.{IsLawful}
+use Rattle.fr_model.proofs.Basis.{template_holds, put_in_order, completing_makes, completed_in_order, changed_in_order, moved_in_order, made_at, start_in_order, left_in_order, deferred_in_order, rests_here, fresh_rests, rest_on, rest_up, rest_put_up, rest_took, fresh_holds, change_holds}
 use Rattle.fr_model.proofs.Ending.{took_in_order, took_holds}
 use Rattle.fr_model.proofs.FinishRests.{finish_rests}
 use Rattle.fr_model.proofs.Finishes.{finish_keeps}
-use Rattle.fr_model.proofs.Moving.{moves}
 use Rattle.fr_model.proofs.Steps.{finished_in_order}
 
 -- tokens
 
 moves_tokens : (hooks : Meanings) (table : Table) (root : ℕ) (state next : State) (command : Call) (t : ℕ)
-    → IsChecked table → IsInOrder table root state → Move hooks table root state command next
+    → IsLawful hooks → IsChecked table → IsInOrder table root state → Move hooks table root state command next
     → tree_occurs state.tree t + brings command t
     ≡ tree_occurs next.tree t + replaced hooks table root (cursor_shape table root state) state command t
-moves_tokens hooks table root state next command t checked order (stays same change placed hold rest) =
+moves_tokens hooks table root state next command t lawful checked order (stays same change placed hold rest) =
     omega (arith, change_holds state.mode state.cursor state.tree change t order.leads, hold t)
-moves_tokens hooks table root state next command t checked order (goes_on same i change placed hold rest) =
+moves_tokens hooks table root state next command t lawful checked order (goes_on same i change placed hold rest) =
     omega (arith, change_holds state.mode state.cursor state.tree change t order.leads, hold t)
-moves_tokens hooks table root state next command t checked order (goes_up column v began no_set is drops) =
+moves_tokens hooks table root state next command t lawful checked order (goes_up column v began no_set is drops) =
     let there = change_holds state.mode state.cursor state.tree (λ old. whole v) t order.leads in
     let made = made_at column hooks table root state v checked is order in
     omega (arith, made.hold t, drops t)
-moves_tokens hooks table root state next command t checked order (is_taken column v began below of_set is drops) =
+moves_tokens hooks table root state next command t lawful checked order (is_taken column v began below of_set is drops) =
     let there = took_holds table root state v t below of_set order.leads in
     let made = made_at column hooks table root state v checked is order in
     omega (arith, made.hold t, drops t)
-moves_tokens hooks table root state next command t checked order (stays_behind start mode deeper shut no_set no_part drops) =
+moves_tokens hooks table root state next command t lawful checked order (stays_behind start mode deeper shut no_set no_part drops) =
     omega (arith, drops t)
-moves_tokens hooks table root state next command t checked order (is_deferred is) = refl
-moves_tokens hooks table root state next command t checked order (is_over tree is) =
+moves_tokens hooks table root state next command t lawful checked order (is_parsed same v template drops none) =
+    let there = change_holds state.mode state.cursor state.tree (λ old. whole v) t order.leads in
+    omega (arith, there, template_holds table _ v t (template lawful), drops t, none t)
+moves_tokens hooks table root state next command t lawful checked order (is_deferred is) = refl
+moves_tokens hooks table root state next command t lawful checked order (is_over tree is) =
     let kept = finish_keeps hooks table root state.cursor state.tree tree checked order.suits is in
     omega (arith, kept.hold t)
 
 -- whatever comes of a command: nothing is lost and nothing doubled
 pub step_keeps_tokens : (hooks : Meanings) (table : Table) (root : ℕ) (state : State) (command : Call)
-    → IsChecked table → IsInOrder table root state → (t : ℕ) → tree_occurs state.tree t + brings command t
+    → IsLawful hooks → IsChecked table → IsInOrder table root state → (t : ℕ) → tree_occurs state.tree t + brings command t
     ≡ held_after (step hooks table root state command) t + removed hooks table root state command t
-step_keeps_tokens hooks table root state command checked order t = go (step hooks table root state command) refl
+step_keeps_tokens hooks table root state command lawful checked order t = go (step hooks table root state command) refl
   where
     go : (outcome : Result State ReflectErrorKind) → step hooks table root state command ≡ outcome
         → tree_occurs state.tree t + brings command t
         ≡ held_after outcome t + removed_by hooks table root (cursor_shape table root state) state command outcome t
     go (Ok next) e =
-        moves_tokens hooks table root state next command t checked order (moves hooks table checked root state next order command e)
+        moves_tokens hooks table root state next command t lawful checked order (moves hooks table checked root state next order command e)
     go (Err kind) e = omega arith
 
 pub build_keeps_tokens : (hooks : Meanings) (table : Table) (root : ℕ) (state : State) → IsChecked table
@@ -53,6 +56,10 @@ pub build_keeps_tokens : (hooks : Meanings) (table : Table) (root : ℕ) (state 
     ≡ built_occurs (build hooks table root state) t + removed_at_build hooks table root state t
 build_keeps_tokens hooks table root state checked suits t = by_mode state.mode
   where
+    built_is : (b : Bool) (v u : Val) → (if b then Ok v else Err (violates Invariant.TypeInvariant)) ≡ Ok u → Some v ≡ Some u
+    built_is true v u e = ap Some cc
+    built_is false v u e = cc
+
     kept : (outcome : Result Val ReflectErrorKind)
         → ((v : Val) → outcome ≡ Ok v → complete strict_column hooks table root state.tree ≡ Some v)
         → tree_occurs state.tree t ≡ built_occurs outcome t + removed_by_build hooks table root state outcome t
@@ -64,7 +71,7 @@ build_keeps_tokens hooks table root state checked suits t = by_mode state.mode
     go : (b : Bool) (value : Option Val) → complete strict_column hooks table root state.tree ≡ value → tree_occurs state.tree t
         ≡ built_occurs (if b then built hooks table root state.tree value else Err (violates Invariant.BuildOpenFrames)) t
         + removed_by_build hooks table root state (if b then built hooks table root state.tree value else Err (violates Invariant.BuildOpenFrames)) t
-    go true (Some v) is = kept (Ok v) (λ u e. is ∙ ap Some cc)
+    go true (Some v) is = kept (built hooks table root state.tree (Some v)) (λ u e. is ∙ built_is _ v u e)
     go true None is = kept (Err (cause hooks table root state.tree)) (λ u e. cc)
     go false value is = kept (Err (violates Invariant.BuildOpenFrames)) (λ u e. cc)
 
@@ -83,27 +90,29 @@ rest_there state change step rests =
     subst (λ (place : Place). RestsAround place (change_at state.cursor change state.tree)) (append-nil state.cursor)
     (rest_on state.cursor [] state.tree change step rests)
 
-moves_in_order : (hooks : Meanings) (table : Table) (root : ℕ) (state next : State) (command : Call) → IsChecked table
+moves_in_order : (hooks : Meanings) (table : Table) (root : ℕ) (state next : State) (command : Call) → IsLawful hooks → IsChecked table
     → IsFitting table command → IsInOrder table root state → Move hooks table root state command next → IsInOrder table root next
-moves_in_order hooks table root state next command checked fit order (stays same change placed hold rest) =
+moves_in_order hooks table root state next command lawful checked fit order (stays same change placed hold rest) =
     changed_in_order table root state change (placed fit).suits (placed fit).leads order
-moves_in_order hooks table root state next command checked fit order (goes_on same i change placed hold rest) =
+moves_in_order hooks table root state next command lawful checked fit order (goes_on same i change placed hold rest) =
     moved_in_order table root state i change placed.suits placed.leads order
-moves_in_order hooks table root state next command checked fit order (goes_up column v began no_set is drops) =
+moves_in_order hooks table root state next command lawful checked fit order (goes_up column v began no_set is drops) =
     completed_in_order column hooks table root state v checked began is order
-moves_in_order hooks table root state next command checked fit order (is_taken column v began below of_set is drops) =
+moves_in_order hooks table root state next command lawful checked fit order (is_taken column v began below of_set is drops) =
     took_in_order column hooks table root state v checked below of_set began is order
-moves_in_order hooks table root state next command checked fit order (stays_behind start mode deeper shut no_set no_part drops) =
+moves_in_order hooks table root state next command lawful checked fit order (stays_behind start mode deeper shut no_set no_part drops) =
     left_in_order table root start state mode deeper order
-moves_in_order hooks table root state next command checked fit order (is_deferred is) = deferred_in_order table root state is order
-moves_in_order hooks table root state next command checked fit order (is_over tree is) =
+moves_in_order hooks table root state next command lawful checked fit order (is_parsed same v template drops none) =
+    put_in_order table root state v (template lawful).fit order
+moves_in_order hooks table root state next command lawful checked fit order (is_deferred is) = deferred_in_order table root state is order
+moves_in_order hooks table root state next command lawful checked fit order (is_over tree is) =
     finished_in_order hooks table root state tree checked order is
 
 pub step_keeps_order : (hooks : Meanings) (table : Table) (root : ℕ) (state next : State) (command : Call)
-    → IsChecked table → IsInOrder table root state → IsFitting table command
+    → IsLawful hooks → IsChecked table → IsInOrder table root state → IsFitting table command
     → step hooks table root state command ≡ Ok next → IsInOrder table root next
-step_keeps_order hooks table root state next command checked order fit e =
-    moves_in_order hooks table root state next command checked fit order (moves hooks table checked root state next order command e)
+step_keeps_order hooks table root state next command lawful checked order fit e =
+    moves_in_order hooks table root state next command lawful checked fit order (moves hooks table checked root state next order command e)
 
 moves_rest : (hooks : Meanings) (table : Table) (root : ℕ) (state next : State) (command : Call)
     → RestsAround state.cursor state.tree → Move hooks table root state command next → RestsAround next.cursor next.tree
@@ -116,6 +125,8 @@ moves_rest hooks table root state next command rests (is_taken column v began be
     rest_took state.cursor state.tree v below rests
 moves_rest hooks table root state next command rests (stays_behind start mode deeper shut no_set no_part drops) =
     rest_up state.cursor state.tree shut no_set no_part rests
+moves_rest hooks table root state next command rests (is_parsed same v template drops none) =
+    rest_there state (λ old. whole v) (λ rested. tt) rests
 moves_rest hooks table root state next command rests (is_deferred is) = rests
 moves_rest hooks table root state next command rests (is_over tree is) =
     finish_rests hooks table root state.cursor state.tree tree rests is
@@ -128,13 +139,13 @@ step_keeps_rest hooks table root state next command checked order rests fit e =
     moves_rest hooks table root state next command rests (moves hooks table checked root state next order command e)
 
 pub step_keeps_distinct : (hooks : Meanings) (table : Table) (root : ℕ) (state next : State) (command : Call)
-    → IsChecked table → IsWell table root state → IsFresh state command
+    → IsLawful hooks → IsChecked table → IsWell table root state → IsFresh state command
     → step hooks table root state command ≡ Ok next → AreDistinct next.tree
-step_keeps_distinct hooks table root state next command checked well fresh e t = once (brings command t) refl
+step_keeps_distinct hooks table root state next command lawful checked well fresh e t = once (brings command t) refl
   where
     no_more : tree_occurs next.tree t ≤ tree_occurs state.tree t + brings command t
     no_more =
-        let kept = moves_tokens hooks table root state next command t checked well.in_order
+        let kept = moves_tokens hooks table root state next command t lawful checked well.in_order
         (moves hooks table checked root state next well.in_order command e) in
         omega arith
 

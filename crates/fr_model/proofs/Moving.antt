@@ -1,17 +1,84 @@
--- Each command that goes on makes one of the moves.
-use Rattle.std.proofs.Common.{◌≡◌, ◌+◌, ◌<◌, ◌∷◌, ◌==◌, ◌&&◌, ◌||◌, if◌then◌else◌}
-use Rattle.fr_model.proofs.Common.{ℕ, true, false, List, [], length, Option, Some, None, Result, Ok, refl, ReflectErrorKind, preset_of, Meanings, Table, def_of, is_dynamic, Val, Dynamic, dyn, Call, variant_anew, content_anew, converted, key_refusal, value_refusal, last_of, set_item_refusal, array_anew, object_anew, kept_array, kept_object, entry_refusal, Place, Column, strict_column, deferred_column, is_root, Tracker, Tree, count_below, Mode, strict, deferred, State, cursor_shape, cursor_tree, tree_occurs, complete, finished, Way, enters, at_shape, takes_shape, opens, becomes, init_list_refusal, init_map_refusal, init_set_refusal, variant_kept, selects, puts, is_set_item, is_dynamic_part, brings, replaced, dropped_unless, column_at_end, init_array_refusal, is_open_slice, RestsAround, eqb-true, Bool, unwrap_or, sym, ◌∙◌, ap, subst, arith, Def, ScalarKind, IsChecked, fits, settled, unit, text, with_key, number_in, dropped_by_completing, entry_number, with_entry, with_item, up, child_count, dropped_if, dropped_with_item, dropped_by_column, opened, enter_child, is_str, is_owned_string_kind, is_owned_string, put_child, tracker_of, tracker_at, whole, tree_at, count_trees, Suits, AtCursor, BeganAbove, IsInOrder, ltb-true, nat_lt, Err, Invariant, Operation, Field, VariantDef, is_option, field_in, variants_of, list_of, ptr, no_vals, is_result, pointer_refusal, points_to_slice, slice_anew, is_enum, variant_numbered, variant_named, variant_told_by, selection_refusal, as_content, ContentKind, selected, unless_refused, named_refusal, field_default, puts_child_default, defaults_field, option_kept, content_kept, begin_side, pointer_kept, begins_pointer, begins_list, init_list, begins_map, set_refusal, puts_dynamic, set_dynamic, puts_made, closes_slice, leaves_place, select_found, select, violates, puts_default, ended, item_ended, part_ended, leaves_deferred, end_in, begins_deferred, finishes, finish_in, step, dropped_by_selecting, dropped_at_end, item_refusal, closed_slice, shared_slice_refusal}
-use Rattle.fr_model.proofs.Ways.{moved, EndsBelow, Move, stays, goes_on, goes_up, is_taken, stays_behind, is_deferred, is_over, lost_is, ok_is}
+-- The moves: what an admitted command does to the place at the cursor. What becomes of it suits its shape, rests, and holds what it held
+-- and what the command brought, but for what is dropped. Each command that goes on makes one of them.
+use Rattle.std.proofs.Common.{◌≡◌, ◌+◌, ◌<◌, ◌∷◌, ◌++◌, ◌==◌, ◌&&◌, ◌||◌, if◌then◌else◌}
+use Rattle.fr_model.proofs.Common.{ℕ, true, false, [], length, Option, Some, None, Result, Ok, refl, ReflectErrorKind, Meanings, Table, Val, Call, Place, Column, is_root, Tree, change_at, Mode, strict, deferred, State, cursor_shape, cursor_tree, one_more_call, tree_occurs, complete, finished, puts, puts_and_leaves, leaves, is_set_item, takes_item, is_dynamic_part, brings, replaced, dropped_unless, is_open_slice, RestsAround, number_in, dropped_by_completing, up, dropped_with_item, IsFitting, tree_at, BeganAbove, List, preset_of, def_of, is_dynamic, Dynamic, dyn, variant_anew, content_anew, converted, key_refusal, value_refusal, last_of, set_item_refusal, array_anew, object_anew, kept_array, kept_object, entry_refusal, strict_column, deferred_column, Tracker, count_below, Way, enters, at_shape, takes_shape, opens, becomes, init_list_refusal, init_map_refusal, init_set_refusal, variant_kept, selects, column_at_end, init_array_refusal, eqb-true, Bool, unwrap_or, sym, ◌∙◌, ap, subst, arith, Def, ScalarKind, IsChecked, fits, settled, unit, text, with_key, entry_number, with_entry, with_item, child_count, dropped_if, dropped_by_column, opened, enter_child, is_str, is_owned_string_kind, is_owned_string, put_child, tracker_of, tracker_at, whole, count_trees, Suits, AtCursor, IsInOrder, ltb-true, nat_lt, Err, Invariant, Operation, Field, VariantDef, is_option, field_in, variants_of, list_of, ptr, no_vals, is_result, pointer_refusal, points_to_slice, slice_anew, is_enum, variant_numbered, variant_named, variant_told_by, selection_refusal, as_content, ContentKind, selected, unless_refused, named_refusal, field_default, puts_child_default, defaults_field, option_kept, content_kept, begin_side, pointer_kept, begins_pointer, begins_list, init_list, begins_map, set_refusal, puts_dynamic, set_dynamic, puts_made, closes_slice, leaves_place, select_found, select, violates, puts_default, ended, item_ended, part_ended, leaves_deferred, end_in, begins_deferred, finishes, finish_in, step, dropped_by_selecting, dropped_at_end, item_refusal, closed_slice, shared_slice_refusal}
+use Rattle.fr_model.proofs.Becoming.{Placed, lost, Becoming, content_becomes, option_becomes, IsSide, side_holds, pointer_holds, slice_becomes, variant_becomes}
+use Rattle.fr_model.proofs.Basis.{defers, at_cursor, suits_at, up_long, began_strict, entry_at, Enterable, enterable_apart, opening, opened_rests, enter_child_rests, item_rests, key_rests, closed_rests, settled_as, preset_template, template_holds, field_default_template, opened_holds, enter_child_holds, completing_makes, began_up}
+use Rattle.fr_model.proofs.Steps.{finishes_as}
+use Rattle.fr_model.proofs.Templates.{IsTemplate, text_template, bytes_template}
+use Rattle.fr_shape.specs.Hooks.{IsLawful, Meaning, gives, refuses, unsupported}
 use Rattle.fr_model.proofs.Items.{TakesAnItem, list_opens, array_opens, takes_a_set_item, item_placed, item_holds, takes_an_item, slice_closes, closed_holds, shared_fits}
-use Rattle.fr_model.proofs.Becoming.{Placed, Becoming, content_becomes, option_becomes, IsSide, side_holds, pointer_holds, slice_becomes, variant_becomes}
 use Rattle.fr_model.proofs.Defaulting.{putting, field_there}
-use Rattle.fr_model.proofs.Basis.{at_cursor, suits_at, up_long, began_strict, entry_at, Enterable, enterable_apart, opening, opened_rests, enter_child_rests, item_rests, key_rests, closed_rests, settled_as, preset_template, template_holds, field_default_template, opened_holds, enter_child_holds, completing_makes}
 use Rattle.fr_model.proofs.Collections.{set_opens, map_opens, IsMap, takes_a_key, takes_a_value, key_placed, key_holds, value_enterable}
-use Rattle.fr_model.proofs.Converting.{converted_is}
-use Rattle.fr_model.proofs.Dynamics.{dynamic_def, array_becomes, object_becomes, IsObject, takes_an_entry, entry_placed, entry_holds, entry_rests}
-use Rattle.fr_model.proofs.Ending.{began_up}
-use Rattle.fr_model.specs.Step.{ends_item as end_of_item}
+use Rattle.fr_model.proofs.Dynamics.{converted_is, dynamic_def, array_becomes, object_becomes, IsObject, takes_an_entry, entry_placed, entry_holds, entry_rests}
+use Rattle.fr_model.specs.Parses.{text_meant, bytes_meant}
+use Rattle.fr_model.specs.Step.{puts_parsed, ends_item as end_of_item}
 use Rattle.fr_model.proofs.Children.{enterable, ChildCase, a_child, a_variant_child, no_child, child_case, only_of_enum, NamedCase, a_named, a_variant_named, no_such_name, no_names, named_case}
+
+-- the state in which the place at the cursor has become another
+abbrev pub changed : State → (Tree → Tree) → State
+changed state change = record state { tree = change_at state.cursor change state.tree; calls = one_more_call state.calls }
+
+-- a place may end where deferred mode began above it
+abbrev pub EndsBelow : Mode → Place → Type 0
+EndsBelow strict cursor = Unit {0}
+EndsBelow (deferred start) cursor = start < length cursor
+
+-- the state in which the place at the cursor has become another, to whose child i the cursor went
+abbrev pub moved : State → ℕ → (Tree → Tree) → State
+moved state i change = record state {
+  tree = change_at state.cursor change state.tree;
+  cursor = state.cursor ++ i ∷ [];
+  calls = one_more_call state.calls;
+}
+
+-- what becomes of the place at the cursor holds what it held and what the command brings, but for what that drops
+abbrev pub HoldsAll : Meanings → Table → (root : ℕ) → State → Call → Tree → Type 0
+HoldsAll hooks table root state command after =
+    (t : ℕ) → tree_occurs after t + replaced hooks table root (cursor_shape table root state) state command t
+    ≡ tree_occurs (cursor_tree state) t + brings command t
+
+-- The moves: the place at the cursor becomes another, and the cursor stays, or goes to a child of it; the place is completed and the
+-- cursor goes up, or its set takes it; it is left as it is; a value that was parsed is put there; or deferred mode begins or ends.
+pub data Move (hooks : Meanings) (table : Table) (root : ℕ) (state : State) : Call → State → Type 0 where
+  stays : (command : Call) (change : Tree → Tree)
+      → (IsFitting table command → Placed state.mode table (cursor_shape table root state) [] (change (cursor_tree state)))
+      → HoldsAll hooks table root state command (change (cursor_tree state))
+      → (RestsAround [] (cursor_tree state) → RestsAround [] (change (cursor_tree state)))
+      → Move hooks table root state command (changed state change)
+  goes_on : (command : Call) (i : ℕ) (change : Tree → Tree)
+      → Placed state.mode table (cursor_shape table root state) (i ∷ []) (change (cursor_tree state))
+      → HoldsAll hooks table root state command (change (cursor_tree state))
+      → (RestsAround [] (cursor_tree state) → RestsAround (i ∷ []) (change (cursor_tree state)))
+      → Move hooks table root state command (moved state i change)
+  goes_up : (column : Column) (v : Val) → BeganAbove state.mode (up state.cursor) → is_set_item state ≡ false
+      → complete column hooks table (cursor_shape table root state) (cursor_tree state) ≡ Some v
+      → ((t : ℕ) → replaced hooks table root (cursor_shape table root state) state Call.End t
+      ≡ dropped_by_completing column hooks table (cursor_shape table root state) (cursor_tree state) t)
+      → Move hooks table root state Call.End (puts_and_leaves state v)
+  is_taken : (column : Column) (v : Val) → BeganAbove state.mode (up state.cursor) → is_root state.cursor ≡ false
+      → is_set_item state ≡ true → complete column hooks table (cursor_shape table root state) (cursor_tree state) ≡ Some v
+      → ((t : ℕ) → replaced hooks table root (cursor_shape table root state) state Call.End t
+      ≡ dropped_by_completing column hooks table (cursor_shape table root state) (cursor_tree state) t
+      + dropped_with_item (number_in state.cursor) (tree_at (up state.cursor) state.tree) (Some v) t)
+      → Move hooks table root state Call.End (takes_item state v)
+  stays_behind : (start : ℕ) → state.mode ≡ deferred start → start < length state.cursor
+      → is_open_slice (cursor_tree state) ≡ false → is_set_item state ≡ false → is_dynamic_part state ≡ false
+      → ((t : ℕ) → replaced hooks table root (cursor_shape table root state) state Call.End t ≡ 0)
+      → Move hooks table root state Call.End (leaves state)
+  is_parsed : (command : Call) (v : Val) → (IsLawful hooks → IsTemplate table (cursor_shape table root state) v)
+      → ((t : ℕ) → replaced hooks table root (cursor_shape table root state) state command t ≡ tree_occurs (cursor_tree state) t)
+      → ((t : ℕ) → brings command t ≡ 0) → Move hooks table root state command (puts state v)
+  is_deferred : state.mode ≡ strict → Move hooks table root state Call.BeginDeferred (defers state)
+  is_over : (tree : Tree) → finished hooks table root state.cursor state.tree ≡ Some tree
+      → Move hooks table root state Call.FinishDeferred (finishes_as state tree)
+
+pub lost_is : (kept : Option Tree) (state : State) (t : ℕ) → dropped_unless kept state t ≡ lost kept (cursor_tree state) t
+lost_is (Some tree) state t = refl
+lost_is None state t = refl
+
+pub ok_is : (a b : State) → ◌≡◌ {A = Result State ReflectErrorKind} (Ok a) (Ok b) → a ≡ b
+ok_is a b e = cc
 
 -- a text that fits an owned text fits a `str` too
 text_fits : (table : Table) (s given : ℕ) (v : Val) → is_str (def_of table s) ≡ true → is_owned_string (def_of table given) ≡ true
@@ -35,8 +102,7 @@ text_fits table s given v str string fit = go _ _ refl refl str string
     go Def.Str _ is from str string = cc
     go _ from_def is from str string = cc
 
-taken_fits : (table : Table) (s given : ℕ) (v : Val) → takes_shape table s given ≡ true → fits table given v ≡ true
-    → fits table s v ≡ true
+taken_fits : (table : Table) (s given : ℕ) (v : Val) → takes_shape table s given ≡ true → fits table given v ≡ true → fits table s v ≡ true
 taken_fits table s given v taken fit = go _ _ _ refl refl refl taken
   where
     go : (same str string : Bool) → (s == given) ≡ same → is_str (def_of table s) ≡ str
@@ -85,8 +151,7 @@ module _ (hooks : Meanings) (table : Table) (checked : IsChecked table) (root : 
   unless None after so e = goes e (so refl)
   unless (Some kind) after so e = cc
 
-  unless_at : {command : Call} (refusal : Option Operation) (after : State)
-      → (refusal ≡ None → Move hooks table root state command after)
+  unless_at : {command : Call} (refusal : Option Operation) (after : State) → (refusal ≡ None → Move hooks table root state command after)
       → unless_refused (at_shape here refusal) after ≡ Ok next → Goes command
   unless_at None after so e = goes e (so refl)
   unless_at (Some operation) after so e = cc
@@ -227,12 +292,18 @@ module _ (hooks : Meanings) (table : Table) (checked : IsChecked table) (root : 
       (λ t. omega (arith, template_holds table here v t template)) (λ rested. tt))
   defaults_so None is e = cc
 
+  parses_so : {command : Call} (meaning : Meaning) (refusal : ReflectErrorKind) (operation : Operation)
+      → ((v : Val) → meaning ≡ gives v → Move hooks table root state command (puts state v))
+      → puts_parsed here state meaning refusal operation ≡ Ok next → Goes command
+  parses_so (gives v) refusal operation so e = goes e (so v refl)
+  parses_so (refuses message) refusal operation so e = cc
+  parses_so unsupported refusal operation so e = cc
+
   child_so : (i : ℕ) → step hooks table root state (Call.SetNthFieldToDefault i) ≡ Ok next → Goes (Call.SetNthFieldToDefault i)
   child_so i e = go (at_shape here (named_refusal def tree)) (field_in def (selected tree) i) refl e
     where
       set_so : (field : Field) (value : Result Val ReflectErrorKind) → field_in def (selected tree) i ≡ Some field
-          → field_default table field ≡ value → puts_child_default table here state i value ≡ Ok next
-          → Goes (Call.SetNthFieldToDefault i)
+          → field_default table field ≡ value → puts_child_default table here state i value ≡ Ok next → Goes (Call.SetNthFieldToDefault i)
       set_so field (Ok v) is value h =
           let there = field_there table here i tree field suits_here is in
           let template = field_default_template table here (selected tree) i field v checked is value in
@@ -446,6 +517,10 @@ module _ (hooks : Meanings) (table : Table) (checked : IsChecked table) (root : 
   moves (Call.SetNthFieldToDefault i) e = child_so i e
   moves (Call.Set given v) e = sets_so given v e
   moves Call.SetDefault e = defaults_so (preset_of table here) refl e
+  moves (Call.ParseFromStr said) e = parses_so (text_meant hooks table here said) _ _ (λ v is. is_parsed (Call.ParseFromStr said) v
+      (λ lawful. text_template hooks table here said v checked lawful is) (λ t. refl) (λ t. refl)) e
+  moves (Call.ParseFromBytes bytes) e = parses_so (bytes_meant hooks table here bytes) _ _ (λ v is. is_parsed (Call.ParseFromBytes bytes) v
+      (λ lawful. bytes_template hooks table here bytes v checked lawful is) (λ t. refl) (λ t. refl)) e
   moves Call.SetEmptySharedSlice e = shared_so e
   moves Call.InitList e = list_so Call.InitList (λ t. refl) (λ t. refl) e
   moves (Call.InitListWithCapacity n) e = list_so (Call.InitListWithCapacity n) (λ t. refl) (λ t. refl) e

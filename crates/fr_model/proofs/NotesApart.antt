@@ -1,8 +1,9 @@
 -- No two notes of the end of deferred mode cover each other.
-use Rattle.std.proofs.Common.{◌≡◌, ◌≢◌, ◌<◌, ◌≤◌, ◌==◌, if◌then◌else◌, ◌∷◌, ◌++◌}
-use Rattle.fr_model.proofs.Common.{⊎_elim, ℕ, zero, suc, Bool, true, false, eq-eqb, [], append_assoc, append-nil, get_or, Option, Some, None, refl, sym, ◌∙◌, ap, subst, arith, Contains, Contains-append_cases, Contains-get_or, Table, Val, AreDisjoint, LieApart, NotesLieApart, Note, wrote_at, Journal, Held, in_parts, untouched, held, place_of, both_notes, each_notes, writing, closing_by, closing, closing_beside, closing_parts, closing_here_by, finish_notes, Place, child_count, child_shape}
+use Rattle.std.proofs.Common.{◌≡◌, ◌≢◌, ◌≤◌, ◌==◌, if◌then◌else◌, ◌∷◌, ◌++◌}
+use Rattle.fr_model.proofs.Common.{⊎_elim, ℕ, zero, suc, Bool, true, false, eq-eqb, [], append_assoc, append-nil, Option, Some, None, refl, sym, ◌∙◌, ap, subst, arith, Contains, Contains-append_cases, Contains-get_or, Table, Val, AreDisjoint, LieApart, NotesLieApart, Note, Journal, Held, in_parts, untouched, held, place_of, both_notes, each_notes, writing, closing_by, closing, closing_beside, closing_parts, closing_here_by, finish_notes, Place, child_count, child_shape}
 use Rattle.std.proofs.lemmas.List.Kept.{AllPairs-cons}
 use Rattle.fr_model.proofs.FinishNotes.{same_first}
+use Rattle.fr_model.proofs.Templates.{further, itself, only_one}
 
 abbrev Apart : Note → Note → Type 0
 Apart one other = AreDisjoint (place_of one) (place_of other)
@@ -16,12 +17,6 @@ one_and_other : (note : Note) (notes : Journal) → LieApart (note ∷ notes) �
 one_and_other note notes apart other (k, within, is) =
     subst (λ (n : Note). Apart note n) is (apart 0 (suc k) other (omega arith) (omega arith))
 
-further : (note : Note) (notes : Journal) (other : Note) → Contains notes other → Contains (note ∷ notes) other
-further note notes other (k, within, is) = (suc k, omega arith, is)
-
-front : (note : Note) (notes : Journal) → Contains (note ∷ notes) note
-front note notes = (0, omega arith, refl)
-
 both_apart : (some others : Journal) → LieApart some → LieApart others
     → ((one other : Note) → Contains some one → Contains others other → Apart one other) → LieApart (some ++ others)
 both_apart [] others apart more across = more
@@ -32,7 +27,7 @@ both_apart (note ∷ some) others apart more across =
   where
     with_note : (other : Note) → Contains (some ++ others) other → Apart note other
     with_note other has =
-        ⊎_elim (λ among. one_and_other note some apart other among) (λ beyond. across note other (front note some) beyond)
+        ⊎_elim (λ among. one_and_other note some apart other among) (λ beyond. across note other (itself note some note refl) beyond)
         (Contains-append_cases some others other has)
 
 -- the notes, if there are any, lie apart, and of each something is known
@@ -55,11 +50,7 @@ IsOn here note = place_of note ≡ here
 
 spread_writing : (here : Place) (value : Option Val) → Spread (IsOn here) (writing here value)
 spread_writing here None = tt
-spread_writing here (Some v) = (λ i j d before within. absurd (omega arith), λ note among. only_at among.0 note among.1 among.2)
-  where
-    only_at : (k : ℕ) (note : Note) → k < 1 → get_or (wrote_at here v ∷ []) k note ≡ note → IsOn here note
-    only_at zero note below is = ap place_of (sym is)
-    only_at (suc k) note below is = absurd (omega arith)
+spread_writing here (Some v) = (λ i j d before within. absurd (omega arith), λ note among. ap place_of (only_one _ note among))
 
 spread_both : (Known Other Both : Note → Type 0) (some others : Option Journal)
     → ((one other : Note) → Known one → Other other → Apart one other) → ((note : Note) → Known note → Both note)
@@ -100,8 +91,7 @@ IsFrom above note = (way : Place) × (place_of note ≡ above ++ way)
 abbrev IsOfChild : Place → ℕ → Note → Type 0
 IsOfChild above j note = (way : Place) × (place_of note ≡ above ++ j ∷ way)
 
-children_apart : (above : Place) (i j : ℕ) (one other : Note) → i ≢ j → IsOfChild above i one → IsOfChild above j other
-    → Apart one other
+children_apart : (above : Place) (i j : ℕ) (one other : Note) → i ≢ j → IsOfChild above i one → IsOfChild above j other → Apart one other
 children_apart above i j one other apart here there =
     subst (λ (place : Place). AreDisjoint place (place_of other)) (sym here.1)
     (subst (λ (place : Place). AreDisjoint (above ++ i ∷ here.0) place) (sym there.1) (ways_apart above i j here.0 there.0 apart))

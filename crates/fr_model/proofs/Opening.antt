@@ -3,7 +3,7 @@ use Rattle.std.proofs.Common.{◌≡◌, ◌+◌, ◌<◌, ◌≤◌, ◌∷◌}
 use Rattle.fr_model.proofs.Common.{ℕ, zero, suc, true, false, List, [], length, Option, Some, None, refl, sym, ◌∙◌, ap, subst, arith, Def, ShapeId, StructDef, EnumDef, VariantDef, Field, is_empty_struct, is_nil, Table, def_of, Val, Vals, unit, product, no_vals, first, fits, fields_fit, is_set_tracker, ends_in_hole, array_limit, vals_nth, entered_at, Journal, Held, written, just_entered, untouched, at_least_entered, held, Tracker, as_fields, as_elements, as_entries, EntriesKind, tracker_of, tracker_at, over_base, selected, Tree, hole, entered, whole, begun, Trees, no_trees, branch, tree_nth, change_nth, change_child, child_as, count_trees, holes, wholes, fresh, Mode, strict, deferred, HasParts, opened, enter, enter_child, fields_or_none, variant_fields, HasFieldsOf, IsFullAs, IsBegunAs, IsTouched, IsContent, AreTouched, AreEntries, IsBehindBase, IsBegunRightly, Suits, IsOff, AllOff, AtCursor, OffBut, Leads, RestsAround}
 use Rattle.fr_model.proofs.Beneath.{down, held_down, IsLow, untouched_below, written_below}
 use Rattle.fr_model.proofs.Agreement.{IsWhole, by_value, by_entry, Agrees, AgreeAll, agree_change, down_same, down_other}
-use Rattle.fr_model.proofs.MapBase.{base_hole}
+use Rattle.fr_model.proofs.Wholes.{base_hole}
 use Rattle.fr_model.proofs.Tokens.{fresh_is}
 use Rattle.fr_model.proofs.Structs.{right_kept, SuitFrom, settled_as, all_from, wholes_suit, count_change, count_holes, holes_suit, suit_change}
 
@@ -16,8 +16,7 @@ IsOpen _ = Unit {0}
 -- field of the variant that is selected, or the value of a map's last entry
 pub data Enterable (table : Table) (s i : ℕ) (t : Tree) : Type 0 where
   a_field : (struct : StructDef) → def_of table s ≡ Def.Struct struct → i < length struct.fields → Enterable table s i t
-  an_element : (item : ShapeId) (n : ℕ) → def_of table s ≡ Def.Array item n → i < n → n ≤ array_limit → IsOpen t
-      → Enterable table s i t
+  an_element : (item : ShapeId) (n : ℕ) → def_of table s ≡ Def.Array item n → i < n → n ≤ array_limit → IsOpen t → Enterable table s i t
   a_variant_field : (k : ℕ) (enumeration : EnumDef) → def_of table s ≡ Def.Enum enumeration → selected t ≡ Some k
       → i < length (variant_fields (def_of table s) k) → Enterable table s i t
   a_value : (key item : ShapeId) → def_of table s ≡ Def.Map key item → (base : ℕ) (children : Trees) → t ≡ begun (as_entries (EntriesKind.Map base)) children
@@ -168,6 +167,10 @@ pub wholes_off : (mode : Mode) (vs : Vals) → AllOff mode (wholes vs)
 wholes_off mode no_vals = tt
 wholes_off mode (first v vs) = (whole_off mode v, wholes_off mode vs)
 
+pub wholes_touched : (vs : Vals) → AreTouched (wholes vs)
+wholes_touched no_vals = tt
+wholes_touched (first v vs) = (tt, wholes_touched vs)
+
 wholes_agree : (table : Table) (s : ℕ) (tracker : Tracker) (vs : Vals) (i : ℕ) (notes : Journal)
     → ((d j : ℕ) → j ≡ i + d → held (down j notes) [] ≡ written (vals_nth vs d)) → AgreeAll table s tracker notes i (wholes vs)
 wholes_agree table s tracker no_vals i notes each = tt
@@ -215,8 +218,7 @@ product_agrees table s no_vals notes (by_entry is empty same) = tt
 product_agrees table s (first v vs) notes (by_entry is empty same) = cc
 
 opening_product : (mode : Mode) (table : Table) (s i : ℕ) (struct : StructDef) (vs : Vals) → def_of table s ≡ Def.Struct struct
-    → i < length struct.fields → fields_fit table struct.fields vs ≡ true
-    → Opening mode table s i (as_fields None) (whole (product vs))
+    → i < length struct.fields → fields_fit table struct.fields vs ≡ true → Opening mode table s i (as_fields None) (whole (product vs))
 opening_product mode table s i struct vs is below fit =
     let suits = wholes_suit table s struct is 0 struct.fields vs (all_from struct.fields) fit in
     record {
@@ -282,8 +284,7 @@ fresh_suits table s = fresh_is (Suits table s) _ (of_def _ refl) (λ e. e)
 pub fresh_at_cursor : (mode : Mode) (def : Def) → AtCursor mode (fresh def)
 fresh_at_cursor mode def = fresh_is (AtCursor mode) def (λ e. tt) (λ e. tt)
 
-pub fresh_agrees : (table : Table) (s : ℕ) (notes : Journal) → held notes [] ≡ just_entered
-    → Agrees table s notes (fresh (def_of table s))
+pub fresh_agrees : (table : Table) (s : ℕ) (notes : Journal) → held notes [] ≡ just_entered → Agrees table s notes (fresh (def_of table s))
 fresh_agrees table s notes agrees = fresh_is (Agrees table s notes) _ (λ empty. by_entry agrees empty refl) (λ e. agrees)
 
 -- one child entered

@@ -1,7 +1,7 @@
 -- Where each shape that is reached is plain no field has a validator, so each value is valid.
 use Rattle.std.proofs.Common.{◌≡◌, ◌<◌, ◌∷◌}
-use Rattle.fr_model.proofs.Common.{ℕ, zero, suc, Bool, true, false, not, List, [], map, length, slice_get, Option, Some, None, refl, ap, arith, Contains, list_all, Contains-append_left, Contains-append_right, Shape, ShapeId, Def, StructDef, Field, ReflectErrorKind, fields_of, Meanings, is_nil, Table, def_or_other, def_of, field_in, is_dynamic, Reached, at_root, further, children_of, own_sources, leads_to, is_plain_field, is_plain_shape, Val, first_failing, failing_field, unless_failing, valid_child, HasParts, count_children, child_count, shape_of_field, shape_of_child, child_shape, Tracker, as_fields, as_elements, child_as}
-use Rattle.fr_model.proofs.Templates.{both_true, nil_is, each_passes, IsStructAt, struct_at}
+use Rattle.fr_model.proofs.Common.{ℕ, zero, suc, true, false, not, List, [], map, length, slice_get, Option, Some, None, refl, ap, arith, Contains, list_all, Contains-append_left, Contains-append_right, Shape, ShapeId, Def, StructDef, Field, ReflectErrorKind, fields_of, Meanings, is_nil, Table, def_or_other, def_of, field_in, is_dynamic, Reached, at_root, further, children_of, own_sources, leads_to, is_plain_field, is_plain_shape, Val, first_failing, failing_field, unless_failing, valid_child, HasParts, count_children, child_count, shape_of_field, shape_of_child, child_shape, Tracker, as_fields, as_elements, child_as}
+use Rattle.fr_model.proofs.Templates.{both_true, nil_is, each_passes, IsStructAt, struct_at, is_not}
 
 -- each shape that this one reaches is plain
 abbrev pub AllPlain : Table → ℕ → Type 0
@@ -22,16 +22,14 @@ field_among (field ∷ fields) (suc i) below =
     (suc rest.0, omega (arith, rest.1), rest.2)
 
 -- a field or an element is among the shapes that its parent leads to
-child_among : (shape : Shape) (i : ℕ) → i < count_children shape.def
-    → Contains (leads_to shape) (record { 0 = shape_of_child shape.def i })
+child_among : (shape : Shape) (i : ℕ) → i < count_children shape.def → Contains (leads_to shape) (record { 0 = shape_of_child shape.def i })
 child_among shape i below =
     Contains-append_left _ _ child (Contains-append_right (own_sources shape) _ child (go shape.def refl below))
   where
     child : ShapeId
     child = record { 0 = shape_of_child shape.def i }
 
-    go : (def : Def) → shape.def ≡ def → i < count_children def
-        → Contains (children_of shape) (record { 0 = shape_of_child shape.def i })
+    go : (def : Def) → shape.def ≡ def → i < count_children def → Contains (children_of shape) (record { 0 = shape_of_child shape.def i })
     go (Def.Struct struct) is below =
         rw is (Contains-append_left _ _ _ (Contains-append_left _ _ _ (field_among struct.fields i below)))
     go (Def.Array t n) is below = rw is (zero, omega arith, refl)
@@ -58,13 +56,9 @@ plain_child table s _ i parts below plain id shape reached is = absurd parts
 pub not_dynamic : (table : Table) (s : ℕ) → AllPlain table s → is_dynamic (def_of table s) ≡ false
 not_dynamic table s plain = go _ refl
   where
-    negated : (b : Bool) → not b ≡ true → b ≡ false
-    negated true e = cc
-    negated false e = refl
-
     go : (found : Option Shape) → slice_get table s ≡ found → is_dynamic (def_or_other found) ≡ false
     go (Some shape) is =
-        negated _ (both_true _ (not (is_dynamic shape.def))
+        is_not _ (both_true _ (not (is_dynamic shape.def))
         (both_true _ (list_all is_plain_field (fields_of shape.def)) (plain s shape at_root is)).0).1
     go None is = refl
 
@@ -86,8 +80,7 @@ none_fails : (hooks : Meanings) (table : Table) (s i : ℕ) (made : Option Val) 
     → failing_field hooks table s None i (field_in (def_of table s) None i) made ≡ None
 none_fails hooks table s i made plain = go (def_of table s) refl
   where
-    of_field : (field : Field) (made : Option Val) → field.validators ≡ []
-        → failing_field hooks table s None i (Some field) made ≡ None
+    of_field : (field : Field) (made : Option Val) → field.validators ≡ [] → failing_field hooks table s None i (Some field) made ≡ None
     of_field field (Some v) none = ap (λ validators. first_failing hooks (def_of table field.shape.0) s None i validators v) none
     of_field field None none = refl
 

@@ -1,12 +1,11 @@
 -- What lies around the cursor rests: no pointer to a slice is open there, and what a set or a dynamic value has there is whole, as is
 -- the base of a map.
-use Rattle.std.proofs.Common.{◌≡◌, ◌<◌, if◌then◌else◌, ◌∷◌, ◌++◌}
-use Rattle.fr_model.proofs.Common.{ℕ, zero, suc, Bool, true, false, [], Option, Some, None, refl, sym, ap, subst, arith, Def, ShapeId, fits, Table, def_of, Val, Vals, set_of, map_of, no_vals, first, is_set, has_same, without_nth, and_item, with_ended_item, number_in, with_key, is_begun_dynamic, with_item, is_open_slice, closed_slice, Place, is_root, up, count_children, parts_as, opened_value, opened, enter, enter_child, Tracker, as_fields, as_elements, as_items, ItemsKind, as_entries, EntriesKind, tracker_of, tracker_at, over_base, Tree, hole, entered, whole, begun, Trees, no_trees, branch, tree_nth, change_nth, change_child, tree_at, change_at, child_as, and_last, count_trees, count_below, holes, wholes, fresh, Suits, AreDone, Rests, AllRest, RestBut, IsBehindBase, RestsAround}
-use Rattle.fr_model.proofs.MapBase.{base_begun, base_without, base_last}
+use Rattle.std.proofs.Common.{◌≡◌, ◌<◌, ◌∷◌, ◌++◌}
+use Rattle.fr_model.proofs.Common.{ℕ, zero, suc, true, false, [], Option, Some, None, refl, sym, ap, subst, arith, Def, ShapeId, fits, Table, def_of, Val, Vals, set_of, map_of, no_vals, first, is_set, without_nth, with_ended_item, number_in, with_key, is_begun_dynamic, with_item, is_open_slice, closed_slice, Place, is_root, up, count_children, parts_as, opened_value, opened, enter, enter_child, Tracker, as_fields, as_elements, as_items, ItemsKind, as_entries, EntriesKind, tracker_of, tracker_at, over_base, Tree, hole, entered, whole, begun, Trees, no_trees, branch, tree_nth, change_nth, change_child, tree_at, change_at, child_as, and_last, count_trees, count_below, holes, wholes, fresh, Suits, AreDone, Rests, AllRest, RestBut, IsBehindBase, RestsAround}
+use Rattle.fr_model.proofs.Wholes.{base_begun, base_without, base_last, done_none, behind_all, without_changed, without_last, done_but, done_left, done_put, done_with, either_way}
 use Rattle.fr_model.proofs.Tokens.{fresh_is}
 use Rattle.fr_model.proofs.Structs.{settled_as}
 use Rattle.fr_model.proofs.Templates.{both_true}
-use Rattle.fr_model.proofs.Wholes.{done_none, behind_all, without_changed, without_last, done_but, done_left, done_put, done_with}
 
 -- what rests, rests around any place in it
 
@@ -32,12 +31,6 @@ rest_but zero (branch t ts) rest = (rests_here t rest.0, rest.1)
 rest_but (suc i) (branch t ts) rest = (rest.0, rest_but i ts rest.1)
 
 -- A change at the cursor
-
-rest_change : (i : ℕ) (Below After : Tree → Type 0) (change : Tree → Tree) (ts : Trees) → ((t : Tree) → Below t → After (change t))
-    → RestBut i Below ts → RestBut i After (change_nth i change ts)
-rest_change i Below After change no_trees step rest = tt
-rest_change zero Below After change (branch t ts) step rest = (step t rest.0, rest.1)
-rest_change (suc i) Below After change (branch t ts) step rest = (rest.0, rest_change i Below After change ts step rest.1)
 
 -- a change of the child that is the cursor's, of which something is known
 rest_changed : (i : ℕ) (Below After : Tree → Type 0) (change : Tree → Tree) (ts : Trees)
@@ -123,14 +116,6 @@ last_rest : (ts : Trees) (last : Tree) → AllRest ts → Rests last → AllRest
 last_rest no_trees last rest here = (here, tt)
 last_rest (branch t ts) last rest here = (rest.0, last_rest ts last rest.1 here)
 
--- what holds of the items, and of those with the value behind them, holds of the items that the value is added to
-pub either_way : (Are : Trees → Type 0) (ts : Trees) (v : Val) → Are ts → Are (and_last ts (whole v)) → Are (and_item ts v)
-either_way Are ts v same more = go (has_same v ts)
-  where
-    go : (b : Bool) → Are (if b then ts else and_last ts (whole v))
-    go true = same
-    go false = more
-
 without_rest : (i : ℕ) (Below : Tree → Type 0) (ts : Trees) → RestBut i Below ts → AllRest (without_nth i ts)
 without_rest i Below no_trees rest = tt
 without_rest zero Below (branch t ts) rest = rest.1
@@ -211,11 +196,10 @@ opened_behind def (whole v) i behind = go _
     go None = tt
 opened_behind def (begun tracker ts) i behind = behind
 
-entered_rests : (i : ℕ) (def : Def) (t : Tree) → IsBehindIn t i → RestsAround [] t
-    → RestsAround (i ∷ []) (change_child i (enter def) t)
+entered_rests : (i : ℕ) (def : Def) (t : Tree) → IsBehindIn t i → RestsAround [] t → RestsAround (i ∷ []) (change_child i (enter def) t)
 entered_rests i def (begun tracker ts) behind rests = (
   done_beside tracker i (enter def) ts (done_but tracker i ts behind rests.0),
-  rest_change i (λ child. RestsAround [] child) (λ child. RestsAround [] child) (enter def) ts (enter_rests def)
+  rest_changed i (λ child. RestsAround [] child) (λ child. RestsAround [] child) (enter def) ts (enter_rests def _)
       (rest_but i ts rests.1),
   behind,
 )
@@ -227,9 +211,7 @@ enter_child_rests table s i t suits behind rests =
     entered_rests i _ _ (opened_behind (def_of table s) t i behind) (opened_rests table s t suits rests)
 
 pub put_among : (i : ℕ) (v : Val) (ts : Trees) → AllRest ts → AllRest (change_nth i (λ old. whole v) ts)
-put_among i v no_trees rest = tt
-put_among zero v (branch t ts) rest = (tt, rest.1)
-put_among (suc i) v (branch t ts) rest = (rest.0, put_among i v ts rest.1)
+put_among i v ts rest = put_one i v (λ child. RestsAround [] child) ts (rest_but i ts rest)
 
 pub last_rests : (ts : Trees) (last : Tree) → AllRest ts → RestsAround [] last
     → RestBut (count_trees ts) (λ child. RestsAround [] child) (and_last ts last)

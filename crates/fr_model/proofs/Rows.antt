@@ -1,6 +1,6 @@
 -- Worked scripts over two small tables, by the machine and by the journal.
 use Rattle.std.proofs.Common.{rules, ◌≡◌, ◌∷◌}
-use Rattle.fr_model.proofs.Common.{plain_shape, plain_field, ℕ, true, List, [], None, Some, Ok, codes, Def, ScalarKind, Field, PlanFault, ReflectErrorKind, Operation, Invariant, no_hooks, Table, IsServed, fits, Val, nat, text, token, product, no_vals, first, PathStep, Call, journal_run, full_run, whole, strict, removed}
+use Rattle.fr_model.proofs.Common.{plain_shape, plain_field, ℕ, true, List, [], None, Some, Ok, codes, Def, ScalarKind, PlanFault, ReflectErrorKind, Operation, Invariant, no_hooks, Table, IsServed, fits, Val, nat, text, token, product, no_vals, first, PathStep, Call, journal_run, full_run, whole, strict, removed}
 use Rattle.fr_model.specs.ContentExamples.{id, refused, struct_of}
 
 -- to write tables and scripts

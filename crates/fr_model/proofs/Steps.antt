@@ -1,11 +1,70 @@
 -- One command does the same to the journal and to the tree.
-use Rattle.std.proofs.Common.{◌≡◌, ◌<◌, ◌==◌, ◌&&◌, ◌||◌, if◌then◌else◌, ◌∷◌, ◌++◌}
-use Rattle.fr_model.proofs.Common.{ℕ, eqb-true, ltb-true, Bool, true, false, List, [], length, nat_lt, Option, Some, None, Result, Ok, Err, refl, sym, ◌∙◌, ap, subst, ReflectErrorKind, Operation, Invariant, Def, IsChecked, is_sized, preset_of, fits, Meanings, Table, def_of, Val, Call, IsFieldCall, field_named, Place, Column, strict_column, deferred_column, is_root, up, shape_at, entered_at, wrote_at, Journal, Held, held, completes, Progress, may_enter, goes_to_child, goes_to_found, writes, ends, goes_up, end_rule, begin_deferred_rule, finishes_with, finish_rule, finish_notes, rule, is_set, is_set_tracker, is_begun_dynamic, is_dynamic_tracker, is_open_slice, HasParts, field_found, Tracker, as_fields, as_elements, as_items, ItemsKind, variant_of, selected, Tree, hole, entered, begun, whole, tree_at, Mode, strict, deferred, State, cursor_shape, cursor_tree, one_more_call, complete, finished, Way, enter_child, enters, unless_refused, field_refusal, named_refusal, at_shape, begins_named, puts, is_str, is_owned_string, takes_shape, set_refusal, puts_default, violates, ended, leaves, is_set_item, is_dynamic_part, ends_item, leaves_deferred, end_in, begins_deferred, finishes, finish_in, step, IsFitting, Suits, IsInOrder}
-use Rattle.fr_model.proofs.Basis.{AllPlain, began_strict, completed_in_order, not_dynamic, along, held_along, by_value, Agrees, agree_along, completes_at, under_entered, under_wrote, follow, PartsAlong, parts_along, at_cursor, suits_at, plain_at, same_shape, entry_at, begun_in_order, put_in_order, completed_in_order, left_in_order, deferred_in_order, preset_template}
+use Rattle.std.proofs.Common.{◌≡◌, ◌++◌, ◌<◌, ◌∷◌, ◌==◌, ◌&&◌, ◌||◌, if◌then◌else◌}
+use Rattle.fr_model.proofs.Common.{ℕ, zero, suc, Bool, true, List, [], length, map, slice_get, Option, Some, None, option_to_list, refl, arith, list_all, Shape, ShapeId, Def, Field, IsChecked, fields_of, contents_of, is_sized, Table, def_or_other, def_of, Place, shape_of_field, shape_of_child, HasParts, Tracker, as_fields, as_elements, Tree, begun, child_as, shape_in, Mode, IsFullAs, Suits, Leads, eqb-true, ltb-true, false, nat_lt, Result, Ok, Err, sym, ◌∙◌, ap, subst, ReflectErrorKind, Operation, Invariant, preset_of, fits, Meanings, Val, Call, IsFieldCall, field_named, Column, strict_column, deferred_column, is_root, up, shape_at, entered_at, wrote_at, Journal, Held, held, completes, Progress, may_enter, goes_to_child, goes_to_found, writes, ends, goes_up, end_rule, begin_deferred_rule, finishes_with, finish_rule, finish_notes, rule, is_set, is_set_tracker, is_begun_dynamic, is_dynamic_tracker, is_open_slice, field_found, as_items, ItemsKind, variant_of, selected, hole, entered, whole, tree_at, strict, deferred, State, cursor_shape, cursor_tree, one_more_call, complete, finished, Way, enter_child, enters, unless_refused, field_refusal, named_refusal, at_shape, begins_named, puts, is_str, is_owned_string, takes_shape, set_refusal, puts_default, violates, ended, leaves, is_set_item, is_dynamic_part, ends_item, leaves_deferred, end_in, begins_deferred, finishes, finish_in, step, IsFitting, IsInOrder}
+use Rattle.fr_shape.specs.declared.shape.ProxyDef.{ProxyDef}
+use Rattle.fr_shape.specs.Checked.{parts_of}
+use Rattle.fr_model.proofs.Basis.{leads_within, leads_child, PartsAlong, suit_nth, both_true, all_of_both, child_as_is, AllPlain, began_strict, completed_in_order, not_dynamic, along, held_along, by_value, Agrees, agree_along, completes_at, under_entered, under_wrote, follow, parts_along, at_cursor, suits_at, plain_at, same_shape, entry_at, begun_in_order, put_in_order, left_in_order, deferred_in_order, preset_template}
 use Rattle.fr_model.proofs.Children.{nothing_below, SeesWhole, sees_whole, may_enter_by, ChildOf, enterable, ChildCase, a_child, a_variant_child, no_child, child_case, only_of_enum, NamedCase, a_named, a_variant_named, no_such_name, no_names, named_case}
 use Rattle.fr_model.proofs.FinishAgreement.{BothFinish, finish_agrees}
 use Rattle.fr_model.proofs.Finishes.{finish_keeps, finish_leads}
-use Rattle.fr_model.proofs.Sized.{sized_at}
+
+abbrev has_size : Table → ShapeId → Bool
+has_size table id = is_sized (def_of table id.0)
+
+sized_field : (table : Table) (fields : List Field) (i : ℕ) → i < length fields
+    → list_all (has_size table) (map (λ (field : Field). field.shape) fields) ≡ true
+    → is_sized (def_of table (shape_of_field (slice_get fields i))) ≡ true
+sized_field table [] i below all = absurd (omega arith)
+sized_field table (field ∷ fields) zero below all = (both_true _ (list_all _ (map (λ (other : Field). other.shape) fields)) all).0
+sized_field table (field ∷ fields) (suc i) below all =
+    sized_field table fields i (omega arith) (both_true _ (list_all _ (map (λ (other : Field). other.shape) fields)) all).1
+
+abbrev field_shapes : Shape → List ShapeId
+field_shapes shape = map (λ (field : Field). field.shape) (fields_of shape.def)
+
+sized_part : (table : Table) (shape : Shape) (tracker : Tracker) (n i : ℕ) → HasParts tracker → IsFullAs shape.def tracker n → i < n
+    → list_all (has_size table) (parts_of shape) ≡ true → is_sized (def_of table (shape_of_child shape.def i)) ≡ true
+sized_part table shape tracker n i parts full_as below all = go shape.def tracker parts full_as both.0 both.1
+  where
+    -- its fields and its contents come first
+    both : (list_all (has_size table) (field_shapes shape) ≡ true) × (list_all (has_size table) (contents_of shape.def) ≡ true)
+    both =
+        let but_sources = all_of_both _
+        (field_shapes shape ++ contents_of shape.def ++ option_to_list shape.inner ++ option_to_list shape.builder)
+        (map (λ (proxy : ProxyDef). proxy.source) _) all in
+        let but_builder = all_of_both _ (field_shapes shape ++ contents_of shape.def ++ option_to_list shape.inner) _ but_sources.0 in
+        let but_inner = all_of_both (has_size table) (field_shapes shape ++ contents_of shape.def) (option_to_list shape.inner) but_builder.0 in
+        all_of_both (has_size table) (field_shapes shape) (contents_of shape.def) but_inner.0
+
+    go : (def : Def) (tracker : Tracker) → HasParts tracker → IsFullAs def tracker n
+        → list_all (has_size table) (map (λ (field : Field). field.shape) (fields_of def)) ≡ true
+        → list_all (has_size table) (contents_of def) ≡ true → is_sized (def_of table (shape_of_child def i)) ≡ true
+    go (Def.Struct struct) (as_fields None) parts full_as fields held =
+        sized_field table struct.fields i (omega (arith, full_as, below)) fields
+    go (Def.Array t m) as_elements parts full_as fields held = (both_true _ true held).0
+    go _ (as_fields None) parts full_as fields held = absurd full_as
+    go _ as_elements parts full_as fields held = absurd full_as
+    go _ _ parts full_as fields held = absurd parts
+
+sized_child : (table : Table) (s : ℕ) (tracker : Tracker) (n i : ℕ) → IsChecked table → HasParts tracker
+    → IsFullAs (def_of table s) tracker n → i < n → is_sized (def_of table (child_as table s tracker i)) ≡ true
+sized_child table s tracker n i checked parts full_as below = rw (child_as_is table s tracker i parts) (go tracker parts _ refl full_as)
+  where
+    go : (tracker : Tracker) → HasParts tracker → (found : Option Shape) → slice_get table s ≡ found
+        → IsFullAs (def_or_other found) tracker n → is_sized (def_of table (shape_of_child (def_or_other found) i)) ≡ true
+    go tracker parts (Some shape) is full_as = sized_part table shape tracker n i parts full_as below (checked.sizes s shape is)
+    go (as_fields None) parts None is full_as = absurd full_as
+    go as_elements parts None is full_as = absurd full_as
+    go _ parts None is full_as = absurd parts
+
+pub sized_at : (mode : Mode) (table : Table) (s : ℕ) (here : Place) (t : Tree) → IsChecked table → PartsAlong here t
+    → Leads mode here t → Suits table s t → is_sized (def_of table s) ≡ true → is_sized (def_of table (shape_in table s here t)) ≡ true
+sized_at mode table s [] t checked along leads suits sized = sized
+sized_at mode table s (i ∷ here) (begun tracker ts) checked along leads suits sized =
+    sized_at mode table _ here _ checked along.1
+    (leads_child mode i (λ child. Leads mode here child) ts leads) (suit_nth table s tracker i 0 ts i (omega arith) suits.1)
+    (sized_child table s tracker _ i checked along.0 suits.0.0 (leads_within mode i (λ child. Leads mode here child) ts leads))
+sized_at mode table s (i ∷ here) _ checked along leads suits sized = absurd leads
 
 -- a builder's state and a run of the rules that have come equally far
 pub record Alike (table : Table) (root : ℕ) (state : State) (run : Progress) : Type 0 where
@@ -222,12 +281,8 @@ module _ (hooks : Meanings) (table : Table) (checked : IsChecked table) (root : 
 
   -- end in deferred mode
   left_alike : (start : ℕ) → state.mode ≡ deferred start → start < length state.cursor → Alike table root (leaves state) (goes_up run)
-  left_alike start is deeper = record {
-    in_order = left_in_order table root start state is deeper order;
-    agrees = agrees;
-    same_cursor = refl;
-    same_mode = refl;
-  }
+  left_alike start is deeper =
+      record { in_order = left_in_order table root start state is deeper order; agrees = agrees; same_cursor = refl; same_mode = refl }
 
   -- the place at the cursor, below the root, is no item of a set and no part of a dynamic value
   alone : is_root state.cursor ≡ false → (is_set_item state ≡ false) × (is_dynamic_part state ≡ false)
@@ -284,12 +339,8 @@ module _ (hooks : Meanings) (table : Table) (checked : IsChecked table) (root : 
 
   -- deferred mode
   defers_alike : (mode : Mode) → state.mode ≡ mode → BothStep table root (begins_deferred state mode) (begin_deferred_rule run mode)
-  defers_alike strict is = record {
-    in_order = deferred_in_order table root state is order;
-    agrees = agrees;
-    same_cursor = refl;
-    same_mode = refl;
-  }
+  defers_alike strict is =
+      record { in_order = deferred_in_order table root state is order; agrees = agrees; same_cursor = refl; same_mode = refl }
   defers_alike (deferred start) is = tt
 
   finished_alike : (tree : Option Tree) (added : Option Journal)

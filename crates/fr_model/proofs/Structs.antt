@@ -1,6 +1,6 @@
 -- Trees and their values: what fits opens into fitting children, and fitting children make what fits.
 use Rattle.std.proofs.Common.{◌≡◌, ◌+◌, if◌then◌else◌, ◌∷◌}
-use Rattle.fr_model.proofs.Common.{IsContent, AreTouched, AreEntries, ℕ, zero, suc, eq-eqb, Bool, true, false, List, [], length, slice_get, Option, Some, None, refl, sym, ◌∙◌, ap, subst, arith, Def, ShapeId, StructDef, EnumDef, VariantDef, Field, Table, def_of, settled, Operation, Val, Vals, Entries, list_of, no_vals, first, no_entries, fits, all_fit, entries_fit, fields_fit, fields_of_variant, points_at, count_vals, occurs, vals_occur, pointee_refusal, pointer_refusal, is_slice, keys_apart, entries_in, left_out, shape_or_zero, pointee_shape, item_shape, is_key, vals_nth, one_more, product_of, Tracker, as_fields, as_elements, as_content, ContentKind, as_items, ItemsKind, as_entries, EntriesKind, Tree, Trees, no_trees, branch, tree_nth, change_nth, child_as, shapes_from, count_trees, holes, wholes, value_as, made, HasParts, HasFieldsOf, HasContent, PointsTo, IsFullAs, IsBegunAs, MayPoint, IsBegunRightly, Suits, SuitAll}
+use Rattle.fr_model.proofs.Common.{IsContent, AreTouched, AreEntries, ℕ, zero, suc, eq-eqb, Bool, true, false, List, [], length, slice_get, Option, Some, None, refl, sym, ◌∙◌, ap, subst, arith, Def, ShapeId, StructDef, EnumDef, VariantDef, Field, Table, def_of, settled, Operation, Val, Vals, Entries, list_of, no_vals, first, no_entries, fits, all_fit, entries_fit, fields_fit, fields_of_variant, points_at, count_vals, occurs, vals_occur, pointee_refusal, pointer_refusal, is_slice, keys_apart, entries_in, left_out, shape_or_zero, pointee_shape, item_shape, is_key, vals_nth, one_more, product_of, Tracker, as_fields, as_elements, as_content, ContentKind, as_items, ItemsKind, as_entries, EntriesKind, Tree, Trees, no_trees, branch, tree_nth, change_nth, child_as, shapes_from, count_trees, holes, wholes, value_as, made, HasParts, HasFieldsOf, HasContent, PointsTo, IsFullAs, MayPoint, IsBegunRightly, Suits, SuitAll}
 use Rattle.fr_shape.specs.declared.shape.PointerDef.{PointerDef}
 use Rattle.fr_model.proofs.GatheredParts.{items_apart, items_fit, items_hold, entries_apart, entry_fits, entries_hold, elements_once, members_once, dynamics_hold}
 use Rattle.fr_model.proofs.Templates.{both_true}
@@ -23,13 +23,11 @@ settled_as table s {def = def} e itself = go table def e itself
 abbrev pub AreFrom : List Field → ℕ → List Field → Type 0
 AreFrom all i fields = (k : ℕ) → slice_get all (i + k) ≡ slice_get fields k
 
-next_are : (all : List Field) (i : ℕ) (field : Field) (fields : List Field) → AreFrom all i (field ∷ fields)
-    → AreFrom all (suc i) fields
+next_are : (all : List Field) (i : ℕ) (field : Field) (fields : List Field) → AreFrom all i (field ∷ fields) → AreFrom all (suc i) fields
 next_are all i field fields from k =
     let e : suc i + k ≡ i + suc k = omega arith in ap (slice_get all) e ∙ from (suc k)
 
-first_is : (all : List Field) (i : ℕ) (field : Field) (fields : List Field) → AreFrom all i (field ∷ fields)
-    → slice_get all i ≡ Some field
+first_is : (all : List Field) (i : ℕ) (field : Field) (fields : List Field) → AreFrom all i (field ∷ fields) → slice_get all i ≡ Some field
 first_is all i field fields from = let e : i ≡ i + 0 = omega arith in ap (slice_get all) e ∙ from 0
 
 pub all_from : (all : List Field) → AreFrom all 0 all
@@ -146,8 +144,7 @@ sound_as table s (as_entries (EntriesKind.Object keys)) ts rightly = rightly.1
 sound_as table s _ ts rightly = tt
 
 -- the items that fit make a slice that fits, and so the pointer to it
-pointed_slice : (table : Table) (s : ℕ) (pointer : PointerDef) (vs : Vals) → def_of table s ≡ Def.Pointer pointer
-    → MayPoint table s true
+pointed_slice : (table : Table) (s : ℕ) (pointer : PointerDef) (vs : Vals) → def_of table s ≡ Def.Pointer pointer → MayPoint table s true
     → ((shape : ℕ) → ((def : Def) → def_of table (pointee_shape (def_of table s)) ≡ def → item_shape def ≡ shape)
     → all_fit table shape vs ≡ true) → points_at pointer.pointee (λ t. fits table t (list_of vs)) ≡ true
 pointed_slice table s pointer vs is points fit = go pointer.pointee refl (rw is at (has_pointee table (def_of table s) points.0))
@@ -172,7 +169,7 @@ one_holds _ t one = absurd (omega arith)
 
 -- keys and values in turn make entries that fit
 
-odd_next : (i : ℕ) → is_key i ≡ true → is_key (suc i) ≡ false
+pub odd_next : (i : ℕ) → is_key i ≡ true → is_key (suc i) ≡ false
 odd_next zero e = refl
 odd_next (suc zero) e = cc
 odd_next (suc (suc i)) e = odd_next i e
@@ -283,12 +280,16 @@ value_holds table s tracker vs count fit t = go tracker _ refl count fit
     go (as_fields (Some k)) def is count fit = omega arith
     go as_elements def is count fit = omega arith
 
-pub begun_full : (def : Def) (tracker : Tracker) (count : ℕ) → IsBegunAs def tracker count → IsFullAs def tracker count
-begun_full def tracker count begun_as = begun_as.0
-
 -- the trees suit the shapes of the children from number i on, of a place of shape s that is begun so
 abbrev pub SuitFrom : Table → ℕ → Tracker → ℕ → Trees → Type 0
 SuitFrom table s tracker i ts = SuitAll table (shapes_from table s tracker (count_trees ts) i) ts
+
+-- and as well those of the children of one that is begun otherwise, if these are the same
+pub suit_alike : (table : Table) (s : ℕ) (one other : Tracker) → ((i : ℕ) → child_as table s one i ≡ child_as table s other i) → (i : ℕ)
+    (ts : Trees) → SuitFrom table s one i ts → SuitFrom table s other i ts
+suit_alike table s one other same i no_trees suit = tt
+suit_alike table s one other same i (branch t ts) suit =
+    (subst (λ (shape : ℕ). Suits table shape t) (same i) suit.0, suit_alike table s one other same (suc i) ts suit.1)
 
 -- what is opened
 

@@ -1,18 +1,46 @@
--- What a checked table's presets and defaults give: values that fit and hold no token.
-use Rattle.std.proofs.Common.{◌≡◌, ◌&&◌, ◌∷◌, ◌++◌}
-use Rattle.fr_model.proofs.Common.{ℕ, Bool, true, false, List, [], slice_get, Option, Some, None, is_some, Result, Ok, zero, suc, refl, sym, ◌∙◌, ap, subst, list_all, flat_map, Shape, Def, StructDef, Field, DefaultSource, ShapeId, VariantDef, Operation, ReflectErrorKind, IsChecked, fields_of, is_template, default_is_template, is_none_val, preset_in, preset_of, strict_by_mark, by_strict_rule, deferred_by_mark, by_deferred_rule, Table, def_or_other, def_of, field_of_variant, field_in, is_nil, Val, none, fits, tokens, times, occurs, Column, strict_column, deferred_column, child_shape, shape_of_field, shape_of_child, fill_by, fill_of_field, fill_in, fill_at, default_or, default_by_mark, field_default}
+-- What a checked table's presets and defaults give, and what a text or bytes mean at a place, the hooks being lawful: values that fit
+-- and hold no token.
+use Rattle.std.proofs.Common.{◌≡◌, ◌&&◌, ◌∷◌, ◌++◌, ◌||◌, ◌<◌}
+use Rattle.fr_model.proofs.Common.{ℕ, Bool, true, false, List, [], slice_get, Option, Some, None, is_some, Result, Ok, zero, suc, refl, sym, ◌∙◌, ap, subst, list_all, flat_map, Shape, Def, StructDef, Field, DefaultSource, ShapeId, VariantDef, Operation, ReflectErrorKind, IsChecked, fields_of, is_template, default_is_template, is_none_val, preset_in, preset_of, strict_by_mark, by_strict_rule, deferred_by_mark, by_deferred_rule, Table, def_or_other, def_of, field_of_variant, field_in, is_nil, Val, none, fits, tokens, times, occurs, Column, strict_column, deferred_column, child_shape, shape_of_field, shape_of_child, fill_by, fill_of_field, fill_in, fill_at, default_or, default_by_mark, field_default, not, length, Meanings, Contains, arith}
 use Rattle.fr_shape.specs.TokenLaws.{occurs_times}
 use Rattle.fr_model.specs.Step.{operation_failed}
+use Rattle.std.specs.Option.{option_map_or}
+use Rattle.std.proofs.lemmas.Option.{slice_get_within}
+use Rattle.fr_shape.specs.HookLaws.{given}
+use Rattle.fr_shape.specs.Hooks.{Meaning, gives, unsupported, IfGives, IsLawful, FitsTarget, HoldsNoToken}
+use Rattle.fr_shape.specs.declared.shape.HookId.{HookId}
+use Rattle.fr_shape.specs.Parsing.{parsed}
+use Rattle.fr_shape.specs.ParsingLaws.{parsed_fits, parsed_no_token}
+use Rattle.fr_model.specs.Parses.{parse_of, parse_bytes_of, text_meant, bytes_meant}
 
 -- lists and tests
 
 pub some_is : {T : Type 0} (x y : T) → Some x ≡ Some y → x ≡ y
 some_is x y e = cc
 
+-- one of the others, the one in front of them, and the only one
+pub further : {T : Type 0} (x : T) (xs : List T) (y : T) → Contains xs y → Contains (x ∷ xs) y
+further x xs y (k, below, is) = (suc k, omega arith, is)
+
+pub itself : {T : Type 0} (x : T) (xs : List T) (y : T) → x ≡ y → Contains (x ∷ xs) y
+itself x xs y same = (0, omega arith, same)
+
+pub only_one : {T : Type 0} (x y : T) → Contains (x ∷ []) y → y ≡ x
+only_one x y (zero, below, is) = sym is
+only_one x y (suc k, below, is) = absurd (omega arith)
+
 pub both_true : (a b : Bool) → (a && b) ≡ true → (a ≡ true) × (b ≡ true)
 both_true true true h = (refl, refl)
 both_true true false h = cc
 both_true false b h = cc
+
+pub both_false : (a b : Bool) → (a || b) ≡ false → (a ≡ false) × (b ≡ false)
+both_false true b e = cc
+both_false false b e = (refl, e)
+
+pub is_not : (b : Bool) → not b ≡ true → b ≡ false
+is_not true e = cc
+is_not false e = refl
 
 pub each_passes : {X : Type 0} (test : X → Bool) (xs : List X) (i : ℕ) (x : X) → list_all test xs ≡ true
     → slice_get xs i ≡ Some x → test x ≡ true
@@ -120,8 +148,7 @@ field_passes test (Def.Enum enumeration) None i field all at = cc
 field_passes test _ selected i field all at = cc
 
 default_template : (table : Table) (s : ℕ) (selected : Option ℕ) (i : ℕ) (field : Field) (v : Val) → IsChecked table
-    → field_in (def_of table s) selected i ≡ Some field → field.default ≡ Some (DefaultSource.Custom v)
-    → IsTemplate table field.shape.0 v
+    → field_in (def_of table s) selected i ≡ Some field → field.default ≡ Some (DefaultSource.Custom v) → IsTemplate table field.shape.0 v
 default_template table s selected i field v checked at marked = go _ refl at
   where
     go : (found : Option Shape) → slice_get table s ≡ found → field_in (def_or_other found) selected i ≡ Some field
@@ -205,3 +232,45 @@ field_default_template table s selected i field v checked at e =
     go None (Some u) marked is e =
         let same : u ≡ v = cc in preset_template table field.shape.0 v checked (is ∙ ap Some same)
     go None None marked is e = cc
+
+module _ (hooks : Meanings) (table : Table) (s : ℕ) (codes : List ℕ) (v : Val) (checked : IsChecked table) (lawful : IsLawful hooks) where
+  -- what a shape's hook makes of them, and without one something else
+  of_hook : (meant : HookId → Meaning) (otherwise : Meaning)
+      → ((hook : HookId) → IfGives (meant hook) (FitsTarget table s)) → ((hook : HookId) → IfGives (meant hook) (HoldsNoToken table s))
+      → (otherwise ≡ gives v → IsTemplate table s v) → (hook : Option HookId) → s < length table
+      → option_map_or meant hook otherwise ≡ gives v → IsTemplate table s v
+  of_hook meant otherwise fit hold by_itself (Some hook) within e = record {
+    fit = given _ v (FitsTarget table s) e (fit hook) checked within;
+    no_tokens = given _ v (HoldsNoToken table s) e (hold hook) checked within;
+  }
+  of_hook meant otherwise fit hold by_itself None within e = by_itself e
+
+  pub text_template : text_meant hooks table s codes ≡ gives v → IsTemplate table s v
+  text_template e = go (slice_get table s) refl e
+    where
+      built_in : parsed (def_of table s) codes ≡ gives v → IsTemplate table s v
+      built_in e = record {
+        fit = given _ v (λ (w : Val). fits table s w ≡ true) e (parsed_fits table s codes);
+        no_tokens = given _ v (λ (w : Val). tokens w ≡ []) e (parsed_no_token (def_of table s) codes);
+      }
+
+      meant : HookId → Meaning
+      meant hook = hooks.parse table hook.0 s codes
+
+      go : (found : Option Shape) → slice_get table s ≡ found
+          → option_map_or meant (parse_of found) (parsed (def_of table s) codes) ≡ gives v → IsTemplate table s v
+      go (Some shape) is e = of_hook meant _ (λ hook. lawful.parsed_fits table hook.0 s codes)
+          (λ hook. lawful.parsed_tokens table hook.0 s codes) built_in shape.parse (slice_get_within table s shape is) e
+      go None is e = built_in e
+
+  pub bytes_template : bytes_meant hooks table s codes ≡ gives v → IsTemplate table s v
+  bytes_template e = go (slice_get table s) refl e
+    where
+      meant : HookId → Meaning
+      meant hook = hooks.parse_bytes table hook.0 s codes
+
+      go : (found : Option Shape) → slice_get table s ≡ found → option_map_or meant (parse_bytes_of found) unsupported ≡ gives v
+          → IsTemplate table s v
+      go (Some shape) is e = of_hook meant _ (λ hook. lawful.parsed_bytes_fits table hook.0 s codes)
+          (λ hook. lawful.parsed_bytes_tokens table hook.0 s codes) (λ none. cc) shape.parse_bytes (slice_get_within table s shape is) e
+      go None is e = cc

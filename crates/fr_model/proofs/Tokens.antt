@@ -15,8 +15,7 @@ pub wholes_hold : (vs : Vals) (t : ℕ) → trees_occur (wholes vs) t ≡ vals_o
 wholes_hold no_vals t = refl
 wholes_hold (first v vs) t = let rest = wholes_hold vs t in omega arith
 
-pub opened_holds : (tracker : Tracker) (count : ℕ) (tree : Tree) (t : ℕ)
-    → tree_occurs (opened_as tracker count tree) t ≡ tree_occurs tree t
+pub opened_holds : (tracker : Tracker) (count : ℕ) (tree : Tree) (t : ℕ) → tree_occurs (opened_as tracker count tree) t ≡ tree_occurs tree t
 opened_holds tracker count hole t = refl
 opened_holds tracker count entered t = holes_hold count t
 opened_holds tracker count (begun made trees) t = refl
@@ -52,8 +51,7 @@ enter_in_holds : (def : Def) (i : ℕ) (tree : Tree) (t : ℕ) → tree_occurs (
 enter_in_holds def i (begun tracker trees) t = enter_nth_holds def i trees t
 enter_in_holds def i _ t = refl
 
-pub enter_child_holds : (table : Table) (s i : ℕ) (tree : Tree) (t : ℕ)
-    → tree_occurs (enter_child table s i tree) t ≡ tree_occurs tree t
+pub enter_child_holds : (table : Table) (s i : ℕ) (tree : Tree) (t : ℕ) → tree_occurs (enter_child table s i tree) t ≡ tree_occurs tree t
 enter_child_holds table s i tree t =
     enter_in_holds _ i (opened_as (tracker_of (def_of table s)) (child_count table s) tree) t ∙ opened_holds _ _ tree t
 

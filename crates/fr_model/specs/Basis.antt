@@ -1,6 +1,6 @@
 -- The names of places, trees and values that later definitions use, passed on from one place. Declares nothing.
 pub use Rattle.fr_model.specs.Collections.{leaves_item_out, number_in, has_same, unless_map, unless_set, is_map_like, is_set_tracker, with_key, is_set, key_refusal, value_refusal, last_of, set_item_refusal, with_ended_item}
-pub use Rattle.fr_model.specs.Commands.{Call, IsFieldCall, IsFieldScript, BeginDeferred, BeginErr, BeginField, BeginKey, BeginListItem, BeginNthField, BeginObjectEntry, BeginOk, BeginSetItem, BeginSmartPtr, BeginSome, BeginValue, End, FinishDeferred, InitArray, InitList, InitListWithCapacity, InitMap, InitSet, SelectNthVariant, SelectVariant, SelectVariantNamed, Set, SetEmptySharedSlice, SetNthFieldToDefault}
+pub use Rattle.fr_model.specs.Commands.{Call, IsFieldCall, IsFieldScript, BeginDeferred, BeginErr, BeginField, BeginKey, BeginListItem, BeginNthField, BeginObjectEntry, BeginOk, BeginSetItem, BeginSmartPtr, BeginSome, BeginValue, End, FinishDeferred, InitArray, InitList, InitListWithCapacity, InitMap, InitSet, ParseFromBytes, ParseFromStr, SelectNthVariant, SelectVariant, SelectVariantNamed, Set, SetEmptySharedSlice, SetNthFieldToDefault}
 pub use Rattle.fr_model.specs.Complete.{missing_value, missing_field, complete, invalid_field, complete_all, value_as, lack}
 pub use Rattle.fr_model.specs.Contents.{points_to_slice, content_anew, is_result, pointer_refusal, variant_anew, slice_anew, kept_so, kept_in, kept_slice, kept_option, is_slice}
 pub use Rattle.fr_model.specs.DynamicPlaces.{kept_array, kept_object, entry_number, with_entry, is_begun_dynamic, array_anew, object_anew, entry_refusal, is_begun_object}

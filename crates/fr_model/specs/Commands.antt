@@ -11,6 +11,8 @@ pub data Call : Type 0 where
   SetNthFieldToDefault : ℕ → Call
   Set : ℕ → Val → Call
   SetDefault : Call
+  ParseFromStr : (text : List ℕ) → Call
+  ParseFromBytes : (bytes : List ℕ) → Call
   SetEmptySharedSlice : Call
   InitList : Call
   InitListWithCapacity : ℕ → Call
@@ -40,6 +42,8 @@ call_of (Command.BeginNthField i) = Call.BeginNthField i
 call_of (Command.SetNthFieldToDefault i) = Call.SetNthFieldToDefault i
 call_of (Command.Set shape v) = Call.Set shape.0 (view v)
 call_of Command.SetDefault = Call.SetDefault
+call_of (Command.ParseFromStr text) = Call.ParseFromStr text
+call_of (Command.ParseFromBytes bytes) = Call.ParseFromBytes bytes
 call_of Command.SetEmptySharedSlice = Call.SetEmptySharedSlice
 call_of Command.InitList = Call.InitList
 call_of (Command.InitListWithCapacity n) = Call.InitListWithCapacity n

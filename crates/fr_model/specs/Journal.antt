@@ -271,6 +271,8 @@ rule_at table root s run (Call.BeginNthField i) = goes_to_found table s run (Som
 rule_at table root s run (Call.SetNthFieldToDefault i) = None
 rule_at table root s run (Call.Set given v) = writes run (if s == given then Some v else None)
 rule_at table root s run Call.SetDefault = writes run (preset_of table s)
+rule_at table root s run (Call.ParseFromStr text) = None
+rule_at table root s run (Call.ParseFromBytes bytes) = None
 rule_at table root s run Call.SetEmptySharedSlice = None
 rule_at table root s run Call.InitList = None
 rule_at table root s run (Call.InitListWithCapacity n) = None

@@ -1,6 +1,7 @@
 -- Laws of the tree and of the steps.
 use Rattle.std.specs.Prelude.{◌≡◌, ◌+◌, ◌<◌, ◌≤◌}
 use Rattle.fr_model.specs.Common.{ℕ, true, not, List, is_none, is_some, Some, Result, Ok, Err, ReflectErrorKind, IsChecked, Meanings, is_nil, Table, Val, fits, occurs, PathStep}
+use Rattle.fr_shape.specs.Hooks.{IsLawful}
 use Rattle.fr_model.specs.Basis.{Call, Tree, tree_occurs, State, initial, complete, lack, failures, Column, strict_column, IsFitting, brings, Suits, IsInOrder, RestsAround, AreDistinct, IsWell}
 use Rattle.fr_model.specs.Dropping.{dropped_by_completing}
 use Rattle.fr_model.specs.Finish.{closed}
@@ -43,7 +44,7 @@ held_after (Err kind) t = 0
 -- What the tree held and the command brought is what is held after the command, and what it dropped.
 abbrev pub StepKeepsTokens : Type 0
 StepKeepsTokens =
-    (hooks : Meanings) (table : Table) (root : ℕ) (state : State) (command : Call) → IsChecked table
+    (hooks : Meanings) (table : Table) (root : ℕ) (state : State) (command : Call) → IsLawful hooks → IsChecked table
     → IsInOrder table root state → (t : ℕ) → tree_occurs state.tree t + brings command t
     ≡ held_after (step hooks table root state command) t + removed hooks table root state command t
 
@@ -67,7 +68,7 @@ StartIsWell = (table : Table) (root : ℕ) → IsWell table root (initial table 
 -- an admitted command, if it is fitting, leads from a state in order to a state in order
 abbrev pub StepKeepsOrder : Type 0
 StepKeepsOrder =
-    (hooks : Meanings) (table : Table) (root : ℕ) (state next : State) (command : Call) → IsChecked table
+    (hooks : Meanings) (table : Table) (root : ℕ) (state next : State) (command : Call) → IsLawful hooks → IsChecked table
     → IsInOrder table root state → IsFitting table command → step hooks table root state command ≡ Ok next → IsInOrder table root next
 
 -- and if what lay around the cursor rested, so it does then
@@ -85,5 +86,5 @@ pub record IsFresh (state : State) (command : Call) : Type 0 where
 -- an admitted command, if it is fresh, leaves no token twice in the tree of a well state
 abbrev pub StepKeepsDistinct : Type 0
 StepKeepsDistinct =
-    (hooks : Meanings) (table : Table) (root : ℕ) (state next : State) (command : Call) → IsChecked table
+    (hooks : Meanings) (table : Table) (root : ℕ) (state next : State) (command : Call) → IsLawful hooks → IsChecked table
     → IsWell table root state → IsFresh state command → step hooks table root state command ≡ Ok next → AreDistinct next.tree

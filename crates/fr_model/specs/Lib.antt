@@ -25,11 +25,13 @@ pub mod FinishExamples
 pub mod FinishLaws
 pub mod Gathering
 pub mod GatheringLaws
+pub mod HookExamples
 pub mod Items
 pub mod Journal
 pub mod Kinds
 pub mod Laws
 pub mod ListExamples
+pub mod Parses
 pub mod PartLaws
 pub mod PathLaws
 pub mod Paths

@@ -65,7 +65,7 @@ dropped_at_end hooks table s state t =
     dropped_by_column (column_at_end state.mode (leaves_set_item state || leaves_dynamic_part state)) hooks table s state
     (leaves_set_item state) t
 
--- What an admitted command drops, at a place of shape s, the root having shape `root`: `set`, `set_default` and
+-- What an admitted command drops, at a place of shape s, the root having shape `root`: `set`, `set_default`, the two that parse and
 -- `set_empty_shared_slice` what stood there, for their value takes its place; `set_nth_field_to_default` what stood at that field; a
 -- command that begins a content, a side or a pointee, an array or an object of a dynamic value, or selects a variant, what stood there,
 -- unless it is kept; `end` and `finish_deferred` what is left out of the sets and maps that complete; no other command drops anything.
@@ -75,6 +75,8 @@ replaced hooks table root s state (Call.BeginNthField i) t = 0
 replaced hooks table root s state (Call.SetNthFieldToDefault i) t = occurs_in_child table s state i t
 replaced hooks table root s state (Call.Set given v) t = occurs_here state t
 replaced hooks table root s state Call.SetDefault t = occurs_here state t
+replaced hooks table root s state (Call.ParseFromStr text) t = occurs_here state t
+replaced hooks table root s state (Call.ParseFromBytes bytes) t = occurs_here state t
 replaced hooks table root s state Call.SetEmptySharedSlice t = occurs_here state t
 replaced hooks table root s state Call.InitList t = dropped_if (is_dynamic (def_of table s)) (kept_array (cursor_tree state)) state t
 replaced hooks table root s state (Call.InitListWithCapacity n) t =

@@ -2,9 +2,9 @@
 use Rattle.std.specs.Prelude.{◌≡◌, ◌&&◌}
 use Rattle.fr_model.specs.Common.{Bool, true, is_none, list_all, Shape, Def, Field, VariantDef, is_nil, Table}
 
--- a field without proxies and without validators
+-- a field without proxies
 abbrev pub serves_field : Field → Bool
-serves_field field = is_none field.proxy && is_nil field.format_proxies && is_nil field.validators
+serves_field field = is_none field.proxy && is_nil field.format_proxies
 
 abbrev pub serves_variant : VariantDef → Bool
 serves_variant variant = list_all serves_field variant.fields
@@ -28,12 +28,11 @@ serves_def Def.Dynamic = true
 serves_def Def.Undefined = true
 serves_def Def.Other = true
 
--- a shape of such a definition that wraps nothing, isn't built from another, and asks no hook
+-- a shape of such a definition that wraps nothing, isn't built or converted from another, and has no proxy
 abbrev pub serves : Shape → Bool
 serves shape =
     serves_def shape.def && is_none shape.inner && is_none shape.builder && is_none shape.convert
-    && is_none shape.parse && is_none shape.parse_bytes && is_none shape.proxy && is_nil shape.format_proxies
-    && is_none shape.invariant
+    && is_none shape.proxy && is_nil shape.format_proxies
 
 -- the builder serves each shape of the table
 abbrev pub IsServed : Table → Type 0

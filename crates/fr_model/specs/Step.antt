@@ -6,6 +6,9 @@ use Rattle.fr_model.specs.Basis.{Call, is_result, pointer_refusal, points_to_sli
 use Rattle.fr_model.specs.Converting.{converted}
 use Rattle.fr_model.specs.Items.{init_array_refusal, item_refusal, is_open_slice, closed_slice, shared_slice_refusal}
 use Rattle.fr_model.specs.Finish.{finished, finish_cause, kind_of}
+use Rattle.fr_model.specs.Parses.{text_meant, bytes_meant}
+use Rattle.fr_shape.specs.Hooks.{Meaning, gives, refuses, unsupported}
+use Rattle.fr_shape.specs.Invariants.{keeps_invariants}
 pub use Rattle.fr_model.specs.Entering.{Way, enters, opened_value, parts_as, opened_as, opened, enter, enter_child}
 pub use Rattle.fr_model.specs.Refusals.{operation_failed, violates, at_shape, was_not_a, element_refusal, variant_field_refusal, field_refusal, named_refusal, is_str, is_owned_string_kind, is_owned_string, takes_shape, set_refusal, unexpected_unless, init_list_refusal, init_map_refusal, init_set_refusal}
 
@@ -62,6 +65,24 @@ puts_default s state None = Err (operation_failed s Operation.NoDefault)
 -- set_default puts the default of the place's shape, and is refused where it has none
 abbrev pub set_default : Table → ℕ → State → Result State ReflectErrorKind
 set_default table s state = puts_default s state (preset_of table s)
+
+-- Parsing
+
+-- the value that is given is put; what refuses is refused so, and what doesn't do this fails by that operation
+abbrev pub puts_parsed : ℕ → State → Meaning → (refusal : ReflectErrorKind) → Operation → Result State ReflectErrorKind
+puts_parsed s state (gives v) refusal operation = Ok (puts state v)
+puts_parsed s state (refuses message) refusal operation = Err refusal
+puts_parsed s state unsupported refusal operation = Err (operation_failed s operation)
+
+-- parse_from_str puts what the text means at the place; the refusal doesn't tell what the hook says
+abbrev pub parse_from_str : Meanings → Table → ℕ → State → (text : List ℕ) → Result State ReflectErrorKind
+parse_from_str hooks table s state text =
+    puts_parsed s state (text_meant hooks table s text) (ReflectErrorKind.ParseFailed (record { 0 = s })) Operation.NoParsing
+
+-- parse_from_bytes does so with bytes
+abbrev pub parse_from_bytes : Meanings → Table → ℕ → State → (bytes : List ℕ) → Result State ReflectErrorKind
+parse_from_bytes hooks table s state bytes =
+    puts_parsed s state (bytes_meant hooks table s bytes) (operation_failed s Operation.BytesNotParsed) Operation.NoParsingOfBytes
 
 -- A field's default
 
@@ -379,6 +400,8 @@ step_at hooks table root s state (Call.BeginNthField i) = begin_nth_field table 
 step_at hooks table root s state (Call.SetNthFieldToDefault i) = set_nth_field_to_default table s state i
 step_at hooks table root s state (Call.Set given v) = set table s state given v
 step_at hooks table root s state Call.SetDefault = set_default table s state
+step_at hooks table root s state (Call.ParseFromStr text) = parse_from_str hooks table s state text
+step_at hooks table root s state (Call.ParseFromBytes bytes) = parse_from_bytes hooks table s state bytes
 step_at hooks table root s state Call.SetEmptySharedSlice = set_empty_shared_slice table s state
 step_at hooks table root s state Call.InitList = init_list table s state
 step_at hooks table root s state (Call.InitListWithCapacity n) = init_list table s state
@@ -405,8 +428,10 @@ step_at hooks table root s state Call.FinishDeferred = finish_deferred hooks tab
 abbrev pub step : Meanings → Table → ℕ → State → Call → Result State ReflectErrorKind
 step hooks table root state command = step_at hooks table root (cursor_shape table root state) state command
 
+-- a value is built if each invariant that it has to keep is kept
 abbrev pub built : Meanings → Table → ℕ → Tree → Option Val → Result Val ReflectErrorKind
-built hooks table root t (Some v) = Ok v
+built hooks table root t (Some v) =
+    if keeps_invariants hooks.check table root v then Ok v else Err (violates Invariant.TypeInvariant)
 built hooks table root t None = Err (cause hooks table root t)
 
 abbrev pub build_in : Meanings → Table → ℕ → State → Mode → Result Val ReflectErrorKind
@@ -415,7 +440,6 @@ build_in hooks table root state strict =
     if is_root state.cursor then built hooks table root state.tree (complete strict_column hooks table root state.tree)
     else Err (violates Invariant.BuildOpenFrames)
 
--- build, the last step: the mode is strict and the cursor is at the root, which is completed. (No served shape has an invariant
--- to be asked.)
+-- build, the last step: the mode is strict and the cursor is at the root, which is completed and keeps its invariants
 abbrev pub build : Meanings → Table → ℕ → State → Result Val ReflectErrorKind
 build hooks table root state = build_in hooks table root state state.mode

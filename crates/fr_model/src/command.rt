@@ -9,6 +9,8 @@ pub enum Command {
     SetNthFieldToDefault(u32),
     Set(ShapeId, Value),
     SetDefault,
+    ParseFromStr(Text),
+    ParseFromBytes(Items<u8>),
     SetEmptySharedSlice,
     InitList,
     InitListWithCapacity(u32),

@@ -12,6 +12,7 @@ ghost use Rattle.fr_model.specs.FinishExamples.{FinishExamples};
 ghost use Rattle.fr_model.specs.FinishLaws.{ClosingKeepsCompletion, ClosingKeepsFailures, ClosingKeepsFailuresOff, ClosingKeepsFinish};
 ghost use Rattle.fr_model.specs.DueNotes.{NotesLieApart, NotesWhatIsDue, StuckOrNoted};
 ghost use Rattle.fr_model.specs.GatheringLaws.{DistinctEntriesStay, DistinctItemsStay, NoEntryIsLeftOut, NoItemIsLeftOut, SameIsThere};
+ghost use Rattle.fr_model.specs.HookExamples.{InvariantExamples, ParsingExamples};
 ghost use Rattle.fr_model.specs.Laws.{BuildKeepsTokens, CompletesOrFails, CompletesOrLacks, CompletingFits, CompletingKeepsTokens, StartIsWell, StepKeepsDistinct, StepKeepsOrder, StepKeepsRest, StepKeepsTokens};
 ghost use Rattle.fr_model.specs.ListExamples.{ArrayExamples, ListExamples, SliceExamples};
 ghost use Rattle.fr_model.specs.PathLaws.{ChangingKeepsThePath, EnteringAddsAStep, EnteringAddsItsStep, FinishingKeepsThePath, KeptIsAdmitted, LeavingDropsAStep, PathIsAsDeep};
@@ -60,7 +61,7 @@ pub fn law_completes()
 /// and leaving it, made as one call. In any state it is refused just where no field can be named,
 /// there is no such field, or the field has no default: with the refusal of the first of these that
 /// is so.
-#[tactic(auto, using(crate::proofs::DefaultRefused::sets_to_default))]
+#[tactic(auto, using(crate::proofs::Defaulting::sets_to_default))]
 pub fn law_default()
     ensures default { DefaultIsThreeCalls }
 {}
@@ -84,6 +85,8 @@ pub fn law_examples()
     ensures conversions { ConversionExamples }
     ensures dynamics { DynamicExamples }
     ensures well { WellExamples }
+    ensures parsing { ParsingExamples }
+    ensures invariants { InvariantExamples }
 {}
 
 /// What fails at the end of deferred mode is half done and lies off the way, and a place that lacks
@@ -93,7 +96,7 @@ pub fn law_examples()
 /// end is refused exactly where something fails, or the place at which the builder works lacks
 /// something. Once every place off the way is whole or a hole, only that place is left to be
 /// finished.
-#[tactic(auto, using(crate::proofs::FailsAt::each_failure_has_its_place, crate::proofs::FailsAt::each_failure_of_a_tree_has_its_place, crate::proofs::FailingPlaces::finish_of_done, crate::proofs::FailingPlaces::nothing_fails_of_done, crate::proofs::Finishes::finishes_or_refuses))]
+#[tactic(auto, using(crate::proofs::FailingPlaces::each_failure_has_its_place, crate::proofs::FailingPlaces::each_failure_of_a_tree_has_its_place, crate::proofs::FailingPlaces::finish_of_done, crate::proofs::FailingPlaces::nothing_fails_of_done, crate::proofs::Finishes::finishes_or_refuses))]
 pub fn law_failing()
     ensures lie { FailuresLieThere }
     ensures lacking { LackingFails }
@@ -108,7 +111,7 @@ pub fn law_failing()
 /// Items of which no two are the same make a set of just these, and entries with distinct keys a
 /// map of just these; nothing is left out. Among whole places a value has its like exactly where it
 /// has one among their values.
-#[tactic(auto, using(crate::proofs::DistinctGathered::same_is_there))]
+#[tactic(auto, using(crate::proofs::GatheredParts::same_is_there))]
 pub fn law_gathering()
     ensures items { DistinctItemsStay }
     ensures items_out { NoItemIsLeftOut }
@@ -130,7 +133,7 @@ pub fn law_finishing()
 /// step for each place on the way: entering a child adds a step, which each way on that is admitted
 /// tells, going up takes the last one away, and the end of deferred mode keeps the path. What the
 /// commands keep of an option, of a side or of what a pointer points to is admitted so.
-#[tactic(auto, using(crate::proofs::PathWays::enter_way_adds, crate::proofs::Paths::as_deep, crate::proofs::Paths::enter_adds, crate::proofs::Finishes::finish_keeps_path))]
+#[tactic(auto, using(crate::proofs::Paths::enter_way_adds, crate::proofs::Paths::as_deep, crate::proofs::Paths::enter_adds, crate::proofs::Finishes::finish_keeps_path))]
 pub fn law_paths()
     ensures change { ChangingKeepsThePath }
     ensures enter { EnteringAddsAStep }
@@ -143,16 +146,18 @@ pub fn law_paths()
 
 /// Over a checked table, in a state that is in order: the tokens that the builder held and a
 /// command brought are those that it then holds (none after a refusal) and those that the command
-/// dropped; and so it is of `build`.
+/// dropped, whatever the hooks mean, if they are lawful; and so it is of `build`, whatever they
+/// mean.
 #[tactic(auto, using(crate::proofs::Moves::step_keeps_tokens, crate::proofs::Moves::build_keeps_tokens))]
 pub fn law_removed()
     ensures step { StepKeepsTokens }
     ensures build { BuildKeepsTokens }
 {}
 
-/// A builder begins in a well state, whatever its table and its root. Over a checked table an
-/// admitted command keeps its state in order, if the command is fitting, and well, if it is fresh
-/// besides: what lies around the cursor rests, and no token stands twice.
+/// A builder begins in a well state, whatever its table and its root. Over a checked table and with
+/// lawful hooks an admitted command keeps its state in order, if the command is fitting, and well,
+/// if it is fresh besides: what lies around the cursor rests, whatever the hooks mean, and no token
+/// stands twice.
 #[tactic(auto, using(crate::proofs::Moves::step_keeps_rest, crate::proofs::Moves::step_keeps_distinct, crate::proofs::Moves::start_is_well))]
 pub fn law_well()
     ensures start { StartIsWell }

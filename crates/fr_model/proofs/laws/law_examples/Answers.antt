@@ -1,6 +1,6 @@
 use Rattle.std.proofs.Common.{rules}
 use Rattle.fr_model.proofs.Common.{refl, arith, nat, no_entries, entry, hole, whole, no_trees, branch}
-use Rattle.fr_model.proofs.MapBase.{base_apart, base_within}
+use Rattle.fr_model.proofs.Wholes.{base_apart, base_within}
 use Rattle.fr_model.proofs.laws.law_examples.Goals as goal
 
 pub returns-clause-conversions : goal.returns-clause-conversions

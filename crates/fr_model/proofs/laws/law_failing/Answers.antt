@@ -1,5 +1,4 @@
-use Rattle.fr_model.proofs.FailsAt.{failures_lie_there}
-use Rattle.fr_model.proofs.FailingPlaces.{lacking_fails}
+use Rattle.fr_model.proofs.FailingPlaces.{failures_lie_there, lacking_fails}
 use Rattle.fr_model.proofs.FirstFailure.{first_is}
 use Rattle.fr_model.proofs.laws.law_failing.Goals as goal
 

@@ -1,5 +1,5 @@
 use Rattle.fr_model.proofs.Common.{no_vals, no_entries}
-use Rattle.fr_model.proofs.DistinctGathered.{items_behind, none_left_behind, entries_behind, no_entry_left_behind}
+use Rattle.fr_model.proofs.GatheredParts.{items_behind, none_left_behind, entries_behind, no_entry_left_behind}
 use Rattle.fr_model.proofs.laws.law_gathering.Goals as goal
 
 pub returns-clause-items : goal.returns-clause-items

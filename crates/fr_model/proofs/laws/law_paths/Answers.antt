@@ -1,5 +1,4 @@
-use Rattle.fr_model.proofs.Basis.{leave_drops, steps_kept}
-use Rattle.fr_model.proofs.PathWays.{kept_is_admitted}
+use Rattle.fr_model.proofs.Paths.{leave_drops, steps_kept, kept_is_admitted}
 use Rattle.fr_model.proofs.laws.law_paths.Goals as goal
 
 pub returns-clause-change : goal.returns-clause-change
