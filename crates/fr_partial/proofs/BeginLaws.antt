@@ -1,6 +1,6 @@
 -- Going on to a child: what it is refused for, and what it means.
 use Rattle.std.proofs.Common.{◌≡◌, ℕ, suc, ◌+◌, ◌<◌, Bool, true, false, List, [], ◌∷◌, length, Option, Some, None, Err, nat_lt, if◌then◌else◌, slice_get, inl, refl, sym, ◌∙◌, ap, subst, arith}
-use Rattle.fr_partial.specs.Common.{Call, ComesTo, Def, Describes, Field, IsFullAs, IsRefusedWith, Move, Opening, Operation, ReflectErrorKind, Sees, ShapeId, Site, Table, Tracker, Tree, VariantDef, Way, as_tracker, cursor_tree, def_of, field_found, field_refusal, named_refusal, option_or, selected, shape_at, variant_fields, variants_of}
+use Rattle.fr_partial.specs.Common.{Call, ComesTo, Def, Describes, Field, IsFullAs, IsRefused, Move, Opening, Operation, ReflectErrorKind, Sees, ShapeId, Site, Table, Tracker, Tree, VariantDef, Way, as_tracker, cursor_tree, def_of, field_found, field_refusal, named_refusal, option_or, selected, shape_at, variant_fields, variants_of}
 use Rattle.std.specs.Str.{bytes_eq}
 use Rattle.std.proofs.lemmas.Bool.{ltb-true, lt-ltb}
 use Rattle.fr_shape.specs.Named.{first_declared}
@@ -112,7 +112,7 @@ module _ {site : Site} {table : Table} {shape : ShapeId} {seen : Tree} (at : See
   module _ (name : List ℕ) where
     -- no field is entered by its name there
     pub named_unopened : (operation : Operation) → Some operation ≡ named_refusal (def_of table shape.0) seen
-        → IsRefusedWith site (Call.BeginField name) (ReflectErrorKind.OperationFailed shape operation)
+        → IsRefused site (Call.BeginField name) (ReflectErrorKind.OperationFailed shape operation)
     named_unopened operation is =
         inl (
           (λ out. cc),
@@ -126,7 +126,7 @@ module _ {site : Site} {table : Table} {shape : ShapeId} {seen : Tree} (at : See
       found_here = found_is ∙ ap (field_found name (def_of site.shapes (shape_at site))) (chosen ∙ selected_seen at)
 
       -- none has the name
-      pub named_unknown : found ≡ None → IsRefusedWith site (Call.BeginField name) (ReflectErrorKind.FieldError shape)
+      pub named_unknown : found ≡ None → IsRefused site (Call.BeginField name) (ReflectErrorKind.FieldError shape)
       named_unknown none =
           inl (
             (λ out. cc),

@@ -1,10 +1,13 @@
 -- What `build` means: a value in strict mode at the root, and otherwise a refusal.
-use Rattle.std.proofs.Common.{◌≡◌, ◌⊎◌, ℕ, true, false, [], ◌∷◌, Option, Some, None, IsSome, IsErr, Ok, Err, inl, inr, refl, sym, ◌∙◌, ap, subst}
-use Rattle.fr_partial.specs.Common.{IsSound, Meanings, Mode, Parts, Place, ReflectErrorKind, Site, State, Table, Val, WhyNot, complete, cursor_tree, deferred, fits, mode_of, shape_in, site, strict, strict_column, takes_no_memory, top_place, top_shape, top_tree, tree_at, whole_tree}
+use Rattle.std.proofs.Common.{◌≡◌, ◌≢◌, ◌⊎◌, ℕ, Bool, true, false, [], ◌∷◌, Option, Some, None, IsSome, IsErr, Ok, Err, inl, inr, refl, sym, ◌∙◌, ap, subst}
+use Rattle.fr_partial.specs.Common.{IsSound, Meanings, Mode, Parts, Place, ReflectErrorKind, Site, State, Table, Val, Value, WhyNot, complete, cursor_tree, deferred, fits, mode_of, shape_in, site, strict, strict_column, takes_no_memory, top_place, top_shape, top_tree, tree_at, view, whole_tree}
 use Rattle.fr_model.specs.Laws.{CompletingFits}
-use Rattle.fr_model.specs.Step.{build, built}
-use Rattle.fr_model.specs.Tree.{cursor_shape}
-use Rattle.fr_partial.specs.Building.{build_refusal}
+use Rattle.fr_shape.specs.Invariants.{keeps_invariants}
+use Rattle.fr_shape.specs.declared.error.Invariant.{Invariant}
+use Rattle.fr_model.specs.Step.{build, built, cause, violates}
+use Rattle.fr_frame.specs.Completing.{IsOfValidator}
+use Rattle.fr_partial.specs.Building.{build_refusal, meant_by_build, IsKeptIf}
+use Rattle.fr_partial.specs.Ending.{PassesValidators}
 use Rattle.fr_partial.proofs.LackLaws.{only_wants}
 
 -- there is something to be built in strict mode and at the root alone
@@ -22,11 +25,20 @@ root_then state is = go state.cursor refl
     go [] e = e
     go (i ∷ place) e = let no = rw (strict_then state is, e) at is in cc
 
--- then the place at which the builder works is built
+-- then the root is built
 builds : (means : Meanings) (table : Table) (root : ℕ) (state : State) → state.mode ≡ strict → state.cursor ≡ []
-    → build means table root state ≡ built means table (cursor_shape table root state) (cursor_tree state)
-    (complete strict_column means table (cursor_shape table root state) (cursor_tree state))
+    → build means table root state ≡ built means table root state.tree (complete strict_column means table root state.tree)
 builds means table root state mode at_root = rw (mode, at_root) refl
+
+-- what is kept keeps its invariants, and what isn't breaks one
+pub kept_then : (keeps : Bool) (v : Val) (kept : Value) → IsKeptIf keeps v (Ok kept) → (keeps ≡ true) × (view kept ≡ v)
+kept_then true v kept is = (refl, is)
+kept_then false v kept is = absurd is
+
+pub broken_then : (keeps : Bool) (v : Val) (kind : ReflectErrorKind) → IsKeptIf keeps v (Err kind)
+    → (keeps ≡ false) × (kind ≡ violates Invariant.TypeInvariant)
+broken_then true v kind is = absurd is
+broken_then false v kind is = (refl, is)
 
 -- The builder of these parts, as contracts see it, may build.
 pub record IsDue (parts : Parts) (seen : Site) : Type 0 where
@@ -43,56 +55,94 @@ due_now {parts} {seen} sound is admitted =
     record { sound = sound; is = is; mode = strict_then (site parts).state so; at_root = root_then (site parts).state so }
 
 module _ {parts : Parts} {seen : Site} (due : IsDue parts seen) (means : Meanings) where
-  builds_here : build means seen.shapes seen.root seen.state
-      ≡ built means parts.frames.table.now (top_shape parts.frames) (top_tree parts.frames)
-      (complete strict_column means parts.frames.table.now (top_shape parts.frames) (top_tree parts.frames))
-  builds_here =
-      ap (λ (s : Site). build means s.shapes s.root s.state) (sym due.is)
+  -- the place on top is the root
+  root_made : {made : Option Val}
+      → complete strict_column means parts.frames.table.now (top_shape parts.frames) (top_tree parts.frames) ≡ made
+      → complete strict_column means parts.frames.table.now parts.frames.root.0 (whole_tree parts.frames) ≡ made
+  root_made {made} is =
+      subst
+      (λ (p : Place). complete strict_column means parts.frames.table.now
+      (shape_in parts.frames.table.now parts.frames.root.0 p (whole_tree parts.frames)) (tree_at p (whole_tree parts.frames)) ≡ made)
+      due.at_root is
+
+  root_cause : cause means parts.frames.table.now (top_shape parts.frames) (top_tree parts.frames)
+      ≡ cause means parts.frames.table.now parts.frames.root.0 (whole_tree parts.frames)
+  root_cause =
+      ap
+      (λ (p : Place). cause means parts.frames.table.now
+      (shape_in parts.frames.table.now parts.frames.root.0 p (whole_tree parts.frames)) (tree_at p (whole_tree parts.frames)))
+      due.at_root
+
+  builds_so : (made : Option Val)
+      → complete strict_column means parts.frames.table.now (top_shape parts.frames) (top_tree parts.frames) ≡ made
+      → meant_by_build means seen
+      ≡ built means parts.frames.table.now parts.frames.root.0 (whole_tree parts.frames) made
+  builds_so made is =
+      ap (meant_by_build means) (sym due.is)
       ∙ builds means parts.frames.table.now parts.frames.root.0 (site parts).state due.mode due.at_root
+      ∙ ap (built means parts.frames.table.now parts.frames.root.0 (whole_tree parts.frames)) (root_made is)
 
   -- It makes this value.
   module _ {v : Val}
       (made : complete strict_column means parts.frames.table.now (top_shape parts.frames) (top_tree parts.frames) ≡ Some v) where
-    -- so it is built, and fits
-    pub built_so : build means seen.shapes seen.root seen.state ≡ Ok v
-    built_so = builds_here ∙ ap (built means parts.frames.table.now (top_shape parts.frames) (top_tree parts.frames)) made
+    -- that fits the root
+    pub fits_root : CompletingFits → fits parts.frames.table.now parts.frames.root.0 v ≡ true
+    fits_root law =
+        law strict_column means parts.frames.table.now parts.frames.root.0 (whole_tree parts.frames) v
+        due.sound.at_work.ready.checked due.sound.at_work.ready.suits (root_made made)
 
     pub fits_so : CompletingFits → fits seen.shapes seen.root v ≡ true
-    fits_so law =
-        subst (λ (s : Site). fits s.shapes s.root v ≡ true) due.is
-        (law strict_column means parts.frames.table.now parts.frames.root.0 (whole_tree parts.frames) v
-        due.sound.at_work.ready.checked due.sound.at_work.ready.suits (subst
-        (λ (p : Place). complete strict_column means parts.frames.table.now
-        (shape_in parts.frames.table.now parts.frames.root.0 p (whole_tree parts.frames)) (tree_at p (whole_tree parts.frames))
-        ≡ Some v) due.at_root made))
+    fits_so law = subst (λ (s : Site). fits s.shapes s.root v ≡ true) due.is (fits_root law)
+
+    -- so it is built if it keeps its invariants, and else that is the refusal
+    pub built_so : keeps_invariants means.check parts.frames.table.now parts.frames.root.0 v ≡ true
+        → meant_by_build means seen ≡ Ok v
+    built_so keeps = builds_so (Some v) made ∙ rw keeps refl
+
+    pub broken_so : keeps_invariants means.check parts.frames.table.now parts.frames.root.0 v ≡ false
+        → meant_by_build means seen ≡ Err (violates Invariant.TypeInvariant)
+    broken_so breaks = builds_so (Some v) made ∙ rw breaks refl
 
   -- It makes none, or there was no memory.
   module _ {kind : ReflectErrorKind}
       (why : WhyNot means parts.frames.table.now (top_shape parts.frames) (top_tree parts.frames) kind) where
     -- so it is refused
-    pub built_not : (kind ≡ ReflectErrorKind.OutOfMemory) ⊎ (build means seen.shapes seen.root seen.state ≡ Err kind)
+    pub built_not : (kind ≡ ReflectErrorKind.OutOfMemory) ⊎ (meant_by_build means seen ≡ Err kind)
     built_not =
         elim why [
-          | inl lacking ↦ inr (builds_here
-              ∙ ap (built means parts.frames.table.now (top_shape parts.frames) (top_tree parts.frames)) lacking.incomplete
-              ∙ ap (λ (k : ReflectErrorKind). Err k) (sym lacking.lacks))
+          | inl lacking ↦ inr (builds_so None lacking.incomplete
+              ∙ ap (λ (k : ReflectErrorKind). Err k) (sym (lacking.lacks ∙ root_cause)))
           | inr wants ↦ inl wants.memory
         ]
 
-    -- one that is refused isn't out of memory, nor is one that takes none
-    pub refused_first : kind ≡ ReflectErrorKind.OutOfMemory → IsErr (build means seen.shapes seen.root seen.state) → ⊥
-    refused_first wanted refused =
-        go (complete strict_column means parts.frames.table.now (top_shape parts.frames) (top_tree parts.frames)) refl
-        (only_wants means parts.frames.table.now due.sound.served _ _ kind why wanted).0
-      where
-        go : (made : Option Val)
-            → complete strict_column means parts.frames.table.now (top_shape parts.frames) (top_tree parts.frames) ≡ made
-            → IsSome made → ⊥
-        go (Some v) is some = let no : false ≡ true = rw (built_so is) at refused in cc
-        go None is some = cc
+    module _ (wanted : kind ≡ ReflectErrorKind.OutOfMemory)
+        (passes : PassesValidators (meant_by_build means seen)) where
+      wants : IsSome (complete strict_column means parts.frames.table.now (top_shape parts.frames) (top_tree parts.frames))
+          × (takes_no_memory (top_tree parts.frames) ≡ false)
+      wants =
+          only_wants means parts.frames.table.now _ _ kind why wanted
+          (λ none said. subst PassesValidators (builds_so None none) passes (subst IsOfValidator root_cause said))
 
-    pub needed_none : kind ≡ ReflectErrorKind.OutOfMemory → takes_no_memory (cursor_tree seen.state) ≡ true → ⊥
-    needed_none wanted none =
-        let no : false ≡ true = sym (only_wants means parts.frames.table.now due.sound.served _ _ kind why wanted).1
-        ∙ ap (λ (s : Site). takes_no_memory (cursor_tree s.state)) due.is ∙ none in
-        cc
+      -- one that is refused isn't out of memory, unless the value breaks an invariant
+      pub refused_first : IsErr (meant_by_build means seen)
+          → meant_by_build means seen ≢ Err (violates Invariant.TypeInvariant) → ⊥
+      refused_first refused unbroken =
+          go (complete strict_column means parts.frames.table.now (top_shape parts.frames) (top_tree parts.frames)) refl wants.0
+        where
+          by_invariants : (v : Val) (keeps : Bool)
+              → complete strict_column means parts.frames.table.now (top_shape parts.frames) (top_tree parts.frames) ≡ Some v
+              → keeps_invariants means.check parts.frames.table.now parts.frames.root.0 v ≡ keeps → ⊥
+          by_invariants v true is keeps = let no : false ≡ true = rw (built_so is keeps) at refused in cc
+          by_invariants v false is breaks = unbroken (broken_so is breaks)
+
+          go : (made : Option Val)
+              → complete strict_column means parts.frames.table.now (top_shape parts.frames) (top_tree parts.frames) ≡ made
+              → IsSome made → ⊥
+          go (Some v) is some = by_invariants v (keeps_invariants means.check parts.frames.table.now parts.frames.root.0 v) is refl
+          go None is some = cc
+
+      -- nor is one that takes none
+      pub needed_none : takes_no_memory (cursor_tree seen.state) ≡ true → ⊥
+      needed_none none =
+          let no : false ≡ true = sym wants.1 ∙ ap (λ (s : Site). takes_no_memory (cursor_tree s.state)) due.is ∙ none in
+          cc

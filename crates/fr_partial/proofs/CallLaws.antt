@@ -1,12 +1,12 @@
 -- What was decided of a call is that call of the builder.
-use Rattle.std.proofs.Common.{◌≡◌, ℕ, List, Result, Ok, Err, IfOk, OnErr, OnOk, refl, ap, subst, arith}
-use Rattle.fr_partial.specs.Common.{Builder, Call, Decides, IsMeant, Move, ReflectErrorKind, RoseBy, Site}
+use Rattle.std.proofs.Common.{◌≡◌, ℕ, List, Result, Ok, Err, IfOk, OnErr, OnOk, inl, inr, refl, ap, subst, arith}
+use Rattle.fr_partial.specs.Common.{Builder, Call, Decides, IsMeant, Meanings, Move, ReflectErrorKind, RoseBy, Site}
 use Rattle.fr_model.specs.Scripts.{brings}
 use Rattle.fr_partial.specs.Builder.{site_of}
-use Rattle.fr_partial.specs.Moving.{WasDecided}
+use Rattle.fr_partial.specs.Moving.{DecidesBy, WasDecided}
 
 -- a call that brings nothing has nothing to release as it is decided
-nothing_spent : (call : Call) → ((t : ℕ) → brings call t ≡ 0) → (decided : Result Move ReflectErrorKind) (ledger : List ℕ)
+pub nothing_spent : (call : Call) → ((t : ℕ) → brings call t ≡ 0) → (decided : Result Move ReflectErrorKind) (ledger : List ℕ)
     → WasDecided call decided ledger ledger
 nothing_spent call none (Ok move) ledger = refl
 nothing_spent call none (Err kind) ledger = record { same_length = refl; each = λ t. omega (arith, none t) }
@@ -22,19 +22,30 @@ some_call : (site : Site) (call : Call) (decided : Result Move ReflectErrorKind)
 some_call site call (Ok move) comes = (call, comes)
 some_call site call (Err kind) refused = tt
 
+-- what is decided whatever the hooks mean is decided as these mean
+decides_by : (hooks : Meanings) (site : Site) (call : Call) (decided : Result Move ReflectErrorKind) → Decides site call decided
+    → DecidesBy hooks site call decided
+decides_by hooks site call (Ok move) comes =
+    record { same_tokens = comes.same_tokens; late = comes.late; means = comes.means hooks }
+decides_by hooks site call (Err kind) (inl refused) = inl (refused.0, refused.1 hooks)
+decides_by hooks site call (Err kind) (inr wanted) = inr (wanted.0, inl (wanted.1 hooks))
+
 module _ {H : Type 0} {h : H} {before : Builder H} {work : Site}
     (is : ◌≡◌ {A = Builder H} (record { shapes = work.shapes; hooks = h; root = work.root; state = work.state }) before)
     (call : Call) (decided : Result Move ReflectErrorKind) (told : Decides work call decided) where
   -- what was decided by what a builder works with was decided of the builder
-  pub decided_of : Decides (site_of before) call decided
-  decided_of = subst (λ (seen : Site). Decides seen call decided) (ap site_of is) told
+  decided_here : Decides (site_of before) call decided
+  decided_here = subst (λ (seen : Site). Decides seen call decided) (ap site_of is) told
+
+  pub decided_of : (hooks : Meanings) → DecidesBy hooks (site_of before) call decided
+  decided_of hooks = decides_by hooks (site_of before) call decided decided_here
 
   -- a call to which some move was decided is meant by a call
   pub meant_of : IfOk decided (IsMeant (site_of before))
-  meant_of = some_call (site_of before) call decided decided_of
+  meant_of = some_call (site_of before) call decided decided_here
 
   -- so one that brings nothing owes what any owes of which that was decided
-  pub called : ((t : ℕ) → brings call t ≡ 0) → {Owes : Call → List ℕ → Type 0} (ledger : List ℕ)
-      → ((any : Call) → Decides (site_of before) any decided → (old : List ℕ) → WasDecided any decided old ledger → Owes any old)
+  pub called : (hooks : Meanings) → ((t : ℕ) → brings call t ≡ 0) → {Owes : Call → List ℕ → Type 0} (ledger : List ℕ)
+      → ((any : Call) → DecidesBy hooks (site_of before) any decided → (old : List ℕ) → WasDecided any decided old ledger → Owes any old)
       → Owes call ledger
-  called none ledger owes = owes call decided_of ledger (nothing_spent call none decided ledger)
+  called hooks none ledger owes = owes call (decided_of hooks) ledger (nothing_spent call none decided ledger)

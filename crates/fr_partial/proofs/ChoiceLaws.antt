@@ -1,6 +1,6 @@
 -- Which variant is selected, and what that means.
 use Rattle.std.proofs.Common.{◌≡◌, ℕ, true, false, List, Option, Some, None, Ok, refl, sym, ◌∙◌, ap, subst}
-use Rattle.fr_partial.specs.Common.{Call, Change, ComesTo, Def, EnumDef, Expected, IsChecked, IsFullAs, IsIn, IsPlanOf, IsRefusedWith, IsSound, LookupPathsAgree, LookupsAgree, Meanings, Move, Operation, Parts, Plan, ReflectErrorKind, Sees, ShapeId, Site, State, Table, Tree, VariantDef, as_fields, at_shape, def_of, plan_in, shape_at, site, step, unless_refused, variants_of}
+use Rattle.fr_partial.specs.Common.{Call, Change, ComesTo, Def, EnumDef, Expected, IsChecked, IsFullAs, IsIn, IsPlanOf, IsRefused, IsSound, LookupPathsAgree, LookupsAgree, Meanings, Move, Operation, Parts, Plan, ReflectErrorKind, Sees, ShapeId, Site, State, Table, Tree, VariantDef, as_fields, at_shape, def_of, plan_in, shape_at, site, step, unless_refused, variants_of}
 use Rattle.fr_shape.specs.Plannable.{Reached}
 use Rattle.fr_model.specs.Step.{select_found, selects}
 use Rattle.fr_model.specs.Variants.{is_enum}
@@ -26,7 +26,7 @@ select_unless table s state None unknown = refl
 module _ {site : Site} {table : Table} {shape : ShapeId} {seen : Tree} (at : Sees site table shape seen) {call : Call}
     {find : List VariantDef → Option ℕ} {unknown : Operation} (says : Selects site call find unknown) where
   -- the place is no enum
-  pub no_enum : is_enum (def_of table shape.0) ≡ false → IsRefusedWith site call (ReflectErrorKind.WasNotA Expected.Enum shape)
+  pub no_enum : is_enum (def_of table shape.0) ≡ false → IsRefused site call (ReflectErrorKind.WasNotA Expected.Enum shape)
   no_enum other =
       let no = ap is_enum (sym (def_seen at)) ∙ other in
       is_not at call Expected.Enum (λ hooks. says.means hooks ∙ rw no refl)
@@ -51,7 +51,7 @@ module _ {site : Site} {table : Table} {shape : ShapeId} {seen : Tree} (at : See
     refusal_here = ap (λ (def : Def). found_refusal def unknown found) (sym def_here)
 
     pub unselected : (operation : Operation) → Some operation ≡ found_refusal (Def.Enum enumeration) unknown found
-        → IsRefusedWith site call (ReflectErrorKind.OperationFailed shape operation)
+        → IsRefused site call (ReflectErrorKind.OperationFailed shape operation)
     unselected operation refused = cannot at call _ operation means_so (refused ∙ refusal_here)
 
     pub selected : (chosen : Chosen) → found ≡ Some chosen.variant

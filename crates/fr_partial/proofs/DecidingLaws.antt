@@ -1,6 +1,6 @@
 -- What a call comes to, or why it is refused, by what is seen of the place at which the builder works.
 use Rattle.std.proofs.Common.{◌≡◌, ◌≢◌, ℕ, Option, Some, None, Ok, Err, inl, sym, ◌∙◌, ap, subst}
-use Rattle.fr_partial.specs.Common.{Call, Change, ComesTo, Expected, IsRefusedWith, MayGo, MayStay, Meanings, Move, Operation, ReflectErrorKind, Sees, ShapeId, Site, State, Table, Tree, Val, Way, at_shape, carried_by, cursor_tree, shape_at, step, unless_refused}
+use Rattle.fr_partial.specs.Common.{Call, Change, ComesTo, Expected, IsRefused, MayGo, MayStay, Meanings, Move, Operation, ReflectErrorKind, Sees, ShapeId, Site, State, Table, Tree, Val, Way, at_shape, carried_by, cursor_tree, shape_at, step, unless_refused}
 use Rattle.fr_model.specs.Scripts.{occurs_if_any, value_brought, FitsIfAny}
 use Rattle.fr_partial.specs.Moving.{gone, stays}
 use Rattle.fr_partial.proofs.SeenLaws.{shape_seen}
@@ -46,7 +46,7 @@ module _ (site : Site) (call : Call) where
   -- it is refused, and not for want of memory
   pub refused_by : {refusal : Option ReflectErrorKind} (next : State) (kind : ReflectErrorKind)
       → ((hooks : Meanings) → step hooks site.shapes site.root site.state call ≡ unless_refused refusal next)
-      → Some kind ≡ refusal → kind ≢ ReflectErrorKind.OutOfMemory → IsRefusedWith site call kind
+      → Some kind ≡ refusal → kind ≢ ReflectErrorKind.OutOfMemory → IsRefused site call kind
   refused_by next kind means is named =
       inl (named, λ hooks. means hooks ∙ ap (λ (o : Option ReflectErrorKind). unless_refused o next) (sym is))
 
@@ -55,7 +55,7 @@ module _ {site : Site} {table : Table} {shape : ShapeId} {seen : Tree} (at : See
   pub cannot : {refusal : Option Operation} (next : State) (operation : Operation)
       → ((hooks : Meanings) → step hooks site.shapes site.root site.state call
       ≡ unless_refused (at_shape (shape_at site) refusal) next)
-      → Some operation ≡ refusal → IsRefusedWith site call (ReflectErrorKind.OperationFailed shape operation)
+      → Some operation ≡ refusal → IsRefused site call (ReflectErrorKind.OperationFailed shape operation)
   cannot next operation means is =
       refused_by site call next (ReflectErrorKind.OperationFailed shape operation) means
       (ap (λ (s : ShapeId). Some (ReflectErrorKind.OperationFailed s operation)) (sym (shape_seen at))
@@ -64,6 +64,6 @@ module _ {site : Site} {table : Table} {shape : ShapeId} {seen : Tree} (at : See
   -- its shape isn't such a one
   pub is_not : (expected : Expected) → ((hooks : Meanings) → step hooks site.shapes site.root site.state call
       ≡ Err (ReflectErrorKind.WasNotA expected (record { 0 = shape_at site })))
-      → IsRefusedWith site call (ReflectErrorKind.WasNotA expected shape)
+      → IsRefused site call (ReflectErrorKind.WasNotA expected shape)
   is_not expected means =
       inl ((λ out. cc), λ hooks. means hooks ∙ ap (λ (s : ShapeId). Err (ReflectErrorKind.WasNotA expected s)) (shape_seen at))

@@ -1,18 +1,18 @@
 -- Setting a field to its default: what it means, and what it is refused for.
 use Rattle.std.proofs.Common.{◌≡◌, ◌≢◌, ℕ, true, [], length, Option, Some, None, Result, Ok, Err, nat_lt, slice_get, inl, inr, refl, sym, ◌∙◌, ap}
 use Rattle.std.proofs.lemmas.Bool.{lt-ltb}
-use Rattle.fr_partial.specs.Common.{Call, Change, ComesTo, Def, Describes, Field, IsChecked, IsRefusedWith, Meanings, Move, Opening, Operation, ReflectErrorKind, Sees, ShapeId, Site, State, Table, Tree, Val, Value, VariantDef, at_shape, begun, cursor_tree, def_of, field_default, field_in, field_refusal, named_refusal, operation_failed, preset_of, selected, shape_at, step, tokens, view}
+use Rattle.fr_partial.specs.Common.{Call, Change, ComesTo, Def, Describes, Field, IsChecked, IsRefused, Meanings, Move, Opening, Operation, ReflectErrorKind, Sees, ShapeId, Site, State, Table, Tree, Val, Value, VariantDef, at_shape, begun, cursor_tree, def_of, field_default, field_in, field_refusal, named_refusal, operation_failed, preset_of, selected, shape_at, step, tokens, view}
 use Rattle.fr_shape.specs.declared.shape.DefaultSource.{DefaultSource}
 use Rattle.fr_shape.specs.Look.{field_of_variant}
 use Rattle.fr_model.specs.Step.{default_by_mark, default_or, puts_child, puts_child_default, set_nth_field_to_default}
 use Rattle.fr_frame.specs.FieldDefaults.{default_in, default_of}
+use Rattle.fr_model.proofs.Templates.{field_default_template}
 use Rattle.fr_partial.proofs.BeginLaws.{describes_here}
 use Rattle.fr_partial.proofs.DecidingLaws.{remains}
 use Rattle.fr_partial.proofs.FitLaws.{is_there}
 use Rattle.fr_partial.proofs.LookLaws.{begun_named, AsBegun}
 use Rattle.fr_partial.proofs.PutLaws.{admits}
 use Rattle.fr_partial.proofs.SeenLaws.{seen_by}
-use Rattle.fr_partial.proofs.TemplateLaws.{default_light}
 
 -- the field has a default, and may be entered
 pub record HasDefault (table : Table) (s : ℕ) (tree : Tree) (i : ℕ) (v : Val) : Type 0 where
@@ -64,7 +64,7 @@ pub default_empty : (table : Table) (s : ℕ) (tree : Tree) (i : ℕ) (v : Val) 
     → tokens v ≡ []
 default_empty table s tree i v checked e =
     let has = has_default table s tree i v e in
-    default_light table s i (selected tree) has.field v checked has.there has.default
+    (field_default_template table s (selected tree) i has.field v checked has.there has.default).no_tokens
 
 -- the call puts the default, or is refused as there is none
 pub default_means : (table : Table) (s : ℕ) (state : State) (i : ℕ)
@@ -124,7 +124,7 @@ module _ {site : Site} {table : Table} {shape : ShapeId} {seen : Tree} (at : See
       ∙ ap (puts_child_default site.shapes (shape_at site) site.state i) (sym (default_seen at i) ∙ is)
 
   pub default_refused : (kind : ReflectErrorKind) → default_in table shape.0 seen i ≡ Err kind
-      → IsRefusedWith site (Call.SetNthFieldToDefault i) kind
+      → IsRefused site (Call.SetNthFieldToDefault i) kind
   default_refused kind is =
       inl (
         default_named table shape.0 (named_refusal (def_of table shape.0) seen)
@@ -150,5 +150,5 @@ module _ {site : Site} {table : Table} {shape : ShapeId} {seen : Tree} (at : See
         meant_so (Ok template) is hooks ∙ ap (λ (v : Val). Ok (puts_child site.shapes (shape_at site) site.state i v)) (sym same))
 
     -- where there is no memory for it
-    pub default_wanted : IsRefusedWith site (Call.SetNthFieldToDefault i) ReflectErrorKind.OutOfMemory
+    pub default_wanted : IsRefused site (Call.SetNthFieldToDefault i) ReflectErrorKind.OutOfMemory
     default_wanted = inr (refl, λ hooks. admits (meant_so (Ok template) is hooks))

@@ -29,13 +29,13 @@ count_fields table (field ∷ fields) (first v vs) h =
     ap suc (count_fields table fields vs (both_true (fits table field.shape.0 v) (fields_fit table fields vs) h).1)
 
 -- a whole struct has as many parts as fields
-record Parts (tracker : Tracker) (v : Val) (count : ℕ) : Type 0 where
+record HasParts (tracker : Tracker) (v : Val) (count : ℕ) : Type 0 where
   parts : Vals
   are : parts_as tracker v ≡ Some parts
   counts : count_vals parts ≡ count
 
 struct_parts : (table : Table) (s : ℕ) (struct : StructDef) → def_of table s ≡ Def.Struct struct → (v : Val)
-    → fits table s v ≡ true → Parts (as_fields None) v (length struct.fields)
+    → fits table s v ≡ true → HasParts (as_fields None) v (length struct.fields)
 struct_parts table s struct is (product vs) h = record {
   parts = vs;
   are = refl;
@@ -47,13 +47,13 @@ struct_parts table s struct is _ h =
     cc
 
 whole_parts : (table : Table) (s i : ℕ) (v : Val) (tracker : Tracker) (count : ℕ) → IsFullAs (def_of table s) tracker count
-    → fits table s v ≡ true → field_refusal (def_of table s) (whole v) i ≡ None → Parts tracker v count
+    → fits table s v ≡ true → field_refusal (def_of table s) (whole v) i ≡ None → HasParts tracker v count
 whole_parts table s i v tracker count full fit may = go (def_of table s) refl full may
   where
-    go : (def : Def) → def_of table s ≡ def → IsFullAs def tracker count → field_refusal def (whole v) i ≡ None → Parts tracker v count
+    go : (def : Def) → def_of table s ≡ def → IsFullAs def tracker count → field_refusal def (whole v) i ≡ None → HasParts tracker v count
     go (Def.Struct struct) e b none =
-        subst (λ (n : ℕ). Parts tracker v n) (sym (struct_tracker struct tracker count b).1)
-        (subst (λ (f : Tracker). Parts f v (length struct.fields)) (sym (struct_tracker struct tracker count b).0)
+        subst (λ (n : ℕ). HasParts tracker v n) (sym (struct_tracker struct tracker count b).1)
+        (subst (λ (f : Tracker). HasParts f v (length struct.fields)) (sym (struct_tracker struct tracker count b).0)
         (struct_parts table s struct e v fit))
     go (Def.Array t n) e b none =
         absurd (both_none (if nat_lt i n then None else Some Operation.ArrayIndexOutOfBounds)

@@ -54,20 +54,20 @@ done_on (Way.Entry key) def = with_entry_of def key.now
 done_on (Way.Content tracker beginning) def = λ old. change_child 0 (enter def) (begun_by beginning (as_tracker tracker) 1 old)
 
 -- so many children the place may have, and this is one of them
-record Holds (table : Table) (s : ℕ) (tracker : Tracker) (i : ℕ) : Type 0 where
+record HoldsChild (table : Table) (s : ℕ) (tracker : Tracker) (i : ℕ) : Type 0 where
   count : ℕ
   full : IsFullAs (def_of table s) tracker count
   points : PointsRightly table s tracker
   below : i < count
 
 dynamic_holds : (table : Table) (s : ℕ) (def : Def) (tree : Tree) → def_of table s ≡ def → entry_refusal def tree ≡ None
-    → Holds table s (as_items ItemsKind.Array) 0
+    → HoldsChild table s (as_items ItemsKind.Array) 0
 dynamic_holds table s Def.Dynamic tree is may =
     record { count = 1; full = subst (λ (d : Def). IsFullAs d (as_items ItemsKind.Array) 1) (sym is) tt; points = tt; below = omega arith }
 dynamic_holds table s _ tree is may = cc
 
 module _ (table : Table) (s : ℕ) (tree : Tree) (suits : Suits table s tree) where
-  holds : (way : Way) → MayGo table s tree way → Holds table s (tracker_on way) (number_told way)
+  holds : (way : Way) → MayGo table s tree way → HoldsChild table s (tracker_on way) (number_told way)
   holds (Way.Child i opening) may = record {
     count = opening.count;
     full = may.0.begun;

@@ -1,13 +1,15 @@
 -- Handing over the value that the place on top holds: whether it may be, what comes of it, and the path and the state then.
 use Rattle.std.proofs.Common.{◌≡◌, ℕ, Bool, true, false, List, [], ◌∷◌, ◌++◌, Result, Ok, Err, OnOk, Some, None, Option, IsErr, IsSome, IsOk, inl, inr, refl, sym, ◌∙◌, ap, subst}
-use Rattle.fr_partial.specs.Common.{AreOpen, AtTop, Became, Body, Frames, HoldsItsValue, IsOpen, IsOpenAt, IsServed, IsSomeAnd, MayReceive, Meanings, Node, PathStep, Place, Plan, ReflectErrorKind, Rules, SameMarks, Slot, State, Table, Tree, Val, body_in, change_at, complete, cursor_tree, heap_of, is_root, is_set, is_some, needs_none_by, one_more_call, open_top, path_of, strict_column, takes_memory, takes_no_memory, top_place, top_shape, top_tree, tree_at, up, value_of, whole, whole_tree}
+use Rattle.fr_partial.specs.Common.{AreOpen, AtTop, Became, Body, Frames, HoldsItsValue, IsOpen, IsOpenAt, IsSomeAnd, MayReceive, Meanings, Node, PathStep, Place, Plan, ReflectErrorKind, Rules, SameMarks, Slot, State, Table, Tree, Val, body_in, change_at, complete, cursor_tree, heap_of, is_root, is_set, is_some, needs_none_by, one_more_call, open_top, path_of, strict_column, takes_memory, takes_no_memory, top_place, top_shape, top_tree, tree_at, up, value_of, whole, whole_tree}
 use Rattle.fr_model.specs.Collections.{number_in, with_ended_item}
 use Rattle.fr_model.specs.PathLaws.{ChangingKeepsThePath, LeadAbove, LeavingDropsAStep, PathIsAsDeep}
 use Rattle.fr_model.specs.Paths.{steps_in}
+use Rattle.fr_model.specs.Step.{cause}
+use Rattle.fr_frame.specs.Completing.{IsOfValidator}
 use Rattle.fr_store.specs.LeaveLaws.{below_root}
 use Rattle.fr_frame.specs.declared.places.Taker.{Taker}
 use Rattle.fr_store.specs.StackMoves.{place_then, tree_then}
-use Rattle.fr_partial.specs.Ending.{column_by, Handed, IsCompleted, IsHandedOver, IsPathThen, IsUncompleted}
+use Rattle.fr_partial.specs.Ending.{column_by, Handed, IsCompleted, IsHandedOver, IsPathThen, IsUncompleted, PassesValidators}
 use Rattle.fr_partial.specs.Moving.{after_completing, received, received_if, is_late_by, TakerServes}
 use Rattle.fr_partial.proofs.HereLaws.{top_body}
 use Rattle.fr_partial.proofs.KeepLaws.{became_after, became_marked}
@@ -146,15 +148,22 @@ module _ (state : State) {steps : List PathStep} (path : steps ≡ path_of state
 
 -- Memory.
 
-module _ (hooks : Meanings) (table : Table) (served : IsServed table) (s : ℕ) (state : State) {kind : ReflectErrorKind}
+module _ (hooks : Meanings) (table : Table) (s : ℕ) (state : State) {kind : ReflectErrorKind}
     (wanted : kind ≡ ReflectErrorKind.OutOfMemory) where
+  -- what is meant says no validator, nor does the cause
+  no_message : (taker : Taker) → PassesValidators (after_completing Rules.Strict taker hooks table s state)
+      → complete strict_column hooks table s (cursor_tree state) ≡ None → IsOfValidator (cause hooks table s (cursor_tree state)) → ⊥
+  no_message taker passes none =
+      subst (λ (made : Option Val). PassesValidators (received_if Rules.Strict taker hooks table s state made)) none passes
+
   -- by the rules of strict mode a place that makes no value is refused for that, and never out of memory
-  pub refused_first : (rules : Rules) (taker : Taker) → IsUncompleted rules hooks table s (cursor_tree state) kind
+  pub refused_first : (rules : Rules) (taker : Taker) → PassesValidators (after_completing rules taker hooks table s state)
+      → IsUncompleted rules hooks table s (cursor_tree state) kind
       → is_late_by rules ≡ false → IsErr (after_completing rules taker hooks table s state) → ⊥
-  refused_first Rules.Deferred taker why late refused = cc
-  refused_first Rules.Strict taker why late refused =
+  refused_first Rules.Deferred taker passes why late refused = cc
+  refused_first Rules.Strict taker passes why late refused =
       go (complete strict_column hooks table s (cursor_tree state)) refl
-      (only_wants hooks table served s (cursor_tree state) kind why wanted).0
+      (only_wants hooks table s (cursor_tree state) kind why wanted (no_message taker passes)).0
     where
       go : (made : Option Val) → complete strict_column hooks table s (cursor_tree state) ≡ made → IsSome made → ⊥
       go (Some v) is some =
@@ -164,9 +173,10 @@ module _ (hooks : Meanings) (table : Table) (served : IsServed table) (s : ℕ) 
       go None is some = cc
 
   -- and one that takes none isn't either
-  pub needed_none : (rules : Rules) → IsUncompleted rules hooks table s (cursor_tree state) kind
+  pub needed_none : (rules : Rules) (taker : Taker) → PassesValidators (after_completing rules taker hooks table s state)
+      → IsUncompleted rules hooks table s (cursor_tree state) kind
       → needs_none_by rules (cursor_tree state) ≡ true → ⊥
-  needed_none Rules.Strict why none =
-      let no : false ≡ true = sym (only_wants hooks table served s (cursor_tree state) kind why wanted).1 ∙ none in
+  needed_none Rules.Strict taker passes why none =
+      let no : false ≡ true = sym (only_wants hooks table s (cursor_tree state) kind why wanted (no_message taker passes)).1 ∙ none in
       cc
-  needed_none Rules.Deferred why none = cc
+  needed_none Rules.Deferred taker passes why none = cc

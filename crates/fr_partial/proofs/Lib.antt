@@ -28,6 +28,7 @@ pub mod LookLaws
 pub mod MapLaws
 pub mod ObjectLaws
 pub mod OpeningLaws
+pub mod ParseLaws
 pub mod PlaceLaws
 pub mod PutLaws
 pub mod ReachLaws
@@ -37,7 +38,6 @@ pub mod SliceLaws
 pub mod StartLaws
 pub mod StateLaws
 pub mod StayingLaws
-pub mod TemplateLaws
 pub mod TrackerLaws
 pub mod TreeLaws
 pub mod WayLaws

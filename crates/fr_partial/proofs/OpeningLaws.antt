@@ -9,7 +9,7 @@ use Rattle.fr_model.specs.Well.{HasElements}
 use Rattle.fr_frame.specs.declared.places.EntriesKind.{EntriesKind as MadeEntries}
 use Rattle.fr_frame.specs.declared.places.ItemsKind.{ItemsKind as MadeItems}
 use Rattle.fr_frame.specs.declared.places.Tracker.{Tracker as Made}
-use Rattle.fr_partial.specs.declared.dynamic_places.Parts.{Parts}
+use Rattle.fr_partial.specs.declared.dynamic_places.DynamicParts.{DynamicParts}
 use Rattle.fr_partial.proofs.ContentLaws.{suits_here}
 use Rattle.fr_values.proofs.MadeDynamic.{settled_plain}
 use Rattle.fr_partial.proofs.DecidingLaws.{remains}
@@ -165,13 +165,13 @@ module _ {site : Site} {table : Table} {shape : ShapeId} {seen : Tree} (at : See
 
     -- a dynamic place gathers elements or entries instead
     pub elements_begin : true ≡ is_dynamic (def_of table shape.0) → None ≡ init_list_refusal shape.0 (def_of table shape.0) seen
-        → ComesTo site Call.InitList (Move.Stay (Change.Gather Parts.Elements))
+        → ComesTo site Call.InitList (Move.Stay (Change.Gather DynamicParts.Elements))
     elements_begin dynamic is =
         let may = is ∙ list_seen at in
         remains site Call.InitList _ refl (λ t. refl) tt (λ hooks. rw (← may, of_dynamic true dynamic) refl)
 
     pub entries_begin : true ≡ is_dynamic (def_of table shape.0) → None ≡ init_map_refusal shape.0 (def_of table shape.0) seen
-        → ComesTo site Call.InitMap (Move.Stay (Change.Gather Parts.Entries))
+        → ComesTo site Call.InitMap (Move.Stay (Change.Gather DynamicParts.Entries))
     entries_begin dynamic is =
         let may = is ∙ map_seen at in
         remains site Call.InitMap _ refl (λ t. refl) tt (λ hooks. rw (← may, of_dynamic true dynamic) refl)

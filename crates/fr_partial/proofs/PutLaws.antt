@@ -1,17 +1,17 @@
 -- Putting a value or a default at a place: what it comes to, and what it is refused for.
 use Rattle.std.proofs.Common.{◌≡◌, ℕ, Bool, true, false, ◌&&◌, if◌then◌else◌, Option, Some, None, Result, Ok, Err, IsOk, inl, inr, nat_eq, refl, sym, ◌∙◌, ap}
 use Rattle.std.proofs.lemmas.Bool.{eqb-true}
-use Rattle.fr_partial.specs.Common.{Call, Change, ComesTo, Def, IsChecked, IsRefusedWith, IsUnconverted, Meanings, Move, Operation, ReflectErrorKind, ScalarKind, Sees, ShapeId, Site, State, Table, Tree, Val, Value, converted, converts_at, copies_to_convert, def_of, fits, is_dynamic, occurs, operation_failed, preset_of, settled, shape_at, step, takes_shape, unit, unless_refused, view}
+use Rattle.fr_partial.specs.Common.{Call, Change, ComesTo, Def, IsChecked, IsRefused, IsUnconverted, Meanings, Move, Operation, ReflectErrorKind, ScalarKind, Sees, ShapeId, Site, State, Table, Tree, Val, Value, converted, converts_at, copies_to_convert, def_of, fits, is_dynamic, occurs, operation_failed, preset_of, settled, shape_at, step, takes_shape, unit, unless_refused, view}
 use Rattle.fr_shape.specs.Fits.{keys_once}
 use Rattle.fr_shape.specs.Val.{Dynamic, dyn, text}
 use Rattle.fr_model.specs.Step.{is_str, is_owned_string, set, set_refusal, puts, puts_default, puts_dynamic}
 use Rattle.fr_partial.specs.SettingDynamic.{copies_at}
 use Rattle.fr_values.proofs.MadeDynamic.{settled_plain}
 use Rattle.fr_values.proofs.ConvertedLaws.{converted_once}
+use Rattle.fr_model.proofs.Templates.{IsTemplate, preset_template, template_holds}
 use Rattle.fr_partial.proofs.DecidingLaws.{remains}
 use Rattle.fr_partial.proofs.FitLaws.{both_true, fits_in}
 use Rattle.fr_partial.proofs.SeenLaws.{seen_by, shape_of_number, shape_seen}
-use Rattle.fr_partial.proofs.TemplateLaws.{IsTemplate, light_occurs, preset_template}
 
 -- what comes to a state is no refusal
 pub admits : {A E : Type 0} {made : Result A E} {a : A} → made ≡ Ok a → IsOk made
@@ -114,7 +114,7 @@ module _ (site : Site) (n : ℕ) (v : Val) where
 
     pub not_taken : (expected given : ShapeId) → expected.0 ≡ shape_at site → given.0 ≡ n
         → takes_shape site.shapes (shape_at site) n ≡ false
-        → IsRefusedWith site (Call.Set n v) (ReflectErrorKind.WrongShape expected given)
+        → IsRefused site (Call.Set n v) (ReflectErrorKind.WrongShape expected given)
     not_taken expected given same of_given takes =
         inl (
           (λ out. cc),
@@ -145,11 +145,11 @@ module _ (site : Site) (n : ℕ) (v : Val) where
 
     pub unconverted : (kind : ReflectErrorKind)
         → IsUnconverted (converted site.shapes (shape_at site) (def_of site.shapes n) v) n kind
-        → IsRefusedWith site (Call.Set n v) kind
+        → IsRefused site (Call.Set n v) kind
     unconverted kind is = go (converted site.shapes (shape_at site) (def_of site.shapes n) v) refl is
       where
         go : (made : Result Dynamic Operation) → converted site.shapes (shape_at site) (def_of site.shapes n) v ≡ made
-            → IsUnconverted made n kind → IsRefusedWith site (Call.Set n v) kind
+            → IsUnconverted made n kind → IsRefused site (Call.Set n v) kind
         go (Ok d) e out = inr (out, λ hooks. admits (means_so hooks ∙ ap (puts_dynamic site.state n) e))
         go (Err operation) e refused =
             inl (
@@ -163,7 +163,7 @@ module _ {site : Site} {table : Table} {shape : ShapeId} {seen : Tree} (at : See
   preset_is preset is = sym (is ∙ seen_by at (λ table s tree. preset_of table s) (λ table s tracker ts. refl))
 
   pub default_missing : None ≡ preset_of table shape.0
-      → IsRefusedWith site Call.SetDefault (ReflectErrorKind.OperationFailed shape Operation.NoDefault)
+      → IsRefused site Call.SetDefault (ReflectErrorKind.OperationFailed shape Operation.NoDefault)
   default_missing is =
       inl (
         (λ out. cc),
@@ -178,11 +178,11 @@ module _ {site : Site} {table : Table} {shape : ShapeId} {seen : Tree} (at : See
     pub default_copied : (value : Value) → view value ≡ template → ComesTo site Call.SetDefault (Move.Stay (Change.Put value))
     default_copied value same =
         remains site Call.SetDefault (Change.Put value) refl
-        (λ t. ap (λ (v : Val). occurs v t) same ∙ light_occurs template t default_template.light)
-        (ap (fits site.shapes (shape_at site)) same ∙ default_template.fitting) (λ hooks.
+        (λ t. ap (λ (v : Val). occurs v t) same ∙ template_holds site.shapes (shape_at site) template t default_template)
+        (ap (fits site.shapes (shape_at site)) same ∙ default_template.fit) (λ hooks.
         ap (puts_default (shape_at site) site.state) (preset_is (Some template) is)
         ∙ ap (λ (v : Val). Ok (puts site.state v)) (sym same))
 
     -- where there is no memory for the copy
-    pub copy_wanted : IsRefusedWith site Call.SetDefault ReflectErrorKind.OutOfMemory
+    pub copy_wanted : IsRefused site Call.SetDefault ReflectErrorKind.OutOfMemory
     copy_wanted = inr (refl, λ hooks. admits (ap (puts_default (shape_at site) site.state) (preset_is (Some template) is)))

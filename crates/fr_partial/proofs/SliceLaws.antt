@@ -1,6 +1,6 @@
 -- Pointers to slices: how they come to be open for items, and what that means.
 use Rattle.std.proofs.Common.{◌≡◌, ℕ, Bool, true, false, Option, Some, None, is_some, Ok, Err, unwrap_or, if◌then◌else◌, inl, inr, refl, sym, ◌∙◌, ap}
-use Rattle.fr_partial.specs.Common.{Call, Change, ComesTo, Def, IsRefusedWith, ItemsKind, Mode, Move, Operation, ReflectErrorKind, ShapeId, Site, Table, Tree, Val, Value, as_items, begun, begun_as, closed_slice, def_of, deferred, fits, hole, is_open_slice, kept_slice, list_of, no_vals, occurs, shape_at, slice_anew, strict, view}
+use Rattle.fr_partial.specs.Common.{Call, Change, ComesTo, Def, IsRefused, ItemsKind, Mode, Move, Operation, ReflectErrorKind, ShapeId, Site, Table, Tree, Val, Value, as_items, begun, begun_as, closed_slice, def_of, deferred, fits, hole, is_open_slice, kept_slice, list_of, no_vals, occurs, shape_at, slice_anew, strict, view}
 use Rattle.fr_shape.specs.declared.shape.KnownPointer.{KnownPointer}
 use Rattle.fr_shape.specs.declared.shape.PointerDef.{PointerDef}
 use Rattle.fr_shape.specs.Val.{ptr}
@@ -86,7 +86,7 @@ module _ (site : Site) (table : Table) (shape : ShapeId) (table_is : table ≡ s
       ∙ ap (λ (s : ℕ). shared_slice_refusal site.shapes (def_of site.shapes s)) shape_is
 
   pub shared_refused : (operation : Operation) → shared_slice_refusal table (def_of table shape.0) ≡ Some operation
-      → IsRefusedWith site Call.SetEmptySharedSlice (ReflectErrorKind.OperationFailed shape operation)
+      → IsRefused site Call.SetEmptySharedSlice (ReflectErrorKind.OperationFailed shape operation)
   shared_refused operation e =
       inl (
         (λ out. cc),
@@ -112,5 +112,5 @@ module _ (site : Site) (table : Table) (shape : ShapeId) (table_is : table ≡ s
     }
 
     -- where there is no memory for it
-    pub no_slice_wanted : IsRefusedWith site Call.SetEmptySharedSlice ReflectErrorKind.OutOfMemory
+    pub no_slice_wanted : IsRefused site Call.SetEmptySharedSlice ReflectErrorKind.OutOfMemory
     no_slice_wanted = inr (refl, λ hooks. admits meant_so)

@@ -1,6 +1,7 @@
 -- A builder as its open places give it: it is in order and at rest, and stays so from state to state.
 use Rattle.std.proofs.Common.{◌≡◌, ℕ, suc, Bool, true, false, List, [], ◌∷◌, length, Result, Ok, refl, sym, ◌∙◌, ap, subst, arith}
 use Rattle.fr_partial.specs.Common.{AreOpen, Became, Call, Frames, IsInOrder, IsKept, IsMade, IsMeant, IsOpen, IsOpenAt, IsSound, Kid, Meanings, Move, NothingStored, Parts, PathStep, Place, Plan, ReflectErrorKind, RestsAround, Site, Slot, State, StoresNothing, Tree, at, begun_plot, cursor_in, deferred, heap_of, is_root, kid_shown, meant_by, mode_of, one_more_call, path_of, plan_in, site, step, strict}
+use Rattle.fr_shape.specs.Hooks.{IsLawful}
 use Rattle.fr_model.specs.Laws.{StepKeepsOrder, StepKeepsRest}
 use Rattle.fr_model.specs.Paths.{steps_in}
 use Rattle.fr_model.specs.Scripts.{IsFitting}
@@ -41,11 +42,11 @@ module _ {parts : Parts} (sound : IsSound parts) where
   order = record { suits = sound.at_work.ready.suits; leads = sound.leads; began = sound.began }
 
   -- an admitted command that is fitting keeps the order
-  pub order_after : StepKeepsOrder → (hooks : Meanings) (next : State) (command : Call) → IsFitting parts.frames.table.now command
+  pub order_after : StepKeepsOrder → (hooks : Meanings) → IsLawful hooks → (next : State) (command : Call) → IsFitting parts.frames.table.now command
       → step hooks parts.frames.table.now parts.frames.root.0 (site parts).state command ≡ Ok next
       → IsInOrder parts.frames.table.now parts.frames.root.0 next
-  order_after law hooks next command fitting is =
-      law hooks parts.frames.table.now parts.frames.root.0 (site parts).state next command sound.at_work.ready.checked order
+  order_after law hooks lawful next command fitting is =
+      law hooks parts.frames.table.now parts.frames.root.0 (site parts).state next command lawful sound.at_work.ready.checked order
       fitting is
 
   -- and what rests around the place
@@ -93,17 +94,17 @@ module _ {parts : Parts} (sound : IsSound parts) where
   -- One more call came to a move, and the open places became so: then it is sound, where that is what the move means.
   module _ {plan : Plan} (same : plan ≡ plan_in parts.plan) {place : Place} {tree : Tree} {frames : Frames}
       (became : Became plan place tree parts.frames frames) {calls : ℕ} (more : calls ≡ one_more_call parts.calls) where
-    pub sound_moved : StepKeepsOrder → StepKeepsRest → (hooks : Meanings) {move : Move} → IsMeant (site parts) move
+    pub sound_moved : StepKeepsOrder → StepKeepsRest → (hooks : Meanings) → IsLawful hooks → {move : Move} → IsMeant (site parts) move
         → meant_by hooks (site parts) move ≡ Ok (state_then parts place tree) → (path : List PathStep)
         → path ≡ steps_in place tree → IsSound (record parts { frames = frames; path = path; calls = calls })
-    sound_moved keeps_order keeps_rest hooks meant is path way =
+    sound_moved keeps_order keeps_rest hooks lawful {move} meant is path way =
         let next : State = state_then parts place tree in
         let steps = meant.1.means hooks ∙ is in
         subst (λ (f : Frames). IsSound (record parts { frames = f; path = path; calls = calls })) (sym became.same)
         (sound_so frames.slots frames.stack frames.store parts.frames.mode path calls next
         (subst (λ (p : Plan). IsOpen p frames.slots frames.stack) same became.stands.open_still) became.kept became.stores
         (state_is (mode_of parts.frames.mode) calls next.calls became.stands more)
-        (order_after keeps_order hooks next meant.0 meant.1.fitting steps)
+        (order_after keeps_order hooks lawful next meant.0 meant.1.fitting steps)
         (rest_after keeps_rest hooks next meant.0 meant.1.fitting steps) way)
 
     -- and so the contracts see it

@@ -8,16 +8,18 @@ use Rattle.fr_shape.specs.Look.{Table}
 use Rattle.fr_shape.specs.Released.{Conserved, RoseBy}
 use Rattle.fr_shape.specs.Tokens.{occurs}
 use Rattle.fr_shape.specs.Val.{Val}
+use Rattle.fr_shape.specs.declared.error.Invariant.{Invariant}
 use Rattle.fr_shape.specs.declared.error.ReflectErrorKind.{ReflectErrorKind}
 use Rattle.fr_model.specs.Commands.{Call}
 use Rattle.fr_model.specs.Paths.{path_of}
 use Rattle.fr_model.specs.Removed.{removed, removed_at_build}
 use Rattle.fr_model.specs.Scripts.{brings}
-use Rattle.fr_model.specs.Step.{step, build}
+use Rattle.fr_model.specs.Step.{step, build, violates}
 use Rattle.fr_model.specs.Tree.{State, cursor_shape, tree_occurs}
 use Rattle.fr_model.specs.StateCode.{state_code}
 use Rattle.fr_partial.specs.BuiltValue.{BuiltValue}
-use Rattle.fr_partial.specs.Ending.{completes_late}
+use Rattle.fr_partial.specs.Ending.{completes_late, PassesValidators}
+use Rattle.fr_partial.specs.ParseHooks.{parses_by_hook}
 use Rattle.fr_partial.specs.Sites.{Site}
 use Rattle.fr_partial.specs.declared.reflect_error.ReflectError.{ReflectError}
 
@@ -82,13 +84,16 @@ TellsPlaceBefore before result = IfErr result (λ error. error.path ≡ path_of 
 abbrev pub IsNotOutOfMemory : {A : Type 0} → Result A ReflectError → Type 0
 IsNotOutOfMemory result = IfErr result (λ error. error.kind ≢ ReflectErrorKind.OutOfMemory)
 
--- a call that means a refusal is refused so, and not out of memory
+-- a call that means a refusal other than that a value fails a validator is refused so, and not out of memory
 abbrev pub RefusesBeforeMemory : {H : Type 0} → Meanings → Builder H → Call → Result (Builder H) ReflectError → Type 0
-RefusesBeforeMemory hooks before call result = IsErr (meaning hooks before call) → IsNotOutOfMemory result
+RefusesBeforeMemory hooks before call result =
+    IsErr (meaning hooks before call) → PassesValidators (meaning hooks before call) → IsNotOutOfMemory result
 
--- a `build` that means a refusal is refused so, and not out of memory
+-- a `build` that means a refusal other than that a value fails a validator or breaks an invariant is refused so, and not out of memory
 abbrev pub BuildRefusesBeforeMemory : {H : Type 0} → Meanings → Builder H → Result BuiltValue ReflectError → Type 0
-BuildRefusesBeforeMemory hooks before result = IsErr (meaning_of_build hooks before) → IsNotOutOfMemory result
+BuildRefusesBeforeMemory hooks before result =
+    IsErr (meaning_of_build hooks before) → PassesValidators (meaning_of_build hooks before)
+    → meaning_of_build hooks before ≢ Err (violates Invariant.TypeInvariant) → IsNotOutOfMemory result
 
 -- Tokens
 
@@ -142,8 +147,11 @@ pub record IsCall {H : Type 0} (hooks : Meanings) (before : Builder H) (call : C
   pub tokens : Conserved (λ t. holds before t + brings call t) old (left result) new
   -- Released was just what the call drops.
   pub removed : RisesByRemoved hooks before call result old new
-  -- A call that means a refusal is refused so, and never out of memory, unless it completes what was left beneath a place.
-  pub refused : completes_late before.state call ≡ false → RefusesBeforeMemory hooks before call result
+  -- A call that means a refusal is refused so, and never out of memory, unless it completes what was left beneath a place, or says which
+  -- validator a value fails, or asks a hook that parses.
+  pub refused :
+      completes_late before.state call ≡ false → parses_by_hook before.shapes (here before) call ≡ false
+      → RefusesBeforeMemory hooks before call result
 
 -- What `build` owes.
 pub record IsBuild {H : Type 0} (hooks : Meanings) (before : Builder H) (result : Result BuiltValue ReflectError) (old new : List ℕ) : Type 0 where
@@ -158,5 +166,6 @@ pub record IsBuild {H : Type 0} (hooks : Meanings) (before : Builder H) (result 
   pub tokens : Conserved (holds before) old (left_built result) new
   -- Released was just what `build` drops.
   pub removed : RisesByRemovedAtBuild hooks before result old new
-  -- One that means a refusal is refused so, and never out of memory.
+  -- One that means a refusal is refused so, and never out of memory, unless it says which validator a value fails, or that the value, once
+  -- it is made, breaks an invariant.
   pub refused : BuildRefusesBeforeMemory hooks before result

@@ -1,10 +1,13 @@
 -- The end of a builder: when there is something to be built, and what comes of it.
-use Rattle.std.specs.Prelude.{◌≡◌, ◌⊎◌, Option, Some, None, Result, Ok, Err, if◌then◌else◌}
+use Rattle.std.specs.Prelude.{◌≡◌, ◌⊎◌, Bool, true, false, Option, Some, None, Result, Ok, Err, if◌then◌else◌}
 use Rattle.fr_shape.specs.declared.error.Invariant.{Invariant}
 use Rattle.fr_shape.specs.declared.error.ReflectErrorKind.{ReflectErrorKind}
 use Rattle.fr_shape.specs.Hooks.{Meanings}
+use Rattle.fr_shape.specs.Val.{Val}
+use Rattle.fr_shape.specs.View.{view}
+use Rattle.fr_shape.specs.declared.value.Value.{Value}
 use Rattle.fr_model.specs.Places.{is_root}
-use Rattle.fr_model.specs.Step.{build}
+use Rattle.fr_model.specs.Step.{build, violates}
 use Rattle.fr_model.specs.Tree.{Mode, strict, deferred, State}
 use Rattle.fr_partial.specs.declared.reflect_error.ReflectError.{ReflectError}
 use Rattle.fr_partial.specs.BuiltValue.{BuiltValue}
@@ -18,9 +21,18 @@ build_refusal_in strict at_root = at_root
 abbrev pub build_refusal : State → Option Invariant
 build_refusal state = build_refusal_in state.mode (if is_root state.cursor then None else Some Invariant.BuildOpenFrames)
 
+-- what `build` means there
+abbrev pub meant_by_build : Meanings → Site → Result Val ReflectErrorKind
+meant_by_build hooks site = build hooks site.shapes site.root site.state
+
+-- the value is there still if it keeps its invariants, and else it is refused for that
+abbrev pub IsKeptIf : (keeps : Bool) → Val → Result Value ReflectErrorKind → Type 0
+IsKeptIf true v (Ok kept) = view kept ≡ v
+IsKeptIf false v (Err kind) = kind ≡ violates Invariant.TypeInvariant
+IsKeptIf _ v result = ⊥
+
 -- what is meant was built, by as many calls as there were, or it was refused so; or memory ran out
 abbrev pub IsBuiltSo : Meanings → Site → Result BuiltValue ReflectError → Type 0
 IsBuiltSo hooks before (Ok built) =
-    (build hooks before.shapes before.root before.state ≡ Ok built.value) × (built.calls ≡ before.state.calls)
-IsBuiltSo hooks before (Err error) =
-    (error.kind ≡ ReflectErrorKind.OutOfMemory) ⊎ (build hooks before.shapes before.root before.state ≡ Err error.kind)
+    (meant_by_build hooks before ≡ Ok built.value) × (built.calls ≡ before.state.calls)
+IsBuiltSo hooks before (Err error) = (error.kind ≡ ReflectErrorKind.OutOfMemory) ⊎ (meant_by_build hooks before ≡ Err error.kind)

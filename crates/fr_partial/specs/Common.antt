@@ -35,7 +35,7 @@ pub use Rattle.fr_partial.specs.HeldPlan.{plan_in}
 pub use Rattle.fr_partial.specs.Looks.{LooksLike, Sees, ends_absent, lacks_last}
 pub use Rattle.fr_partial.specs.Making.{IsMade}
 pub use Rattle.fr_partial.specs.Modes.{mode_of}
-pub use Rattle.fr_partial.specs.Moving.{ComesTo, Decides, IsMeant, IsRefusedWith, MayGo, MayStay, NeedsNone, carried, carried_by, changed, meant_by, number_told, onward}
+pub use Rattle.fr_partial.specs.Moving.{ComesTo, Decides, IsMeant, IsRefused, MayGo, MayStay, NeedsNone, carried, carried_by, changed, meant_by, number_told, onward}
 pub use Rattle.fr_partial.specs.Openings.{HasItems, MayOpenAs, is_begun}
 pub use Rattle.fr_partial.specs.SettingDynamic.{converts_at}
 pub use Rattle.fr_partial.specs.Sites.{Site, held_at, shape_at}

@@ -1,5 +1,5 @@
 -- What becomes of a place that is completed.
-use Rattle.std.specs.Prelude.{◌≡◌, ◌⊎◌, ◌&&◌, ◌||◌, not, ℕ, Bool, true, false, List, [], ◌∷◌, ◌++◌, Some, None, IsSome}
+use Rattle.std.specs.Prelude.{◌≡◌, ◌⊎◌, ◌&&◌, ◌||◌, not, ℕ, Bool, true, false, List, [], ◌∷◌, ◌++◌, Some, None, IsSome, Result, IfErr}
 use Rattle.fr_shape.specs.declared.error.ReflectErrorKind.{ReflectErrorKind}
 use Rattle.fr_shape.specs.Hooks.{Meanings}
 use Rattle.fr_shape.specs.Look.{Table}
@@ -36,7 +36,7 @@ RulesServe Rules.Deferred mode cursor = IsBelowStart mode cursor
 abbrev pub MayReceive : Taker → Frames → Type 0
 MayReceive taker frames = MayHandOver taker frames.slots frames.stack
 
--- to complete a place at which this stands, and to hand its value over, takes no memory
+-- where its fields pass their validators, to complete a place at which this stands, and to hand its value over, takes no memory
 abbrev pub needs_none_by : Rules → Tree → Bool
 needs_none_by Rules.Strict tree = takes_no_memory tree
 needs_none_by Rules.Deferred tree = false
@@ -90,6 +90,10 @@ abbrev pub completes_late : State → Call → Bool
 completes_late state Call.End = completes_beneath state
 completes_late state Call.FinishDeferred = is_deferred state.mode
 completes_late state _ = false
+
+-- what is meant isn't that a value fails a validator, which takes memory to say
+abbrev pub PassesValidators : {A : Type 0} → (meant : Result A ReflectErrorKind) → Type 0
+PassesValidators meant = IfErr meant (λ kind. IsOfValidator kind → ⊥)
 
 -- what stands at a place of shape s makes no value, and this is the cause
 pub record IsLacking (means : Meanings) (table : Table) (s : ℕ) (t : Tree) (kind : ReflectErrorKind) : Type 0 where

@@ -13,6 +13,7 @@ pub mod Making
 pub mod Modes
 pub mod Moving
 pub mod Openings
+pub mod ParseHooks
 pub mod SettingDynamic
 pub mod Sites
 pub mod Starting

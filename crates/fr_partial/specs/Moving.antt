@@ -38,6 +38,7 @@ use Rattle.fr_frame.specs.Admitting.{Describes}
 use Rattle.fr_partial.specs.Ending.{column_by, completes_late, needs_none_by, RulesServe}
 use Rattle.fr_partial.specs.Modes.{IsBelowStart}
 use Rattle.fr_model.specs.Entering.{Way as Onward, enters}
+use Rattle.fr_partial.specs.ParseHooks.{parses_by_hook}
 use Rattle.fr_partial.specs.Openings.{is_begun, HasItems, MayOpenAs}
 use Rattle.fr_partial.specs.Sites.{Site, shape_at}
 
@@ -216,35 +217,60 @@ abbrev pub needs_none : Move → Tree → Bool
 needs_none (Move.Go way) tree = false
 needs_none (Move.Stay change) tree = needs_none_for change tree
 needs_none Move.Leave tree = false
-needs_none (Move.Complete rules taker) tree = needs_none_by rules tree
+needs_none (Move.Complete rules taker) tree = false
 needs_none Move.Defer tree = true
 needs_none Move.Finish tree = false
 
+-- it takes none but to say which validator a value fails, as a place is completed
+abbrev pub needs_message_alone : Move → Tree → Bool
+needs_message_alone (Move.Complete rules taker) tree = needs_none_by rules tree
+needs_message_alone move tree = needs_none move tree
+
 -- Deciding
+
+-- As these hooks mean, a call comes to a move.
+pub record ComesToBy (hooks : Meanings) (site : Site) (call : Call) (move : Move) : Type 0 where
+  -- the move carries the tokens that the call brings
+  pub same_tokens : (t : ℕ) → brings call t ≡ carried move t
+  -- only one that completes what was left beneath a place comes to a late move
+  pub late : is_late move ≡ true → completes_late site.state call ≡ true
+  -- and means what the call means
+  pub means : step hooks site.shapes site.root site.state call ≡ meant_by hooks site move
 
 -- A call comes to a move, whatever the hooks mean.
 pub record ComesTo (site : Site) (call : Call) (move : Move) : Type 0 where
   -- the value that it brings fits the shape that it names
   pub fitting : IsFitting site.shapes call
-  -- the move carries the tokens that it brings
-  pub same_tokens : (t : ℕ) → brings call t ≡ carried move t
   -- the move may be made here
   pub may : MayMove site.shapes (shape_at site) site.state move
-  -- only one that completes what was left beneath a place comes to a late move
+  -- and each of these is so, whatever hooks mean
+  pub same_tokens : (t : ℕ) → brings call t ≡ carried move t
   pub late : is_late move ≡ true → completes_late site.state call ≡ true
-  -- and means what the call means
   pub means : (hooks : Meanings) → step hooks site.shapes site.root site.state call ≡ meant_by hooks site move
 
+-- As these hooks mean, a call is refused so; or it isn't refused, and to decide it there was no memory; or there was none for a hook that
+-- it asks.
+abbrev pub IsRefusedBy : Meanings → Site → Call → ReflectErrorKind → Type 0
+IsRefusedBy hooks site call kind =
+    ((kind ≢ ReflectErrorKind.OutOfMemory) × (step hooks site.shapes site.root site.state call ≡ Err kind))
+    ⊎ ((kind ≡ ReflectErrorKind.OutOfMemory)
+    × (IsOk (step hooks site.shapes site.root site.state call) ⊎ (parses_by_hook site.shapes (shape_at site) call ≡ true)))
+
 -- A call is refused so, whatever the hooks mean; or it isn't refused, and to decide it there was no memory.
-abbrev pub IsRefusedWith : Site → Call → ReflectErrorKind → Type 0
-IsRefusedWith site call kind =
+abbrev pub IsRefused : Site → Call → ReflectErrorKind → Type 0
+IsRefused site call kind =
     ((kind ≢ ReflectErrorKind.OutOfMemory) × ((hooks : Meanings) → step hooks site.shapes site.root site.state call ≡ Err kind))
     ⊎ ((kind ≡ ReflectErrorKind.OutOfMemory) × ((hooks : Meanings) → IsOk (step hooks site.shapes site.root site.state call)))
 
--- what a call means was decided: which move it comes to, or why it is refused, or there was no memory to decide it
+-- what a call means, as these hooks mean, was decided: which move it comes to, or why it is refused, or there was no memory to decide it
+abbrev pub DecidesBy : Meanings → Site → Call → Result Move ReflectErrorKind → Type 0
+DecidesBy hooks site call (Ok move) = ComesToBy hooks site call move
+DecidesBy hooks site call (Err kind) = IsRefusedBy hooks site call kind
+
+-- so it was, whatever the hooks mean
 abbrev pub Decides : Site → Call → Result Move ReflectErrorKind → Type 0
 Decides site call (Ok move) = ComesTo site call move
-Decides site call (Err kind) = IsRefusedWith site call kind
+Decides site call (Err kind) = IsRefused site call kind
 
 -- some call comes to it
 abbrev pub IsMeant : Site → Move → Type 0
@@ -254,6 +280,11 @@ IsMeant site move = (call : Call) × ComesTo site call move
 abbrev pub NeedsNone : Tree → Result Move ReflectErrorKind → Type 0
 NeedsNone tree (Ok move) = needs_none move tree ≡ true
 NeedsNone tree (Err kind) = kind ≢ ReflectErrorKind.OutOfMemory
+
+-- the same, but for a validator's message
+abbrev pub NeedsMessageAlone : Tree → Result Move ReflectErrorKind → Type 0
+NeedsMessageAlone tree (Ok move) = needs_message_alone move tree ≡ true
+NeedsMessageAlone tree (Err kind) = kind ≢ ReflectErrorKind.OutOfMemory
 
 -- how often what was decided carries a token
 abbrev pub carries : Result Move ReflectErrorKind → ℕ → ℕ

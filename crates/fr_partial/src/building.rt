@@ -1,17 +1,71 @@
 //! The end of a builder: the value of the root.
-ghost use Rattle.std.specs.Prelude.{◌≡◌, ◌≢◌};
-ghost use Rattle.fr_partial.specs.Common.{Conserved, IfErr, IfOk, IsErr, None, Room, cursor_tree, fits, held_at, path_of, takes_no_memory, true};
+ghost use Rattle.std.specs.Prelude.{◌≡◌, ◌≢◌, Err};
+ghost use Rattle.fr_partial.specs.Common.{Conserved, IfErr, IfOk, IsChecked, IsErr, IsIn, IsPlanOf, None, OnErr, OnOk, Room, RoseBy, cursor_tree, fits, held_at, occurs, path_of, takes_no_memory, true, view};
+ghost use Rattle.fr_shape.specs.declared.error.Invariant.{Invariant as Broken};
 ghost use Rattle.fr_shape.specs.declared.error.ReflectErrorKind.{ReflectErrorKind as Kind};
-ghost use Rattle.fr_model.specs.Step.{build};
+ghost use Rattle.fr_shape.specs.Invariants.{keeps_invariants};
+ghost use Rattle.fr_model.specs.Step.{violates};
 ghost use Rattle.fr_partial.specs.Builder.{left_built};
-ghost use Rattle.fr_partial.specs.Building.{build_refusal, IsBuiltSo};
+ghost use Rattle.fr_partial.specs.Building.{build_refusal, meant_by_build, IsBuiltSo, IsKeptIf};
+ghost use Rattle.fr_partial.specs.Ending.{PassesValidators};
 
 use crate::ending::take_root;
 use crate::mode::Mode;
 use crate::work::{Parts, Work};
 use crate::{Built, ReflectError};
-use fr_model::{law_completes, law_well};
-use fr_shape::{Hooks, Invariant, Ledger};
+use fr_model::law_completes;
+use fr_plan::TypePlanCore;
+use fr_shape::{
+    Hooks, Invariant, Ledger, ReflectErrorKind, ShapeId, ShapeTable, Value, keeps_invariants,
+    law_invariants, release,
+};
+
+/// Whether a value of the root keeps its invariants. Nothing is asked where the root reaches none.
+fn root_keeps_invariants<H: Hooks>(
+    plan: &TypePlanCore,
+    table: &ShapeTable,
+    root: ShapeId,
+    hooks: &H,
+    value: &Value,
+) -> bool
+    requires checked { IsChecked table.now }
+    requires inside { IsIn table.now root.0 }
+    requires planned { IsPlanOf table.now root plan.now }
+    requires fits { fits table.now root.0 (view value.now) ≡ true }
+    ensures { result ≡
+        keeps_invariants (H.means hooks.now).check table.now root.0 (view value.now) }
+{
+    law_invariants();
+    !plan.has_invariants() || keeps_invariants(table, hooks, root, value)
+}
+
+/// The value of the root back, if it keeps its invariants; else it is released.
+fn keep_root<H: Hooks>(
+    plan: &TypePlanCore,
+    table: &ShapeTable,
+    root: ShapeId,
+    hooks: &H,
+    value: Value,
+    ledger: &mut Ledger,
+) -> Result<Value, ReflectErrorKind>
+    requires checked { IsChecked table.now }
+    requires inside { IsIn table.now root.0 }
+    requires planned { IsPlanOf table.now root plan.now }
+    requires fits { fits table.now root.0 (view value) ≡ true }
+    requires room { Room (occurs (view value)) ledger.old }
+    ensures kept { IsKeptIf
+        (keeps_invariants (H.means hooks.now).check table.now root.0 (view value))
+        (view value) result }
+    ensures unreleased { OnOk result (ledger.new ≡ ledger.old) }
+    ensures released { OnErr result (RoseBy (occurs (view value)) ledger.old ledger.new) }
+{
+    if root_keeps_invariants(plan, table, root, hooks, &value) {
+        return Ok(value);
+    }
+    release(value, ledger);
+    let invariant = Invariant::TypeInvariant;
+    Err(ReflectErrorKind::InvariantViolation { invariant })
+}
 
 impl<'t> Work<'t> {
     /// Why there is nothing to be built yet, if so: deferred mode isn't over, or the builder isn't
@@ -26,7 +80,8 @@ impl<'t> Work<'t> {
         }
     }
 
-    /// Completes the root and hands its value over. Where that can't be, all is released.
+    /// Completes the root and hands its value over, if it keeps its invariants. Where that can't
+    /// be, all is released.
     pub fn take_root<H: Hooks>(self, hooks: &H, ledger: &mut Ledger) -> Result<Built, ReflectError>
         requires room { Room (held_at self) ledger.old }
         requires admitted { build_refusal self.state ≡ None }
@@ -35,13 +90,15 @@ impl<'t> Work<'t> {
         ensures fits { IfOk result (λ built.
             fits self.entry.shapes self.entry.root built.value ≡ true) }
         ensures tokens { Conserved (held_at self.entry) ledger.old (left_built result) ledger.new }
-        ensures refused { IsErr (build (H.means hooks.now) self.entry.shapes self.entry.root
-            self.entry.state) → IfErr result (λ error. error.kind ≢ Kind.OutOfMemory) }
+        ensures refused { IsErr (meant_by_build (H.means hooks.now) self.entry)
+            → PassesValidators (meant_by_build (H.means hooks.now) self.entry)
+            → meant_by_build (H.means hooks.now) self.entry ≢ Err (violates Broken.TypeInvariant)
+            → IfErr result (λ error. error.kind ≢ Kind.OutOfMemory) }
         ensures memory { takes_no_memory (cursor_tree self.entry.state) ≡ true
+            → PassesValidators (meant_by_build (H.means hooks.now) self.entry)
             → IfErr result (λ error. error.kind ≢ Kind.OutOfMemory) }
     {
         law_completes();
-        law_well();
         let Work { parts } = self;
         let Parts {
             alloc: _,
@@ -50,9 +107,12 @@ impl<'t> Work<'t> {
             path,
             calls,
         } = Box::into_inner(parts);
-        let result = take_root(plan.core(), hooks, frames, ledger);
-        drop(plan);
-        match result {
+        let (table, root) = (frames.table, frames.root);
+        let value = match take_root(plan.core(), hooks, frames, ledger) {
+            Ok(value) => value,
+            Err(kind) => return Err(ReflectError { kind, path }),
+        };
+        match keep_root(plan.core(), table, root, hooks, value, ledger) {
             Ok(value) => Ok(Built { value, calls }),
             Err(kind) => Err(ReflectError { kind, path }),
         }

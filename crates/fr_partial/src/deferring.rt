@@ -7,7 +7,7 @@ use crate::mode::Mode;
 use crate::work::Parts;
 use fr_model::{law_paths, law_well};
 use fr_plan::law_plan_lookups;
-use fr_shape::{Hooks, Ledger, ReflectErrorKind};
+use fr_shape::{Hooks, Ledger, ReflectErrorKind, law_hooks};
 
 /// From now on places that are left stay as they are. Takes no memory, and is never refused.
 pub fn defer(parts: &mut Parts) -> Result<(), ReflectErrorKind>
@@ -46,6 +46,7 @@ pub fn finish<H: Hooks>(
     ensures tokens { Conserved (held_in parts.old.frames) ledger.old
         (held_in parts.new.frames) ledger.new }
 {
+    law_hooks::<H>();
     law_paths();
     law_plan_lookups();
     law_well();

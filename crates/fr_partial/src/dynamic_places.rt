@@ -13,7 +13,7 @@ use fr_shape::{Def, Dyn, Ledger, OutOfMemory, ShapeId, ShapeTable, Value};
 
 /// What a dynamic place is begun with: the elements of an array, or the entries of an object.
 #[derive(Clone, Copy)]
-pub enum Parts {
+pub enum DynamicParts {
     Elements,
     Entries,
 }
@@ -29,29 +29,29 @@ pub fn is_dynamic(table: &ShapeTable, shape: ShapeId) -> bool
 }
 
 /// Whether the value has such parts.
-fn has_parts(parts: Parts, value: &Value) -> bool
+fn has_parts(parts: DynamicParts, value: &Value) -> bool
     ensures { result ≡ is_some (kept_as parts (whole (view value.now))) }
 {
     match parts {
-        Parts::Elements => matches!(value, Value::Dyn(Dyn::Array(_))),
-        Parts::Entries => matches!(value, Value::Dyn(Dyn::Object(_))),
+        DynamicParts::Elements => matches!(value, Value::Dyn(Dyn::Array(_))),
+        DynamicParts::Entries => matches!(value, Value::Dyn(Dyn::Object(_))),
     }
 }
 
 /// Whether a place that is begun so has such parts.
-fn is_begun_with(parts: Parts, tracker: &Tracker) -> bool
+fn is_begun_with(parts: DynamicParts, tracker: &Tracker) -> bool
     ensures { (children : Trees)
         → result ≡ is_some (kept_as parts (begun (as_tracker tracker.now) children)) }
 {
     match (parts, tracker) {
-        (Parts::Elements, Tracker::Items(ItemsKind::Array)) => true,
-        (Parts::Entries, Tracker::Entries(EntriesKind::Object(_))) => true,
-        (Parts::Elements | Parts::Entries, _) => false,
+        (DynamicParts::Elements, Tracker::Items(ItemsKind::Array)) => true,
+        (DynamicParts::Entries, Tracker::Entries(EntriesKind::Object(_))) => true,
+        (DynamicParts::Elements | DynamicParts::Entries, _) => false,
     }
 }
 
 /// What of the place is kept where it is begun with such parts.
-fn beginning_as(parts: Parts, partial: &PartialValue) -> Beginning
+fn beginning_as(parts: DynamicParts, partial: &PartialValue) -> Beginning
     ensures { result ≡ beginning_as parts (own_tree (body_of partial.now)) }
 {
     match partial {
@@ -62,12 +62,12 @@ fn beginning_as(parts: Parts, partial: &PartialValue) -> Beginning
 }
 
 /// As what a dynamic place is begun with such parts, none of which is there.
-fn tracker_with(parts: Parts) -> Tracker
+fn tracker_with(parts: DynamicParts) -> Tracker
     ensures { as_tracker result ≡ tracker_with parts }
 {
     match parts {
-        Parts::Elements => Tracker::Items(ItemsKind::Array),
-        Parts::Entries => Tracker::Entries(EntriesKind::Object(Keys::none())),
+        DynamicParts::Elements => Tracker::Items(ItemsKind::Array),
+        DynamicParts::Entries => Tracker::Entries(EntriesKind::Object(Keys::none())),
     }
 }
 
@@ -77,7 +77,7 @@ fn tracker_with(parts: Parts) -> Tracker
 pub fn begin_parts(
     plan: &TypePlanCore,
     frames: &mut Frames,
-    parts: Parts,
+    parts: DynamicParts,
     ledger: &mut Ledger,
 ) -> Result<(), OutOfMemory>
     requires at_work { IsAtWork plan.now frames.old }

@@ -4,7 +4,7 @@ ghost use Rattle.fr_partial.specs.Common.{AreOpened, Plan, AreOpen, AtTop, Conse
 ghost use Rattle.fr_shape.specs.declared.error.ReflectErrorKind.{ReflectErrorKind as Kind};
 ghost use Rattle.fr_model.specs.Step.{leaves};
 ghost use Rattle.fr_partial.specs.declared.moves.Move.{Move as Moves};
-ghost use Rattle.fr_partial.specs.Ending.{IsCompleted, IsHandedOver, IsPathThen, IsUncompleted, RulesServe};
+ghost use Rattle.fr_partial.specs.Ending.{IsCompleted, IsHandedOver, IsPathThen, IsUncompleted, PassesValidators, RulesServe};
 ghost use Rattle.fr_partial.specs.Modes.{IsBelowStart};
 ghost use Rattle.fr_partial.specs.Moving.{is_late_by};
 
@@ -15,7 +15,7 @@ use fr_frame::Taker;
 use fr_model::{law_paths, law_well};
 use fr_path::Path;
 use fr_plan::{TypePlanCore, law_plan_lookups};
-use fr_shape::{Hooks, Ledger, OutOfMemory, ReflectErrorKind, Value};
+use fr_shape::{Hooks, Ledger, OutOfMemory, ReflectErrorKind, Value, law_hooks};
 
 /// Goes up from the place at which the builder works, which is left as it is.
 #[inline(always)]
@@ -196,10 +196,15 @@ pub fn complete<H: Hooks>(
         (held_in parts.new.frames) ledger.new }
     ensures refused { is_late_by rules ≡ false
         → IsErr (meant_by (H.means hooks.now) (site parts.old) (Moves.Complete rules taker))
+        → PassesValidators
+        (meant_by (H.means hooks.now) (site parts.old) (Moves.Complete rules taker))
         → IfErr result (λ kind. kind ≢ Kind.OutOfMemory) }
     ensures memory { needs_none_by rules (cursor_tree (site parts.old).state) ≡ true
+        → PassesValidators
+        (meant_by (H.means hooks.now) (site parts.old) (Moves.Complete rules taker))
         → IfErr result (λ kind. kind ≢ Kind.OutOfMemory) }
 {
+    law_hooks::<H>();
     law_paths();
     law_well();
     let plan = parts.plan.core();

@@ -24,6 +24,7 @@ mod moves;
 mod objects;
 mod opening;
 mod option;
+mod parse;
 mod partial;
 mod placing;
 mod ptr;

@@ -6,7 +6,7 @@ ghost use Rattle.fr_shape.specs.declared.error.ReflectErrorKind.{ReflectErrorKin
 ghost use Rattle.fr_model.specs.Items.{is_list_like, unbegun_refusal, unless_list};
 ghost use Rattle.fr_model.specs.Trackers.{tracker_kind};
 
-use crate::dynamic_places::{Parts, is_dynamic};
+use crate::dynamic_places::{DynamicParts, is_dynamic};
 use crate::moves::{Change, Move, Way};
 use crate::work::Work;
 use crate::{Partial, ReflectError};
@@ -164,7 +164,9 @@ impl<'t> Work<'t> {
         let (table, shape, partial) = self.place();
         match init_list_refusal(table, shape, partial) {
             Some(kind) => Err(kind),
-            None if is_dynamic(table, shape) => Ok(Move::Stay(Change::Gather(Parts::Elements))),
+            None if is_dynamic(table, shape) => Ok(Move::Stay(Change::Gather(
+                DynamicParts::Elements,
+            ))),
             None => {
                 let (tracker, count) = (Tracker::Items(ItemsKind::List), 0);
                 Ok(Move::Stay(Change::Open(Opening { tracker, count })))

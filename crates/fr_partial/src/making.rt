@@ -2,7 +2,8 @@
 ghost use Rattle.std.specs.Prelude.{◌+◌, ◌≡◌, ◌≢◌};
 ghost use Rattle.fr_partial.specs.Common.{Conserved, IfErr, IsErr, IsMade, IsMeant, IsSound, OnErr, OnOk, Room, carried, cursor_tree, false, held_in, meant_by, site, true};
 ghost use Rattle.fr_shape.specs.declared.error.ReflectErrorKind.{ReflectErrorKind as Kind};
-ghost use Rattle.fr_partial.specs.Moving.{is_late, needs_none};
+ghost use Rattle.fr_partial.specs.Ending.{PassesValidators};
+ghost use Rattle.fr_partial.specs.Moving.{is_late, needs_message_alone, needs_none};
 
 use crate::deferring::{defer, finish};
 use crate::ending::{complete, leave};
@@ -32,8 +33,12 @@ pub fn make<H: Hooks>(
         ledger.old (held_in parts.new.frames) ledger.new }
     ensures refused { is_late decided.entry ≡ false
         → IsErr (meant_by (H.means hooks.now) (site parts.old) decided.entry)
+        → PassesValidators (meant_by (H.means hooks.now) (site parts.old) decided.entry)
         → IfErr result (λ kind. kind ≢ Kind.OutOfMemory) }
     ensures memory { needs_none decided.entry (cursor_tree (site parts.old).state) ≡ true
+        → IfErr result (λ kind. kind ≢ Kind.OutOfMemory) }
+    ensures message { needs_message_alone decided.entry (cursor_tree (site parts.old).state) ≡ true
+        → PassesValidators (meant_by (H.means hooks.now) (site parts.old) decided.entry)
         → IfErr result (λ kind. kind ≢ Kind.OutOfMemory) }
 {
     match decided {

@@ -5,7 +5,7 @@ ghost use Rattle.fr_shape.specs.declared.error.ReflectErrorKind.{ReflectErrorKin
 ghost use Rattle.fr_model.specs.Collections.{unless_map};
 ghost use Rattle.fr_partial.specs.KeyRefusals.{key_refusal_by, value_refusal_by};
 
-use crate::dynamic_places::{Parts, is_dynamic};
+use crate::dynamic_places::{DynamicParts, is_dynamic};
 use crate::lists::{at_shape, unexpected};
 use crate::moves::{Change, Move, Way};
 use crate::work::Work;
@@ -130,7 +130,9 @@ impl<'t> Work<'t> {
         let (table, shape, partial) = self.place();
         match init_map_refusal(table, shape, partial) {
             Some(kind) => Err(kind),
-            None if is_dynamic(table, shape) => Ok(Move::Stay(Change::Gather(Parts::Entries))),
+            None if is_dynamic(table, shape) => Ok(Move::Stay(Change::Gather(
+                DynamicParts::Entries,
+            ))),
             None => {
                 let (tracker, count) = (Tracker::Entries(EntriesKind::Map(0)), 0);
                 Ok(Move::Stay(Change::Open(Opening { tracker, count })))

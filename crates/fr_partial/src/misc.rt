@@ -2,7 +2,9 @@
 ghost use Rattle.std.specs.Prelude.{◌≡◌};
 ghost use Rattle.fr_partial.specs.Common.{Call, Decides, IsCall, IsNotOutOfMemory, NeedsNone, None, Room, RoseBy, Some, cursor_tree, false, holds, is_open_slice, is_root, length, strict, takes_no_memory, true};
 ghost use Rattle.fr_model.specs.Step.{begin_deferred};
-ghost use Rattle.fr_partial.specs.Builder.{IsBuild};
+ghost use Rattle.fr_partial.specs.Builder.{meaning, meaning_of_build, IsBuild};
+ghost use Rattle.fr_partial.specs.Ending.{PassesValidators};
+ghost use Rattle.fr_partial.specs.Moving.{NeedsMessageAlone};
 
 use crate::mode::Mode;
 use crate::moves::{Change, Move, Rules};
@@ -20,7 +22,7 @@ impl<'t> Work<'t> {
         ensures decides { Decides self.now Call.End result }
         ensures memory { self.now.state.mode ≡ strict
             → takes_no_memory (cursor_tree self.now.state) ≡ true
-            → NeedsNone (cursor_tree self.now.state) result }
+            → NeedsMessageAlone (cursor_tree self.now.state) result }
     {
         let (_, _, partial) = self.place();
         if is_open_slice(partial) {
@@ -46,7 +48,7 @@ impl<'t> Work<'t> {
         ensures decides { Decides self.now Call.End result }
         ensures memory { self.now.state.mode ≡ strict
             → takes_no_memory (cursor_tree self.now.state) ≡ true
-            → NeedsNone (cursor_tree self.now.state) result }
+            → NeedsMessageAlone (cursor_tree self.now.state) result }
     {
         let item = self.is_set_item();
         match self.mode() {
@@ -94,22 +96,24 @@ impl<'t> Work<'t> {
 
 impl<'t, H: Hooks> Partial<'t, H> {
     /// Leaves the place for the one above. In strict mode it is completed, and its value written
-    /// there: only copies of templates, what an option, a result or a pointer holds, and what a
-    /// set, a map or a dynamic value gathers, need memory, and what is lacking is found before any
-    /// is made. In deferred mode it is left as it is, to be entered again or completed by
-    /// `finish_deferred`; it has to lie deeper than the place at which deferred mode began. An item
-    /// of a set is completed in either mode, and in deferred mode with all that lies beneath it:
-    /// its value comes to the set, which leaves it out where it has one that is the same. An
-    /// element or an entry of a dynamic value is completed so too. At either, in deferred mode, it
-    /// may be out of memory before it has met the first place that fails. At an open pointer to a
-    /// slice the builder stays instead: the pointer becomes whole in strict mode, and in deferred
-    /// mode it is closed.
+    /// there, if its fields pass their validators: only copies of templates, what an option, a
+    /// result or a pointer holds, what a set, a map or a dynamic value gathers, and a validator's
+    /// message need memory, and what is lacking or fails is found before all but that is made. In
+    /// deferred mode it is left as it is, to be entered again or completed by `finish_deferred`; it
+    /// has to lie deeper than the place at which deferred mode began. An item of a set is completed
+    /// in either mode, and in deferred mode with all that lies beneath it: its value comes to the
+    /// set, which leaves it out where it has one that is the same. An element or an entry of a
+    /// dynamic value is completed so too. At either, in deferred mode, it may be out of memory
+    /// before it has met the first place that fails. At an open pointer to a slice the builder
+    /// stays instead: the pointer becomes whole in strict mode, and in deferred mode it is closed.
     pub fn end(self, ledger: &mut Ledger) -> Result<Partial<'t, H>, ReflectError>
         requires room { Room (holds self) ledger.old }
         ensures call { IsCall (H.means self.entry.hooks) self.entry Call.End result
             ledger.old ledger.new }
         ensures memory { self.entry.state.mode ≡ strict
-            → takes_no_memory (cursor_tree self.entry.state) ≡ true → IsNotOutOfMemory result }
+            → takes_no_memory (cursor_tree self.entry.state) ≡ true
+            → PassesValidators (meaning (H.means self.entry.hooks) self.entry Call.End)
+            → IsNotOutOfMemory result }
     {
         let decided = self.work.end_move();
         self.run(decided, ledger)
@@ -154,14 +158,16 @@ impl<'t, H: Hooks> Partial<'t, H> {
         self.run(decided, ledger)
     }
 
-    /// Completes the root and hands its value over. Only copies of templates, what an option, a
-    /// result or a pointer holds, and what a set, a map or a dynamic value gathers, need memory,
-    /// and what is lacking is found before any is made. Refused in deferred mode, and then below
-    /// the root.
+    /// Completes the root as `end` does in strict mode, asks the invariants of the structs in its
+    /// value, children before parents and left to right, and hands it over. Asking takes no memory,
+    /// and no time where the root's type reaches no invariant; they are asked once the value is
+    /// made, so where that takes memory, want of it may come first. Refused in deferred mode, and then
+    /// below the root; a value that breaks an invariant is released.
     pub fn build(self, ledger: &mut Ledger) -> Result<Built, ReflectError>
         requires room { Room (holds self) ledger.old }
         ensures build { IsBuild (H.means self.entry.hooks) self.entry result ledger.old ledger.new }
         ensures memory { takes_no_memory (cursor_tree self.entry.state) ≡ true
+            → PassesValidators (meaning_of_build (H.means self.entry.hooks) self.entry)
             → IsNotOutOfMemory result }
     {
         law_removed();

@@ -5,7 +5,7 @@ ghost use Rattle.fr_partial.specs.Moving.{step_told};
 
 use crate::beginning::Beginning;
 use crate::choosing::Chosen;
-use crate::dynamic_places::Parts;
+use crate::dynamic_places::DynamicParts;
 use fr_frame::{Opening, Taker, Tracker};
 use fr_path::PathStep;
 use fr_shape::{OutOfMemory, Text, Value};
@@ -35,7 +35,7 @@ pub enum Change {
     PutChild(usize, Opening, Value),
     Open(Opening),
     Select(Chosen),
-    Gather(Parts),
+    Gather(DynamicParts),
     OpenSlice,
     CloseSlice,
 }

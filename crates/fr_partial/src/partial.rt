@@ -1,14 +1,15 @@
 //! The builder.
 ghost use Rattle.std.specs.Prelude.{◌+◌};
-ghost use Rattle.fr_partial.specs.Common.{Call, Decides, IfOk, IsCall, IsChecked, IsInOrder, IsMeant, IsNotOutOfMemory, IsNumbered, IsServed, List, NeedsNone, RestsAround, Room, cursor_tree, holds, ℕ};
-ghost use Rattle.fr_partial.specs.Builder.{site_of};
-ghost use Rattle.fr_partial.specs.Moving.{carries, WasDecided};
+ghost use Rattle.fr_partial.specs.Common.{Call, IfOk, IsCall, IsChecked, IsInOrder, IsMeant, IsNotOutOfMemory, IsNumbered, IsServed, List, NeedsNone, RestsAround, Room, cursor_tree, holds, ℕ};
+ghost use Rattle.fr_partial.specs.Builder.{meaning, site_of};
+ghost use Rattle.fr_partial.specs.Ending.{PassesValidators};
+ghost use Rattle.fr_partial.specs.Moving.{carries, DecidesBy, NeedsMessageAlone, WasDecided};
 
 use crate::ReflectError;
 use crate::moves::Move;
 use crate::work::Work;
 use fr_model::law_removed;
-use fr_shape::{Hooks, Ledger, ReflectErrorKind};
+use fr_shape::{Hooks, Ledger, ReflectErrorKind, law_hooks};
 use std::marker::Model;
 
 /// A builder of one value of a shape of `table`. Each consuming call spends it and returns it
@@ -58,12 +59,19 @@ impl<'t, H: Hooks> Partial<'t, H> {
     ) -> Result<Partial<'t, H>, ReflectError>
         requires meant { IfOk decided (IsMeant (site_of self)) }
         requires room { Room (λ t. holds self t + carries decided t) ledger.old }
-        ensures call { (call : Call) → Decides (site_of self.entry) call decided.entry
+        ensures call { (call : Call)
+            → DecidesBy (H.means self.entry.hooks) (site_of self.entry) call decided.entry
             → (before : List ℕ) → WasDecided call decided.entry before ledger.old
             → IsCall (H.means self.entry.hooks) self.entry call result before ledger.new }
         ensures memory { NeedsNone (cursor_tree self.entry.state) decided.entry
             → IsNotOutOfMemory result }
+        ensures message { (call : Call)
+            → DecidesBy (H.means self.entry.hooks) (site_of self.entry) call decided.entry
+            → NeedsMessageAlone (cursor_tree self.entry.state) decided.entry
+            → PassesValidators (meaning (H.means self.entry.hooks) self.entry call)
+            → IsNotOutOfMemory result }
     {
+        law_hooks::<H>();
         law_removed();
         let Partial { hooks, work } = self;
         work.law_sound();

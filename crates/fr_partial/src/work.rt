@@ -4,7 +4,8 @@ ghost use Rattle.std.specs.Prelude.{◌+◌, ◌≡◌};
 ghost use Rattle.fr_partial.specs.Common.{Conserved, IfErr, IsChecked, IsErr, IsInOrder, IsMeant, IsNotOutOfMemory, IsNumbered, IsServed, RestsAround, Room, RoseBy, Sees, body_of, carried, false, held_at, held_in, is_map, lacks_last, lacks_value, length, meant_by, mode_of, own_tree, path_of, strict, true};
 ghost use Rattle.fr_model.specs.Step.{begin_deferred};
 ghost use Rattle.fr_partial.specs.Making.{left_at, IsMoved};
-ghost use Rattle.fr_partial.specs.Moving.{is_late, needs_none};
+ghost use Rattle.fr_partial.specs.Ending.{PassesValidators};
+ghost use Rattle.fr_partial.specs.Moving.{is_late, needs_message_alone, needs_none};
 ghost use Rattle.fr_partial.specs.Sites.{tree_at_site};
 
 use crate::ReflectError;
@@ -214,8 +215,12 @@ impl<'t> Work<'t> {
             (left_at result) ledger.new }
         ensures refused { is_late decided.entry ≡ false
             → IsErr (meant_by (H.means hooks.now) self.entry decided.entry)
+            → PassesValidators (meant_by (H.means hooks.now) self.entry decided.entry)
             → IsNotOutOfMemory result }
         ensures memory { needs_none decided.entry (tree_at_site self.entry) ≡ true
+            → IsNotOutOfMemory result }
+        ensures message { needs_message_alone decided.entry (tree_at_site self.entry) ≡ true
+            → PassesValidators (meant_by (H.means hooks.now) self.entry decided.entry)
             → IsNotOutOfMemory result }
     {
         match make(&mut *self.parts, hooks, decided, ledger) {

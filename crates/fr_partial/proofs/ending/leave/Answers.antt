@@ -1,5 +1,6 @@
 use Rattle.std.proofs.Common.{refl}
 use Rattle.fr_partial.specs.Common.{Became, no_hooks, plan_in, site, top_place, up, whole_tree}
+use Rattle.fr_shape.specs.HookLaws.{no_hooks_are_lawful}
 use Rattle.fr_partial.proofs.HandingLaws.{path_left}
 use Rattle.fr_partial.proofs.StateLaws.{below_start, sound_moved}
 use Rattle.fr_partial.proofs.ending.leave.Goals as goal
@@ -28,6 +29,6 @@ returns-in-Ok-clause-sound c =
       same = refl;
     } in
     sound_moved c.requires.sound refl became c.saturating_add-parts.ensures c.law_well.ensures.in_order
-    c.law_well.ensures.rests no_hooks c.requires.meant refl c.step_back.new.path
+    c.law_well.ensures.rests no_hooks no_hooks_are_lawful c.requires.meant refl c.step_back.new.path
     (path_left (site parts).state c.requires.sound.path c.law_paths.ensures.leave c.law_paths.ensures.deep below.0
     c.step_back.ensures)

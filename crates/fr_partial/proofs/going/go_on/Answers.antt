@@ -1,6 +1,7 @@
 use Rattle.std.proofs.Common.{List, [], ◌∷◌, ◌++◌, refl, sym, ap, ◌∙◌}
 use Rattle.fr_partial.specs.Common.{Parts, PathStep, State, Table, cursor_tree, def_of, no_hooks, onward, shape_at, site}
 use Rattle.fr_model.specs.PathLaws.{step_on}
+use Rattle.fr_shape.specs.HookLaws.{no_hooks_are_lawful}
 use Rattle.fr_partial.proofs.ContentLaws.{suits_here}
 use Rattle.fr_partial.proofs.GoingLaws.{admitted, step_is}
 use Rattle.fr_partial.proofs.StateLaws.{order, site_moved, sound_moved}
@@ -20,7 +21,7 @@ returns-clause-sound c =
     let here = cursor_tree state in
     let s = shape_at (site parts) in
     sound_moved c.requires.sound c.core.ensures c.in_ok-enter.ensures.entered c.saturating_add-parts.ensures
-    c.law_well.ensures.in_order c.law_well.ensures.rests no_hooks c.requires.meant refl c.push.new.self
+    c.law_well.ensures.in_order c.law_well.ensures.rests no_hooks no_hooks_are_lawful c.requires.meant refl c.push.new.self
     (c.in_ok-push.ensures.appended ∙ ap (λ (step : PathStep). parts.path ++ step ∷ [])
     (c.in_ok-step.ensures.step ∙ sym (step_is table s here suits c.args.way may))
     ∙ ap (λ (steps : List PathStep). steps ++ step_on (def_of table s) here (onward c.args.way here) ∷ []) c.requires.sound.path

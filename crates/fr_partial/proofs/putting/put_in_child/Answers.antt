@@ -1,12 +1,13 @@
-use Rattle.std.proofs.Common.{◌≡◌, ℕ, false, [], ◌∷◌, ◌++◌, refl, ap, ◌∙◌, subst}
+use Rattle.std.proofs.Common.{◌≡◌, ℕ, false, List, [], ◌∷◌, ◌++◌, refl, ap, ◌∙◌, subst}
 use Rattle.fr_partial.specs.Common.{Became, Changed, Conserved, Frames, Place, Room_conserved, Table, Tree, Val, Way, change_at, change_child, def_of, held_in, is_root, node_here, put_child, takes_at_end, top_place, top_shape, tree_at, up, view, whole, whole_tree}
+use Rattle.fr_shape.specs.Tokens.{times}
+use Rattle.fr_shape.specs.TokenLaws.{occurs_times}
 use Rattle.fr_model.specs.Step.{enter_child}
 use Rattle.fr_store.specs.LeaveLaws.{up_append}
 use Rattle.fr_partial.proofs.GoingLaws.{made_here, put_no_item, tree_then, Goes}
 use Rattle.fr_partial.proofs.KeepLaws.{became, became_after, kept_released, kept_through, room_here}
 use Rattle.fr_partial.proofs.KeptLaws.{on_ok}
 use Rattle.fr_partial.proofs.StateLaws.{open_then}
-use Rattle.fr_partial.proofs.TemplateLaws.{light_occurs}
 use Rattle.fr_partial.proofs.TreeLaws.{alike_here, changed_below, changed_twice, put_over}
 use Rattle.fr_partial.proofs.putting.put_in_child.Goals as goal
 use Rattle.fr_partial.proofs.putting.put_in_child.Goals.{After-set}
@@ -36,7 +37,7 @@ keeps c =
     kept_through _ _ _ _ _ _ c.enter.ensures.tokens
     (kept_released c.in_ok-enter.ensures.entered.stands.open_still (λ old. whole (view c.args.value))
     (c.set.ensures.set c.args.plan.now c.in_ok-enter.ensures.entered.stands.open_still)
-    c.set.ensures.released (λ t. light_occurs (view c.args.value) t c.requires.light))
+    c.set.ensures.released (λ t. occurs_times (view c.args.value) t ∙ ap (λ (ts : List ℕ). times ts t) c.requires.light))
 
 -- the value is put at the child
 child_set : (c : After-set) → Changed c.args.plan.now (λ old. whole (view c.args.value)) c.enter.new.frames (now c)

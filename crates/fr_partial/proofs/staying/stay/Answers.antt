@@ -1,5 +1,6 @@
 use Rattle.std.proofs.Common.{refl, sym, ◌∙◌}
 use Rattle.fr_partial.specs.Common.{State, changed, cursor_tree, no_hooks, shape_at, site}
+use Rattle.fr_shape.specs.HookLaws.{no_hooks_are_lawful}
 use Rattle.fr_partial.proofs.StateLaws.{made_moved, sound_moved}
 use Rattle.fr_partial.proofs.staying.stay.Goals as goal
 
@@ -10,7 +11,7 @@ pub returns-in-Ok-clause-sound : goal.returns-in-Ok-clause-sound
 returns-in-Ok-clause-sound c =
     let state : State = (site c.args.parts.now).state in
     sound_moved c.requires.sound c.core.ensures c.in-Ok.ensures.changed c.saturating_add-parts.ensures
-    c.law_well.ensures.in_order c.law_well.ensures.rests no_hooks c.requires.meant refl c.args.parts.now.path
+    c.law_well.ensures.in_order c.law_well.ensures.rests no_hooks no_hooks_are_lawful c.requires.meant refl c.args.parts.now.path
     (c.requires.sound.path ∙ sym (c.law_paths.ensures.change state
     (changed c.args.parts.now.frames.table.now (shape_at (site c.args.parts.now)) state.mode (cursor_tree state) c.args.change)))
 

@@ -7,4 +7,4 @@ pub run-requires-clause-meant : goal.run-requires-clause-meant
 run-requires-clause-meant g c = meant_of c.self.view_is (Call.BeginNthField c.args.idx) _ c.begin_nth_field_move-decided.ensures
 
 pub returns : goal.returns
-returns g c = record { call = called c.self.view_is (Call.BeginNthField c.args.idx) _ c.begin_nth_field_move-decided.ensures (λ t. refl) _ c.run.ensures.call }
+returns g c = record { call = called c.self.view_is (Call.BeginNthField c.args.idx) _ c.begin_nth_field_move-decided.ensures _ (λ t. refl) _ c.run.ensures.call }

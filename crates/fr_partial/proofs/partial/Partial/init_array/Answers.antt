@@ -7,4 +7,4 @@ pub run-requires-clause-meant : goal.run-requires-clause-meant
 run-requires-clause-meant g c = meant_of c.self.view_is Call.InitArray _ c.init_array_move-decided.ensures.decides
 
 pub returns-clause-call : goal.returns-clause-call
-returns-clause-call g c = called c.self.view_is Call.InitArray _ c.init_array_move-decided.ensures.decides (λ t. refl) _ c.run.ensures.call
+returns-clause-call g c = called c.self.view_is Call.InitArray _ c.init_array_move-decided.ensures.decides _ (λ t. refl) _ c.run.ensures.call

@@ -22,5 +22,5 @@ pub returns : goal.returns
 returns g c = record {
   call =
       called c.self.view_is (Call.SelectVariant c.args.discriminant) _
-      (told g (goal.at.returns g c).After-select_variant_move-decided) (λ t. refl) _ c.run.ensures.call;
+      (told g (goal.at.returns g c).After-select_variant_move-decided) _ (λ t. refl) _ c.run.ensures.call;
 }

@@ -9,5 +9,5 @@ run-requires-clause-meant g c =
 pub returns-clause-call : goal.returns-clause-call
 returns-clause-call g c =
     let call = Call.Set c.args.value.shape c.args.value.value in
-    c.run.ensures.call call (decided_of c.self.view_is call _ c.set_shape_move-decided.ensures.decides) _
+    c.run.ensures.call call (decided_of c.self.view_is call _ c.set_shape_move-decided.ensures.decides (g.H.Hooks.means c.args.self.hooks)) _
     (was_decided call _ _ _ c.set_shape_move-decided.ensures.unreleased c.set_shape_move-decided.ensures.released)

@@ -4,7 +4,7 @@ use Rattle.fr_partial.proofs.work.Work.set_default_move.Goals as goal
 pub copy_template-requires : goal.copy_template-requires
 copy_template-requires c = record {
   no_token =
-      (default_template c.place.ensures.seen c.law_sound.ensures.checked c.in-Some.template.now c.in-Some.ensures.template).light;
+      (default_template c.place.ensures.seen c.law_sound.ensures.checked c.in-Some.template.now c.in-Some.ensures.template).no_tokens;
 }
 
 pub returns-in_default : goal.returns-in_default
