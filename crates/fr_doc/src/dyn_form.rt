@@ -1,5 +1,5 @@
 //! Reading a dynamic shape's values.
-ghost use Rattle.std.specs.Prelude.{◌≡◌, map};
+ghost use Rattle.std.specs.Prelude.{◌≡◌, map, IfOk};
 ghost use Rattle.serde_json.specs.View.{view as data_of, items_view, members_view};
 ghost use Rattle.fr_shape.specs.View.{dyn_view, dynamics_of, members_of};
 ghost use Rattle.fr_doc.specs.DynForms.{bytes_form, dyn_form, dynamics_form, dyn_one_key_form, dyn_object_form, dyn_member_form};
@@ -9,11 +9,23 @@ use crate::fault::ReadError;
 use crate::numerals::{byte_of, small_int_of};
 use crate::read_error::{Broken, FormError};
 use crate::tag::{DynTag, find_dyn_tag};
-use fr_shape::{Dyn, Items, Text};
+use fr_shape::{Dyn, Items, OutOfMemory, Text};
 use serde_json::{Map, Value as Json};
 use std::alloc::Global;
 
-/// An array of bytes.
+/// The bytes that JSON stands for, an array of numbers from 0 to 255, or None where it is no such
+/// array.
+pub fn bytes_of(alloc: Global, json: &Json) -> Result<Option<Items<u8>>, OutOfMemory>
+    ensures form { IfOk result (λ found. found ≡ bytes_form (data_of json.now)) }
+{
+    match read_bytes(alloc, json) {
+        Ok(bytes) => Ok(Some(bytes)),
+        Err(ReadError::Fault(Broken)) => Ok(None),
+        Err(ReadError::Memory) => Err(OutOfMemory),
+    }
+}
+
+/// The same, where anything else is an error.
 fn read_bytes(alloc: Global, json: &Json) -> Result<Items<u8>, FormError>
     ensures { Reads (λ bytes. bytes) (bytes_form (data_of json.now)) result }
 {

@@ -41,6 +41,7 @@ pub use doc_hooks::{
     CHECK_IN_ORDER, CHECK_NEVER, CHECK_NO_NEGATIVE, CHECK_NO_ZERO, CONVERT_FIRST_CHILD,
     CONVERT_NEVER, CONVERT_NOT_ZERO, CONVERT_SAME, DocHooks, PARSE_BYTES_UTF8, PARSE_TEXT,
 };
+pub use dyn_form::bytes_of;
 pub use fault::{DocFault, DocPlace, DocSize, ReadError};
 pub use fr_shape::TableFault;
 pub use laws::{law_doc_hooks, law_printed_float_free};

@@ -6,7 +6,7 @@ use Rattle.fr_shape.specs.declared.error.Operation.{Operation}
 use Rattle.fr_shape.specs.declared.error.ReflectErrorKind.{ReflectErrorKind}
 use Rattle.fr_shape.specs.declared.shape.Field.{Field}
 use Rattle.fr_shape.specs.Fills.{preset_of, is_option}
-use Rattle.fr_shape.specs.Hooks.{Meanings}
+use Rattle.fr_shape.specs.Hooks.{Meaning, gives, refuses, unsupported, Meanings}
 use Rattle.fr_shape.specs.Look.{Table, def_of, field_in, variants_of}
 use Rattle.fr_shape.specs.Plannable.{is_dynamic}
 use Rattle.fr_shape.specs.Val.{Val, Dynamic, list_of, ptr, no_vals}
@@ -18,9 +18,10 @@ use Rattle.fr_model.specs.DynamicPlaces.{entry_refusal}
 use Rattle.fr_model.specs.Contents.{is_result, pointer_refusal, points_to_slice}
 use Rattle.fr_model.specs.Finish.{finished}
 use Rattle.fr_model.specs.Items.{init_array_refusal, item_refusal, is_open_slice, shared_slice_refusal}
+use Rattle.fr_model.specs.Parses.{text_meant, bytes_meant}
 use Rattle.fr_model.specs.Places.{Column, strict_column, deferred_column, is_root}
 use Rattle.fr_model.specs.Run.{run_from, and_then}
-use Rattle.fr_model.specs.Step.{unless_refused, at_shape, was_not_a, field_refusal, named_refusal, set_refusal, Way, enters, begins_named, puts, puts_default, field_default, puts_child_default, defaults_field, puts_dynamic, set_dynamic, begins_list, begins_map, init_list, option_kept, content_kept, begins_pointer, opens, init_list_refusal, init_map_refusal, init_set_refusal, is_set_item, item_ended, ends_item, is_dynamic_part, part_ended, leaves_deferred, selects, select_found, ended, end_in, leaves_place, puts_made, closes_slice, begins_deferred, finishes, finish_in, violates, step_at, step}
+use Rattle.fr_model.specs.Step.{unless_refused, operation_failed, at_shape, was_not_a, field_refusal, named_refusal, set_refusal, Way, enters, begins_named, puts, puts_default, puts_parsed, field_default, puts_child_default, defaults_field, puts_dynamic, set_dynamic, begins_list, begins_map, init_list, option_kept, content_kept, begins_pointer, opens, init_list_refusal, init_map_refusal, init_set_refusal, is_set_item, item_ended, ends_item, is_dynamic_part, part_ended, leaves_deferred, selects, select_found, ended, end_in, leaves_place, puts_made, closes_slice, begins_deferred, finishes, finish_in, violates, step_at, step}
 use Rattle.fr_model.specs.Trackers.{as_content, ContentKind}
 use Rattle.fr_model.specs.Tree.{selected, Tree, Mode, strict, deferred, State, count_below, cursor_shape, cursor_tree, one_more_call}
 use Rattle.fr_model.specs.Variants.{is_enum, field_found, variant_numbered, variant_named, variant_told_by, selection_refusal}
@@ -69,6 +70,13 @@ module _ (hooks : Meanings) (table : Table) (root s : ℕ) (state : State) where
   unfolding Counts
   default_counts (Some v) = refl
   default_counts None = tt
+
+  parsed_counts : (meant : Meaning) (refusal : ReflectErrorKind) (operation : Operation)
+      → Counts (one_more_call state.calls) (puts_parsed s state meant refusal operation)
+  unfolding Counts
+  parsed_counts (gives v) refusal operation = refl
+  parsed_counts (refuses message) refusal operation = tt
+  parsed_counts unsupported refusal operation = tt
 
   where_counts : (allowed : Bool) (next : State) (kind : ReflectErrorKind) → next.calls ≡ one_more_call state.calls
       → Counts (one_more_call state.calls) (if allowed then Ok next else Err kind)
@@ -237,6 +245,10 @@ module _ (hooks : Meanings) (table : Table) (root s : ℕ) (state : State) where
       (field_in (def_of table s) (selected (cursor_tree state)) i)
   step_counts (Call.Set given v) = set_counts (is_dynamic (def_of table s)) given v
   step_counts Call.SetDefault = default_counts (preset_of table s)
+  step_counts (Call.ParseFromStr text) =
+      parsed_counts (text_meant hooks table s text) (ReflectErrorKind.ParseFailed (record { 0 = s })) Operation.NoParsing
+  step_counts (Call.ParseFromBytes bytes) =
+      parsed_counts (bytes_meant hooks table s bytes) (operation_failed s Operation.BytesNotParsed) Operation.NoParsingOfBytes
   step_counts Call.SetEmptySharedSlice =
       unless_counts (at_shape s (shared_slice_refusal table (def_of table s))) (puts state (ptr (list_of no_vals))) refl
   step_counts Call.InitList = list_counts

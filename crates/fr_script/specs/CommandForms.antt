@@ -4,6 +4,7 @@ use Rattle.std.specs.Prelude.{ℕ, List, Option, Some, None, codes, option_map, 
 use Rattle.std.specs.Str.{bytes_eq}
 use Rattle.serde_json.specs.Data.{Data, string, array, no_items, item}
 use Rattle.serde_json.specs.Find.{as_str}
+use Rattle.fr_doc.specs.DynForms.{bytes_form}
 use Rattle.fr_doc.specs.Numerals.{small_int_form, whole_number}
 use Rattle.fr_doc.specs.Steps.{◌>>=◌}
 use Rattle.fr_doc.specs.ValueForms.{value_form}
@@ -30,17 +31,24 @@ call_of_none word =
     if bytes_eq word (codes "begin_deferred") then Some Call.BeginDeferred else
     if bytes_eq word (codes "finish_deferred") then Some Call.FinishDeferred else None
 
+-- a call with one argument, a number
+unfoldable pub call_of_number : List ℕ → Data → Option Call
+call_of_number word a =
+    if bytes_eq word (codes "begin_nth_field") then option_map Call.BeginNthField (whole_number a) else
+    if bytes_eq word (codes "set_nth_field_to_default") then option_map Call.SetNthFieldToDefault (whole_number a) else
+    if bytes_eq word (codes "init_list_with_capacity") then option_map Call.InitListWithCapacity (whole_number a) else
+    if bytes_eq word (codes "select_nth_variant") then option_map Call.SelectNthVariant (whole_number a) else
+    if bytes_eq word (codes "select_variant") then option_map Call.SelectVariant (small_int_form a) else None
+
 -- a call with one argument
 unfoldable pub call_of_one : List ℕ → Data → Option Call
 call_of_one word a =
     if bytes_eq word (codes "begin_field") then option_map Call.BeginField (as_str a) else
     if bytes_eq word (codes "begin_object_entry") then option_map Call.BeginObjectEntry (as_str a) else
-    if bytes_eq word (codes "begin_nth_field") then option_map Call.BeginNthField (whole_number a) else
-    if bytes_eq word (codes "set_nth_field_to_default") then option_map Call.SetNthFieldToDefault (whole_number a) else
-    if bytes_eq word (codes "init_list_with_capacity") then option_map Call.InitListWithCapacity (whole_number a) else
-    if bytes_eq word (codes "select_nth_variant") then option_map Call.SelectNthVariant (whole_number a) else
     if bytes_eq word (codes "select_variant_named") then option_map Call.SelectVariantNamed (as_str a) else
-    if bytes_eq word (codes "select_variant") then option_map Call.SelectVariant (small_int_form a) else None
+    if bytes_eq word (codes "parse_from_str") then option_map Call.ParseFromStr (as_str a) else
+    if bytes_eq word (codes "parse_from_bytes") then option_map Call.ParseFromBytes (bytes_form a) else
+    call_of_number word a
 
 -- a call with two arguments
 unfoldable pub call_of_two : List ℕ → Data → Data → Option Call

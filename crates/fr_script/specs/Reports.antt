@@ -4,13 +4,13 @@ use Rattle.serde_json.specs.Data.{Data, string, array, object, Items, no_members
 use Rattle.serde_json.specs.View.{items_of}
 use Rattle.serde_json.specs.Written.{compact_text}
 use Rattle.fr_shape.specs.declared.error.ReflectErrorKind.{ReflectErrorKind}
-use Rattle.fr_shape.specs.Hooks.{no_hooks}
 use Rattle.fr_shape.specs.Tokens.{occurs}
 use Rattle.fr_shape.specs.Val.{Val}
 use Rattle.fr_doc.specs.declared.fault.DocFault.{DocFault}
 use Rattle.fr_doc.specs.declared.fault.DocPlace.{DocPlace}
 use Rattle.fr_doc.specs.declared.fault.DocSize.{DocSize}
 use Rattle.fr_doc.specs.Details.{detail_text}
+use Rattle.fr_doc.specs.DocHooks.{doc_hooks}
 use Rattle.fr_doc.specs.Printed.{under, natural, value_data}
 use Rattle.fr_model.specs.Run.{Refusal, full_run}
 use Rattle.fr_model.specs.Scripts.{brought}
@@ -50,9 +50,9 @@ abbrev pub outcome_of_run : Document → Result Val Refusal → Outcome
 outcome_of_run document (Ok v) = built v (released document (occurs v))
 outcome_of_run document (Err refusal) = refused refusal (released document none_answered)
 
--- the machine's run of a document's script
+-- the machine's run of a document's script, with the hooks that documents name
 abbrev pub run_of : Document → Result Val Refusal
-run_of document = full_run no_hooks document.shapes document.root document.script
+run_of document = full_run doc_hooks document.shapes document.root document.script
 
 abbrev pub outcome_of_plan : Table → Planned Made → Outcome
 outcome_of_plan table (Ok made) = planned (map (outline_line table) made.walk.nodes) made.node.0

@@ -118,6 +118,8 @@ fn call<'t, H: Hooks>(
         Command::SetNthFieldToDefault(i) => partial.set_nth_field_to_default(i as usize, ledger),
         Command::Set(shape, value) => partial.set_shape(Shaped::new(table, shape, value), ledger),
         Command::SetDefault => partial.set_default(ledger),
+        Command::ParseFromStr(text) => partial.parse_from_str(text.as_str(), ledger),
+        Command::ParseFromBytes(bytes) => partial.parse_from_bytes(bytes.as_slice(), ledger),
         Command::SetEmptySharedSlice => partial.set_empty_shared_slice(ledger),
         Command::InitList => partial.init_list(ledger),
         Command::InitListWithCapacity(n) => partial.init_list_with_capacity(n as usize, ledger),

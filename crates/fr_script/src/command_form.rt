@@ -2,11 +2,11 @@
 ghost use Rattle.std.specs.Prelude.{◌≡◌, option_map, IfOk};
 ghost use Rattle.serde_json.specs.View.{view as data_of};
 ghost use Rattle.fr_model.specs.Commands.{call_of, calls_of};
-ghost use Rattle.fr_script.specs.CommandForms.{call_of_none, call_of_one, call_of_two, call_form};
+ghost use Rattle.fr_script.specs.CommandForms.{call_of_none, call_of_number, call_of_one, call_of_two, call_form};
 ghost use Rattle.fr_script.specs.Documents.{call_at, script_form};
 ghost use Rattle.fr_script.specs.Reading.{GivesFor};
 
-use fr_doc::{DocFault, DocPlace, ReadError, count_of, value_of};
+use fr_doc::{DocFault, DocPlace, ReadError, bytes_of, count_of, value_of};
 use fr_model::{Command, Script};
 use fr_shape::{Items, OutOfMemory, ShapeId, Text};
 use serde_json::Value as Json;
@@ -89,6 +89,21 @@ fn find_bare(word: &str) -> Option<Command>
     }
 }
 
+/// A command with one argument, a number.
+#[tactic(auto, unfolding(crate::specs::CommandForms::call_of_number))]
+fn find_with_number(word: &str, a: &Json) -> Option<Command>
+    ensures { option_map call_of result ≡ call_of_number word.now (data_of a.now) }
+{
+    match word {
+        "begin_nth_field" => Some(Command::BeginNthField(count_of(a)?)),
+        "set_nth_field_to_default" => Some(Command::SetNthFieldToDefault(count_of(a)?)),
+        "init_list_with_capacity" => Some(Command::InitListWithCapacity(count_of(a)?)),
+        "select_nth_variant" => Some(Command::SelectNthVariant(count_of(a)?)),
+        "select_variant" => Some(Command::SelectVariant(a.as_i64()?)),
+        _ => None,
+    }
+}
+
 /// A command with one argument.
 #[tactic(auto, unfolding(crate::specs::CommandForms::call_of_one))]
 fn read_with_one(alloc: Global, word: &str, a: &Json) -> Result<Option<Command>, OutOfMemory>
@@ -104,31 +119,19 @@ fn read_with_one(alloc: Global, word: &str, a: &Json) -> Result<Option<Command>,
             Some(key) => Ok(Some(Command::BeginObjectEntry(Text::new(alloc, key)?))),
             None => Ok(None),
         },
-        "begin_nth_field" => match count_of(a) {
-            Some(i) => Ok(Some(Command::BeginNthField(i))),
-            None => Ok(None),
-        },
-        "set_nth_field_to_default" => match count_of(a) {
-            Some(i) => Ok(Some(Command::SetNthFieldToDefault(i))),
-            None => Ok(None),
-        },
-        "init_list_with_capacity" => match count_of(a) {
-            Some(n) => Ok(Some(Command::InitListWithCapacity(n))),
-            None => Ok(None),
-        },
-        "select_nth_variant" => match count_of(a) {
-            Some(i) => Ok(Some(Command::SelectNthVariant(i))),
-            None => Ok(None),
-        },
         "select_variant_named" => match a.as_str() {
             Some(name) => Ok(Some(Command::SelectVariantNamed(Text::new(alloc, name)?))),
             None => Ok(None),
         },
-        "select_variant" => match a.as_i64() {
-            Some(discriminant) => Ok(Some(Command::SelectVariant(discriminant))),
+        "parse_from_str" => match a.as_str() {
+            Some(text) => Ok(Some(Command::ParseFromStr(Text::new(alloc, text)?))),
             None => Ok(None),
         },
-        _ => Ok(None),
+        "parse_from_bytes" => match bytes_of(alloc, a)? {
+            Some(bytes) => Ok(Some(Command::ParseFromBytes(bytes))),
+            None => Ok(None),
+        },
+        _ => Ok(find_with_number(word, a)),
     }
 }
 

@@ -13,11 +13,8 @@ pub fn is_served(shape: &Shape) -> bool
         && shape.inner.is_none()
         && shape.builder.is_none()
         && shape.convert.is_none()
-        && shape.parse.is_none()
-        && shape.parse_bytes.is_none()
         && shape.proxy.is_none()
         && shape.format_proxies.is_empty()
-        && shape.invariant.is_none()
 }
 
 fn is_served_def(def: &Def) -> bool
@@ -68,5 +65,5 @@ fn are_served_fields(fields: &[Field]) -> bool
 fn is_served_field(field: &Field) -> bool
     ensures { result ≡ serves_field field.now }
 {
-    field.proxy.is_none() && field.format_proxies.is_empty() && field.validators.is_empty()
+    field.proxy.is_none() && field.format_proxies.is_empty()
 }

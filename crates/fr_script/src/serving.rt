@@ -18,8 +18,8 @@ use crate::planning::plan_root;
 use crate::released::released_tokens;
 use crate::report::{report_of, report_of_fault};
 use crate::subcommand::Subcommand;
-use fr_doc::ReadError;
-use fr_shape::{Ledger, NoHooks, OutOfMemory, ReflectErrorKind, ShapeTable};
+use fr_doc::{DocHooks, ReadError};
+use fr_shape::{Ledger, OutOfMemory, ReflectErrorKind, ShapeTable};
 use serde_json::Value as Json;
 use std::alloc::Global;
 
@@ -63,7 +63,7 @@ fn answer_document(alloc: Global, document: Document) -> Result<(ShapeTable, Ans
     let Ok(mut ledger) = Ledger::new(alloc, tokens) else {
         return Err(OutOfMemory);
     };
-    match build_script(alloc, &table, root, &NoHooks, script, &mut ledger) {
+    match build_script(alloc, &table, root, &DocHooks, script, &mut ledger) {
         Ok(built) => match released_tokens(alloc, &ledger) {
             Ok(released) => Ok((table, Answer::Built(built, released))),
             Err(refused) => Err(refused),

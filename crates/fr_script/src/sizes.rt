@@ -123,6 +123,8 @@ fn levels(command: &Command) -> (usize, usize)
         Command::SetNthFieldToDefault(_)
         | Command::Set(_, _)
         | Command::SetDefault
+        | Command::ParseFromStr(_)
+        | Command::ParseFromBytes(_)
         | Command::SetEmptySharedSlice
         | Command::InitList
         | Command::InitListWithCapacity(_)
