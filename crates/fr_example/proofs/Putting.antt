@@ -8,7 +8,7 @@ use Rattle.fr_shape.specs.declared.shape.Field.{Field}
 use Rattle.fr_shape.specs.declared.shape.ScalarKind.{ScalarKind}
 use Rattle.fr_shape.specs.declared.shape.StructDef.{StructDef}
 use Rattle.fr_shape.specs.Checked.{IsChecked, is_sized}
-use Rattle.fr_shape.specs.Hooks.{no_hooks}
+use Rattle.fr_shape.specs.Hooks.{Meanings}
 use Rattle.fr_shape.specs.Fills.{is_empty_struct}
 use Rattle.fr_shape.specs.Lists.{is_nil}
 use Rattle.fr_shape.specs.Look.{Table, def_of}
@@ -120,11 +120,11 @@ begun_struct : (table : Table) (root : ℕ) (struct : StructDef) (pairs : List P
 begun_struct table root struct [] is = rw is (struct_of_fresh struct (is_nil struct.fields))
 begun_struct table root struct (pair ∷ pairs) is = refl
 
-pub begins : (table : Table) (root : ℕ) (struct : StructDef) (name : List ℕ) (pairs : List Pair) (calls : ℕ)
+pub begins : (hooks : Meanings) (table : Table) (root : ℕ) (struct : StructDef) (name : List ℕ) (pairs : List Pair) (calls : ℕ)
     → def_of table root ≡ Def.Struct struct
-    → step no_hooks table root (filling table root pairs calls) (Call.BeginField name)
+    → step hooks table root (filling table root pairs calls) (Call.BeginField name)
     ≡ enters_named table root (filling table root pairs calls) (field_named name (def_of table root))
-begins table root struct name pairs calls is =
+begins hooks table root struct name pairs calls is =
     ap
     (λ (o : Option ℕ).
     begins_named table root (filling table root pairs calls)
@@ -165,19 +165,19 @@ entered_field table root struct i pairs calls is below =
     }))
     (opened_tree table root struct i pairs is below)
 
-ends : (table : Table) (root : ℕ) (i : ℕ) (pairs : List Pair) (pair : Pair) (calls : ℕ)
+ends : (hooks : Meanings) (table : Table) (root : ℕ) (i : ℕ) (pairs : List Pair) (pair : Pair) (calls : ℕ)
     → field_named pair.name (def_of table root) ≡ Some i → i < child_count table root
-    → step no_hooks table root (puts (at_field i (with_entered table root pairs i) calls) (text_at table root i pair.text)) Call.End
+    → step hooks table root (puts (at_field i (with_entered table root pairs i) calls) (text_at table root i pair.text)) Call.End
     ≡ Ok (filling table root (pairs ++ pair ∷ []) (one_more_call (one_more_call calls)))
-ends table root i pairs pair calls e below =
+ends hooks table root i pairs pair calls e below =
     ap
     (λ (t : Tree).
-    if is_open_slice t then puts_made no_hooks table (child_shape table root i)
+    if is_open_slice t then puts_made hooks table (child_shape table root i)
     (puts (at_field i (with_entered table root pairs i) calls) (text_at table root i pair.text))
-    (complete strict_column no_hooks table (child_shape table root i) t)
-    else ended no_hooks table (child_shape table root i)
+    (complete strict_column hooks table (child_shape table root i) t)
+    else ended hooks table (child_shape table root i)
     (puts (at_field i (with_entered table root pairs i) calls) (text_at table root i pair.text))
-    (complete strict_column no_hooks table (child_shape table root i) t))
+    (complete strict_column hooks table (child_shape table root i) t))
     (put_there i (text_at table root i pair.text) (last_given table root pairs) (child_count table root) 0
     (enter (def_of table (child_shape table root i))) below)
     ∙ ap
@@ -240,19 +240,19 @@ sets table s string here codes text_shape sized = go (is_dynamic (def_of table s
         (takes_its_own table s string sized)
 
 -- what stands at the root after the field was entered, or not
-entered_or_not : (table : Table) (root string : ℕ) (struct : StructDef) (pairs : List Pair) (pair : Pair)
+entered_or_not : (hooks : Meanings) (table : Table) (root string : ℕ) (struct : StructDef) (pairs : List Pair) (pair : Pair)
     (calls : ℕ) (found : Option ℕ) → def_of table root ≡ Def.Struct struct
     → field_named pair.name (def_of table root) ≡ found
-    → puts_pair table root string (filling table root pairs calls) pair
-    ≡ then_call table root
-    (then_call table root (enters_named table root (filling table root pairs calls) found)
+    → puts_pair hooks table root string (filling table root pairs calls) pair
+    ≡ then_call hooks table root
+    (then_call hooks table root (enters_named table root (filling table root pairs calls) found)
     (Call.Set string (text pair.text)))
     Call.End
-entered_or_not table root string struct pairs pair calls found is e =
+entered_or_not hooks table root string struct pairs pair calls found is e =
     ap
     (λ (r : Result State ReflectErrorKind).
-    then_call table root (then_call table root r (Call.Set string (text pair.text))) Call.End)
-    (begins table root struct pair.name pairs calls is
+    then_call hooks table root (then_call hooks table root r (Call.Set string (text pair.text))) Call.End)
+    (begins hooks table root struct pair.name pairs calls is
     ∙ ap (λ (o : Option ℕ). enters_named table root (filling table root pairs calls) o) e)
 
 pub within : (table : Table) (root : ℕ) (struct : StructDef) (name : List ℕ) (i : ℕ) → def_of table root ≡ Def.Struct struct
@@ -260,40 +260,40 @@ pub within : (table : Table) (root : ℕ) (struct : StructDef) (name : List ℕ)
 within table root struct name i is e =
     let below : i < 0 + length struct.fields = found_within name 0 i struct.fields (rw is at e) in omega arith
 
-set_or_not : (table : Table) (root : ℕ) (here after : State) (kind : ReflectErrorKind) (b : Bool)
-    → step no_hooks table root here Call.End ≡ Ok after
-    → then_call table root (unless_refused (if b then None else Some kind) here) Call.End
+set_or_not : (hooks : Meanings) (table : Table) (root : ℕ) (here after : State) (kind : ReflectErrorKind) (b : Bool)
+    → step hooks table root here Call.End ≡ Ok after
+    → then_call hooks table root (unless_refused (if b then None else Some kind) here) Call.End
     ≡ unless_refused (if b then None else Some kind) after
-set_or_not table root here after kind true e = e
-set_or_not table root here after kind false e = refl
+set_or_not hooks table root here after kind true e = e
+set_or_not hooks table root here after kind false e = refl
 
 -- the pair is refused, or the struct is filled with it too
-pub puts_pair_is : (table : Table) (root string : ℕ) (struct : StructDef) (pairs : List Pair) (pair : Pair) (calls : ℕ)
+pub puts_pair_is : (hooks : Meanings) (table : Table) (root string : ℕ) (struct : StructDef) (pairs : List Pair) (pair : Pair) (calls : ℕ)
     → IsChecked table → def_of table root ≡ Def.Struct struct → def_of table string ≡ Def.Scalar ScalarKind.String
-    → puts_pair table root string (filling table root pairs calls) pair
+    → puts_pair hooks table root string (filling table root pairs calls) pair
     ≡ unless_refused (refusal_of table root string pair)
     (filling table root (pairs ++ pair ∷ []) (one_more_call (one_more_call (one_more_call calls))))
-puts_pair_is table root string struct pairs pair calls checked is text_shape =
+puts_pair_is hooks table root string struct pairs pair calls checked is text_shape =
     go (field_named pair.name (def_of table root)) refl
   where
     go : (found : Option ℕ) → field_named pair.name (def_of table root) ≡ found
-        → puts_pair table root string (filling table root pairs calls) pair
+        → puts_pair hooks table root string (filling table root pairs calls) pair
         ≡ unless_refused (refusal_at table root string found)
         (filling table root (pairs ++ pair ∷ []) (one_more_call (one_more_call (one_more_call calls))))
-    go None e = entered_or_not table root string struct pairs pair calls None is e
+    go None e = entered_or_not hooks table root string struct pairs pair calls None is e
     go (Some i) e =
         let below : i < length struct.fields = within table root struct pair.name i is e in
         let child : i < child_count table root = rw is below in
         let here : State = at_field i (with_entered table root pairs i) (one_more_call calls) in
-        entered_or_not table root string struct pairs pair calls (Some i) is e
+        entered_or_not hooks table root string struct pairs pair calls (Some i) is e
         ∙ ap
         (λ (r : Result State ReflectErrorKind).
-        then_call table root (then_call table root r (Call.Set string (text pair.text))) Call.End)
+        then_call hooks table root (then_call hooks table root r (Call.Set string (text pair.text))) Call.End)
         (entered_field table root struct i pairs calls is below)
-        ∙ ap (λ (r : Result State ReflectErrorKind). then_call table root r Call.End)
+        ∙ ap (λ (r : Result State ReflectErrorKind). then_call hooks table root r Call.End)
         (sets table (child_shape table root i) string here pair.text text_shape
         (field_is_sized table root struct i checked is below))
-        ∙ set_or_not table root (puts here (text_at table root i pair.text))
+        ∙ set_or_not hooks table root (puts here (text_at table root i pair.text))
         (filling table root (pairs ++ pair ∷ []) (one_more_call (one_more_call (one_more_call calls))))
         (ReflectErrorKind.WrongShape (record { 0 = child_shape table root i }) (record { 0 = string }))
-        (takes_text table (child_shape table root i) string) (ends table root i pairs pair (one_more_call calls) e child)
+        (takes_text table (child_shape table root i) string) (ends hooks table root i pairs pair (one_more_call calls) e child)

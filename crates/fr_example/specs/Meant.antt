@@ -2,19 +2,23 @@
 use Rattle.std.specs.Prelude.{◌≡◌, ◌≢◌, ◌⊎◌, ◌==◌, ◌||◌, ℕ, zero, suc, Bool, true, false, List, [], ◌∷◌, Option, Some, None, Result, Ok, Err, if◌then◌else◌}
 use Rattle.std.specs.Option.{option_or}
 use Rattle.fr_shape.specs.declared.error.AllocError.{AllocError}
+use Rattle.fr_shape.specs.declared.error.Invariant.{Invariant}
 use Rattle.fr_shape.specs.declared.error.PlanError.{PlanError}
 use Rattle.fr_shape.specs.declared.error.ReflectErrorKind.{ReflectErrorKind}
 use Rattle.fr_shape.specs.declared.shape.Def.{Def}
 use Rattle.fr_shape.specs.Fills.{is_empty_struct, preset_of}
+use Rattle.fr_shape.specs.Hooks.{Meanings}
+use Rattle.fr_shape.specs.Invariants.{keeps_invariants}
 use Rattle.fr_shape.specs.Look.{Table, def_of}
 use Rattle.fr_shape.specs.Named.{field_named}
 use Rattle.fr_shape.specs.Plannable.{is_dynamic}
 use Rattle.fr_shape.specs.Val.{Val, Vals, text, product, dyn, no_vals, first}
 use Rattle.fr_shape.specs.Val.{dyn_text}
 use Rattle.fr_path.specs.declared.path_steps.PathStep.{PathStep}
-use Rattle.fr_model.specs.Complete.{missing_field}
+use Rattle.fr_model.specs.Complete.{missing_field, failing_field_in}
 use Rattle.fr_model.specs.Places.{strict_column, child_count, child_shape, fill_at}
 use Rattle.fr_model.specs.Run.{alloc_refusal}
+use Rattle.fr_model.specs.Step.{violates}
 use Rattle.fr_partial.specs.declared.reflect_error.ReflectError.{ReflectError}
 use Rattle.fr_partial.specs.BuiltValue.{BuiltValue}
 use Rattle.fr_example.specs.declared.record.Pair.{Pair}
@@ -88,46 +92,66 @@ last_given table root (pair ∷ pairs) i = option_or (last_given table root pair
 abbrev pub value_of_field : Table → (root : ℕ) → List Pair → ℕ → Option Val
 value_of_field table root pairs i = option_or (last_given table root pairs i) (fill_at strict_column table root i)
 
-abbrev pub one_more_field : (missing : ReflectErrorKind) → Option Val → Result Vals ReflectErrorKind → Result Vals ReflectErrorKind
-one_more_field missing (Some v) (Ok vs) = Ok (first v vs)
-one_more_field missing (Some v) (Err kind) = Err kind
-one_more_field missing None others = Err missing
+abbrev pub refused_or : Option ReflectErrorKind → Result Val ReflectErrorKind → Result Val ReflectErrorKind
+refused_or (Some kind) value = Err kind
+refused_or None value = value
 
--- the values of so many fields, number i first; or that the first field without one is missing
-abbrev pub fields_from : (root : ℕ) → (value : ℕ → Option Val) → (count i : ℕ) → Result Vals ReflectErrorKind
-fields_from root value zero i = Ok no_vals
-fields_from root value (suc count) i =
-    one_more_field (missing_field root None i) (value i) (fields_from root value count (suc i))
+-- the value, if there is one and it isn't refused
+abbrev pub admitted_value : (missing : ReflectErrorKind) → (refusal : Option ReflectErrorKind) → Option Val → Result Val ReflectErrorKind
+admitted_value missing refusal (Some v) = refused_or refusal (Ok v)
+admitted_value missing refusal None = Err missing
+
+-- field i's value; without one it is missing; where it fails a validator, the first one refuses it
+abbrev pub checked_field : Meanings → Table → (root i : ℕ) → Option Val → Result Val ReflectErrorKind
+checked_field hooks table root i value =
+    admitted_value (missing_field root None i) (failing_field_in hooks table root None i value) value
+
+abbrev pub one_more_field : Result Val ReflectErrorKind → Result Vals ReflectErrorKind → Result Vals ReflectErrorKind
+one_more_field (Ok v) (Ok vs) = Ok (first v vs)
+one_more_field (Ok v) (Err kind) = Err kind
+one_more_field (Err kind) others = Err kind
+
+-- so many fields with these values, number i first; or the refusal of the first that is missing or refused
+abbrev pub fields_from : Meanings → Table → (root : ℕ) → (value : ℕ → Option Val) → (count i : ℕ) → Result Vals ReflectErrorKind
+fields_from hooks table root value zero i = Ok no_vals
+fields_from hooks table root value (suc count) i =
+    one_more_field (checked_field hooks table root i (value i)) (fields_from hooks table root value count (suc i))
 
 abbrev pub product_of_fields : Result Vals ReflectErrorKind → Result Val ReflectErrorKind
 product_of_fields (Ok vs) = Ok (product vs)
 product_of_fields (Err kind) = Err kind
 
 -- the product of all fields' values
-abbrev pub of_fields : Table → (root : ℕ) → List Pair → Result Val ReflectErrorKind
-of_fields table root pairs =
-    product_of_fields (fields_from root (value_of_field table root pairs) (child_count table root) 0)
+abbrev pub of_fields : Meanings → Table → (root : ℕ) → List Pair → Result Val ReflectErrorKind
+of_fields hooks table root pairs =
+    product_of_fields (fields_from hooks table root (value_of_field table root pairs) (child_count table root) 0)
 
 abbrev pub preset_or : Option Val → Result Val ReflectErrorKind → Result Val ReflectErrorKind
 preset_or (Some v) other = Ok v
 preset_or None other = other
 
--- What pairs make of which none is refused. Where there is none at all, a struct without fields is empty, and one with a
--- default is that.
-abbrev pub unrefused : Table → (root : ℕ) → List Pair → Result Val ReflectErrorKind
-unrefused table root [] =
+-- The value to which the struct completes, where no pair is refused. Where there is none at all, a struct without fields is empty, and
+-- one with a default is that, of which no validator is asked.
+abbrev pub filled : Meanings → Table → (root : ℕ) → List Pair → Result Val ReflectErrorKind
+filled hooks table root [] =
     if is_empty_struct (def_of table root) then Ok (product no_vals)
-    else preset_or (preset_of table root) (of_fields table root [])
-unrefused table root (pair ∷ pairs) = of_fields table root (pair ∷ pairs)
+    else preset_or (preset_of table root) (of_fields hooks table root [])
+filled hooks table root (pair ∷ pairs) = of_fields hooks table root (pair ∷ pairs)
 
-abbrev pub refused_or : Option ReflectErrorKind → Result Val ReflectErrorKind → Result Val ReflectErrorKind
-refused_or (Some kind) value = Err kind
-refused_or None value = value
+-- a value, unless an invariant of a struct in it is false
+abbrev pub unless_violated : Meanings → Table → (root : ℕ) → Result Val ReflectErrorKind → Result Val ReflectErrorKind
+unless_violated hooks table root (Ok v) =
+    if keeps_invariants hooks.check table root v then Ok v else Err (violates Invariant.TypeInvariant)
+unless_violated hooks table root (Err kind) = Err kind
 
--- what pairs make of a struct that has a builder: the first refusal of a pair, or else the value or the first missing field
-abbrev pub pairs_meant : Table → (root string : ℕ) → List Pair → Result Val ReflectErrorKind
-pairs_meant table root string pairs =
-    refused_or (first_refusal table root string pairs) (unrefused table root pairs)
+-- what is built of pairs of which none is refused
+abbrev pub unrefused : Meanings → Table → (root : ℕ) → List Pair → Result Val ReflectErrorKind
+unrefused hooks table root pairs = unless_violated hooks table root (filled hooks table root pairs)
+
+-- what pairs make of a struct that has a builder: the first refusal of a pair, or else the value, or why the struct isn't built
+abbrev pub pairs_meant : Meanings → Table → (root string : ℕ) → List Pair → Result Val ReflectErrorKind
+pairs_meant hooks table root string pairs =
+    refused_or (first_refusal table root string pairs) (unrefused hooks table root pairs)
 
 -- why there is no builder, as the kind of an error
 abbrev pub kind_of : PlanError → ReflectErrorKind
@@ -140,9 +164,9 @@ unplanned (Some error) = Some (ReflectErrorKind.Alloc error)
 unplanned None = None
 
 -- what pairs make of the struct of shape `root`: that it has no builder, or else as above
-abbrev pub record_meant : Table → (root string : ℕ) → List Pair → Result Val ReflectErrorKind
-record_meant table root string pairs =
-    refused_or (unplanned (alloc_refusal table root)) (pairs_meant table root string pairs)
+abbrev pub record_meant : Meanings → Table → (root string : ℕ) → List Pair → Result Val ReflectErrorKind
+record_meant hooks table root string pairs =
+    refused_or (unplanned (alloc_refusal table root)) (pairs_meant hooks table root string pairs)
 
 -- what is meant was built; or that is the refusal; or memory ran out
 abbrev pub IsMeant : (meant : Result Val ReflectErrorKind) → Result BuiltValue ReflectError → Type 0
@@ -184,7 +208,7 @@ IsPlaceOfAny table root (pair ∷ pairs) path = (path ≡ place_of table root pa
 -- The error tells the path of the place before the call that was refused.
 pub record TellsPlace (table : Table) (root string : ℕ) (pairs : List Pair) (error : ReflectError) : Type 0 where
   -- A text is refused at the field that doesn't take it. All else is refused at the root: a struct that has no plan, a name that no field
-  -- has, and a field that was not named and has no fill.
+  -- has, a field that was not named and has no fill, a value that a validator of its field refuses, and an invariant that is false.
   pub refused : error.kind ≢ ReflectErrorKind.OutOfMemory → error.path ≡ record_place table root string pairs
   -- Memory runs out at a field that one of the pairs names, or at the root.
   pub anywhere : IsPlaceOfAny table root pairs error.path

@@ -15,7 +15,7 @@ ghost use Rattle.fr_example.specs.Putting.{puts_pair, FailsPutting};
 use fr_partial::{Built, Partial, ReflectError};
 use fr_path::Path;
 use fr_shape::{
-    Items, Ledger, NoHooks, PlanError, ReflectErrorKind, ShapeId, ShapeTable, Shaped, Text, Value,
+    Hooks, Items, Ledger, PlanError, ReflectErrorKind, ShapeId, ShapeTable, Shaped, Text, Value,
 };
 use std::alloc::Global;
 
@@ -27,20 +27,23 @@ pub struct Pair {
 }
 
 /// Builds a struct from texts, in whatever order they come. It returns the value exactly where the
-/// struct has a plan, each name is that of a field that is a `String` or a dynamic value, and every
-/// other field has a fill: each field that was named holds the last text given for it. Otherwise it
-/// returns the first refusal: `Alloc` for a shape that has no plan, `FieldError` for a name that no
-/// field has, `WrongShape` for a field that takes no text, and last of all `UninitializedField` for
-/// a field that was not named and has no fill. Where there is no pair at all, the struct's own
-/// default comes before that. `root` is the shape of the struct, `string` that of the texts. Out of
-/// memory is `OutOfMemory`, at any pair or at the end. The error's path is that of the place before
-/// the call that was refused: the field for `WrongShape`, the root for any other refusal, and
-/// either of them where memory ran out.
-pub fn record_of(
+/// struct has a plan, each name is that of a field that is a `String` or a dynamic value, every
+/// other field has a fill, the validators of all fields pass, and every invariant holds: each field
+/// that was named holds the last text given for it. Otherwise it returns the first refusal: `Alloc`
+/// for a shape that has no plan, `FieldError` for a name that no field has, `WrongShape` for a
+/// field that takes no text; then, field by field, `UninitializedField` for one that was not named
+/// and has no fill, and `ValidationFailed` for one whose value a validator refuses; and last of all
+/// `InvariantViolation`. Where there is no pair at all, the struct's own default comes before what
+/// is said of fields. `root` is the shape of the struct, `string` that of the texts; the hooks are
+/// asked for custom validators and for invariants. Out of memory is `OutOfMemory`, at any
+/// pair or at the end. The error's path is that of the place before the call that was refused: the
+/// field for `WrongShape`, the root for any other refusal, and either of them where memory ran out.
+pub fn record_of<H: Hooks>(
     alloc: Global,
     table: &ShapeTable,
     root: ShapeId,
     string: ShapeId,
+    hooks: &H,
     pairs: Items<Pair>,
     ledger: &mut Ledger,
 ) -> Result<Built, ReflectError>
@@ -49,14 +52,14 @@ pub fn record_of(
     requires numbered { IsNumbered table.now }
     requires checked { IsChecked table.now }
     requires served { IsServed table.now }
-    ensures meant { IsMeant (record_meant table.now root.0 string.0 pairs) result }
+    ensures meant { IsMeant (record_meant (H.means hooks.now) table.now root.0 string.0 pairs)
+        result }
     ensures place { IfErr result (TellsPlace table.now root.0 string.0 pairs) }
     ensures fits { IfOk result (λ built. fits table.now root.0 built.value ≡ true) }
     ensures calls { IfOk result (λ built. built.calls ≡ min (3 * length pairs) most_calls) }
     ensures released { ledger.new ≡ ledger.old }
 {
-    let hooks = NoHooks;
-    let mut partial = match Partial::alloc_shape(alloc, table, root, &hooks) {
+    let mut partial = match Partial::alloc_shape(alloc, table, root, hooks) {
         Ok(partial) => partial,
         Err(refused) => return Err(unplanned(alloc, refused)),
     };
@@ -83,20 +86,22 @@ fn unplanned(alloc: Global, refused: PlanError) -> ReflectError
 
 /// Puts a text into the field of its name. The builder works at a struct, and does so again
 /// afterwards.
-fn put<'t>(
-    partial: Partial<'t, NoHooks>,
+fn put<'t, H: Hooks>(
+    partial: Partial<'t, H>,
     table: &'t ShapeTable,
     string: ShapeId,
     pair: Pair,
     ledger: &mut Ledger,
-) -> Result<Partial<'t, NoHooks>, ReflectError>
+) -> Result<Partial<'t, H>, ReflectError>
     requires same { partial.shapes ≡ table.now }
     requires string { def_of table.now string.0 ≡ Def.Scalar ScalarKind.String }
     requires tokens { (t : ℕ) → holds partial t ≡ 0 }
     ensures put { IsStepTo partial.entry
-        (puts_pair table.now partial.entry.root string.0 partial.entry.state pair) result }
+        (puts_pair (H.means partial.entry.hooks) table.now partial.entry.root string.0
+        partial.entry.state pair) result }
     ensures place { IfErr result
-        (FailsPutting table.now partial.entry.root string.0 partial.entry.state pair) }
+        (FailsPutting (H.means partial.entry.hooks) table.now partial.entry.root string.0
+        partial.entry.state pair) }
     ensures released { ledger.new ≡ ledger.old }
     ensures tokens { IfOk result (λ after. (t : ℕ) → holds after t ≡ 0) }
 {
