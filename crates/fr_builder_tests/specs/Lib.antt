@@ -1,1 +1,3 @@
 pub mod Grounds
+pub mod OwnHookLaws
+pub mod OwnHooks

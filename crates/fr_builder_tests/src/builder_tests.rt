@@ -1,13 +1,15 @@
-//! Each call of the builder with ample memory, whole builds, and where the token is after each
-//! refusal; then the places, plans and lookups that the builder stands on.
+//! Each call of the builder with ample memory and hooks of the tests' own, whole builds, and where
+//! the token is after each refusal; then the places, plans and lookups that the builder stands on.
 mod bench;
 mod calls;
 mod contents;
 mod deferring;
 mod dynamics;
 mod grounds;
+mod hooked;
 mod lists;
 mod lookups;
+mod own_hooks;
 mod paths;
 mod plans;
 mod records;

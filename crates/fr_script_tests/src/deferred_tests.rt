@@ -195,7 +195,7 @@ fn elements_come_backwards_in_deferred_mode(rt: HostRuntime) -> Result<(), Fail>
     check(&rt, "descending", document.as_bytes(), 0, want.as_str())
 }
 
-/// The settings of a program, as examples/settings.json has them: the lines of its groups come in
+/// The settings of a program, as examples/groups.json has them: the lines of its groups come in
 /// turn.
 const SETTINGS: &str = r#"{"shapes":[
     {"name":"u16","def":"u16"},

@@ -16,6 +16,8 @@ mod dynamic_refusal_tests;
 #[cfg(test)]
 mod dynamic_tests;
 #[cfg(test)]
+mod hook_tests;
+#[cfg(test)]
 mod limit_tests;
 #[cfg(test)]
 mod list_tests;
@@ -23,6 +25,8 @@ mod list_tests;
 mod original_list_tests;
 #[cfg(test)]
 mod original_tests;
+#[cfg(test)]
+mod parse_tests;
 #[cfg(test)]
 mod plan_tests;
 #[cfg(test)]

@@ -1,5 +1,5 @@
-//! The original's own tests of options, results, pointers and enums, under the names that they have
-//! there, as documents.
+//! The original's own tests of options, results, pointers, enums and invariants, under the names that
+//! they have there, as documents.
 use crate::cases::check_each;
 use std::test::Fail;
 
@@ -178,6 +178,37 @@ const ENUMS_BUILT: &str = r#"
     = 1 {"error":{"command":1,"detail":"x","kind":"UninitializedField","path":""},"released":[]}
 "#;
 
+/// The shapes u8, i32, MyNonZeroU8 (a u8 that isn't 0), Point (two numbers, none below 0) and
+/// Container (a Point), before the root.
+const INVARIANTS: &str = r#"{"shapes":[
+    {"name":"u8","def":"u8"},
+    {"name":"i32","def":"i32"},
+    {"name":"MyNonZeroU8","def":{"tuple_struct":[{"name":"0","shape":0}]},"invariant":0},
+    {"name":"Point","def":{"struct":[{"name":"x","shape":1},{"name":"y","shape":1}]},"invariant":3},
+    {"name":"Container","def":{"struct":[{"name":"point","shape":3}]}}
+],"#;
+
+const INVARIANTS_BUILT: &str = r#"
+    # build_with_invariants
+    "root":2,"commands":[["begin_nth_field",0],["set",0,42],["end"]]}
+    = 0 {"ok":[42],"released":[]}
+    # build_with_invariants, zero
+    "root":2,"commands":[["begin_nth_field",0],["set",0,0],["end"]]}
+    = 1 {"error":{"command":3,"detail":"a type invariant does not hold","kind":"InvariantViolation","path":""},"released":[]}
+    # build_nested_with_invariants
+    "root":4,"commands":[
+        ["begin_field","point"],["begin_field","x"],["set",1,{"i":10}],["end"],
+        ["begin_field","y"],["set",1,{"i":20}],["end"],["end"]
+    ]}
+    = 0 {"ok":[[{"i":10},{"i":20}]],"released":[]}
+    # build_nested_with_invariants, a number below zero
+    "root":4,"commands":[
+        ["begin_field","point"],["begin_field","x"],["set",1,{"i":-10}],["end"],
+        ["begin_field","y"],["set",1,{"i":20}],["end"],["end"]
+    ]}
+    = 1 {"error":{"command":8,"detail":"a type invariant does not hold","kind":"InvariantViolation","path":""},"released":[]}
+"#;
+
 #[test]
 fn options_come_out_as_in_the_original(rt: HostRuntime) -> Result<(), Fail> {
     check_each(&rt, OPTIONS, 9, OPTIONS_BUILT)
@@ -196,4 +227,9 @@ fn pointers_come_out_as_in_the_original(rt: HostRuntime) -> Result<(), Fail> {
 #[test]
 fn enums_come_out_as_in_the_original(rt: HostRuntime) -> Result<(), Fail> {
     check_each(&rt, ENUMS, 3, ENUMS_BUILT)
+}
+
+#[test]
+fn invariants_come_out_as_in_the_original(rt: HostRuntime) -> Result<(), Fail> {
+    check_each(&rt, INVARIANTS, 4, INVARIANTS_BUILT)
 }

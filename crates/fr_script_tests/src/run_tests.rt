@@ -92,7 +92,7 @@ const SCRIPTS: &str = r#"
 "#;
 
 /// Documents at fault, with what is reported on each.
-const FAULTS: [(&str, &str, &str); 17] = [
+const FAULTS: [(&str, &str, &str); 18] = [
     ("no bytes", "", r#"{"fault":"NotJson"}"#),
     (
         "a float",
@@ -116,12 +116,12 @@ const FAULTS: [(&str, &str, &str); 17] = [
     ),
     (
         "a shape that isn't built yet",
-        r#"{"shapes":[{"name":"a","def":"dynamic"},{"name":"b","def":"u32","parse":0}],"root":0,"commands":[]}"#,
+        r#"{"shapes":[{"name":"a","def":"dynamic"},{"name":"b","def":"u32","convert":0}],"root":0,"commands":[]}"#,
         r#"{"fault":"BadForm","place":"shape 1"}"#,
     ),
     (
         "a shape that isn't built yet, before one that is broken",
-        r#"{"shapes":[{"name":"a","def":"u32","parse":0},{"name":"b","def":0}],"root":0,"commands":[]}"#,
+        r#"{"shapes":[{"name":"a","def":"u32","convert":0},{"name":"b","def":0}],"root":0,"commands":[]}"#,
         r#"{"fault":"BadForm","place":"shape 0"}"#,
     ),
     (
@@ -144,6 +144,13 @@ const FAULTS: [(&str, &str, &str); 17] = [
         r#"{"shapes":[
             {"name":"a","def":"u32"}
         ],"root":0,"commands":[["end"],["init_list_with_capacity",-1],["ends"],["end",0]]}"#,
+        r#"{"fault":"BadForm","place":"command 1"}"#,
+    ),
+    (
+        "a byte beyond 255",
+        r#"{"shapes":[
+            {"name":"a","def":"u32"}
+        ],"root":0,"commands":[["parse_from_bytes",[0,255]],["parse_from_bytes",[0,256]]]}"#,
         r#"{"fault":"BadForm","place":"command 1"}"#,
     ),
     (

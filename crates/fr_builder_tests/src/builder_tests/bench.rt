@@ -7,16 +7,17 @@ ghost use Rattle.fr_shape.specs.View.{view};
 ghost use Rattle.fr_partial.specs.Builder.{holds};
 
 use super::grounds::Ground;
+use super::own_hooks::OwnHooks;
 use fr_doc::json_of;
 use fr_partial::{Built, Partial, ReflectError};
 use fr_path::Path;
-use fr_shape::{Ledger, NoHooks, ShapeId, Shaped, Value, fits};
+use fr_shape::{Ledger, ShapeId, Shaped, Value, fits};
 use std::alloc::Global;
 use std::process::Abort;
 
 /// A builder, and a ledger with room for what it holds.
 pub struct Bench<'t> {
-    pub partial: Partial<'t, NoHooks>,
+    pub partial: Partial<'t, OwnHooks>,
     pub ledger: Ledger,
     ghost room: { Room (holds partial) ledger },
 }
@@ -60,7 +61,7 @@ pub fn fresh<'t>(
     alloc: Global,
     ground: &'t Ground,
     root: u32,
-) -> Partial<'t, NoHooks>
+) -> Partial<'t, OwnHooks>
     ensures { (t : ℕ) → holds result t ≡ 0 }
 {
     assert!(rt; (root as usize) < ground.table.len());
@@ -76,7 +77,7 @@ pub fn start<'t>(rt: &impl Abort, alloc: Global, ground: &'t Ground, root: u32) 
 }
 
 /// A builder that holds nothing, beside a ledger of one token.
-pub fn with_ledger<'t>(rt: &impl Abort, alloc: Global, partial: Partial<'t, NoHooks>) -> Bench<'t>
+pub fn with_ledger<'t>(rt: &impl Abort, alloc: Global, partial: Partial<'t, OwnHooks>) -> Bench<'t>
     requires { (t : ℕ) → holds partial t ≡ 0 }
 {
     let ledger = ledger(rt, alloc, 1);
@@ -86,7 +87,7 @@ pub fn with_ledger<'t>(rt: &impl Abort, alloc: Global, partial: Partial<'t, NoHo
 /// A builder that holds nothing is given the ledger's only token.
 pub fn with_token<'t>(
     rt: &impl Abort,
-    partial: Partial<'t, NoHooks>,
+    partial: Partial<'t, OwnHooks>,
     mut ledger: Ledger,
 ) -> Bench<'t>
     requires { (t : ℕ) → holds partial t ≡ 0 }
@@ -103,10 +104,10 @@ pub fn with_token<'t>(
 /// A builder that holds nothing enters a field.
 pub fn named<'t>(
     rt: &impl Abort,
-    partial: Partial<'t, NoHooks>,
+    partial: Partial<'t, OwnHooks>,
     name: &str,
     ledger: &mut Ledger,
-) -> Partial<'t, NoHooks>
+) -> Partial<'t, OwnHooks>
     requires { (t : ℕ) → holds partial t ≡ 0 }
     ensures { (t : ℕ) → holds result t ≡ 0 }
 {
@@ -117,7 +118,7 @@ pub fn named<'t>(
 }
 
 /// A value of this shape, which the test sees to.
-pub fn shaped(rt: &impl Abort, partial: &Partial<'_, NoHooks>, id: u32, value: Value) -> Shaped
+pub fn shaped(rt: &impl Abort, partial: &Partial<'_, OwnHooks>, id: u32, value: Value) -> Shaped
     ensures fits { fits partial.now.shapes result.shape result.value ≡ true }
     ensures value { result.value ≡ view value }
 {

@@ -63,6 +63,28 @@ impl<'t> Bench<'t> {
         }
     }
 
+    pub fn parse_from_str(self, text: &str) -> Answer<'t> {
+        let Bench {
+            partial,
+            mut ledger,
+        } = self;
+        match partial.parse_from_str(text, &mut ledger) {
+            Ok(partial) => Ok(Bench { partial, ledger }),
+            Err(error) => Err(Refused { error, ledger }),
+        }
+    }
+
+    pub fn parse_from_bytes(self, bytes: &[u8]) -> Answer<'t> {
+        let Bench {
+            partial,
+            mut ledger,
+        } = self;
+        match partial.parse_from_bytes(bytes, &mut ledger) {
+            Ok(partial) => Ok(Bench { partial, ledger }),
+            Err(error) => Err(Refused { error, ledger }),
+        }
+    }
+
     pub fn end(self) -> Answer<'t> {
         let Bench {
             partial,

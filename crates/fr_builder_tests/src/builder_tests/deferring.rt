@@ -5,9 +5,9 @@ ghost use Rattle.fr_partial.specs.Builder.{holds};
 
 use super::bench::{abandoned, built, check_counts, check_value, done, fresh, with_ledger};
 use super::grounds::ground_of;
+use super::own_hooks::OwnHooks;
 use super::structs::{STRUCT, begun};
 use fr_partial::Partial;
-use fr_shape::NoHooks;
 
 #[test]
 fn a_place_that_was_left_is_entered_again(rt: HostRuntime) {
@@ -34,7 +34,7 @@ fn a_place_that_was_left_is_entered_again(rt: HostRuntime) {
 }
 
 /// The builder, which holds nothing, in deferred mode.
-fn enter_deferred<'t>(partial: Partial<'t, NoHooks>) -> Partial<'t, NoHooks>
+fn enter_deferred<'t>(partial: Partial<'t, OwnHooks>) -> Partial<'t, OwnHooks>
     requires strict { partial.state.mode ≡ strict }
     requires none { (t : ℕ) → holds partial t ≡ 0 }
     ensures { (t : ℕ) → holds result t ≡ 0 }

@@ -4,20 +4,21 @@ ghost use Rattle.fr_frame.specs.Completing.{IsPlanFor};
 ghost use Rattle.fr_script.specs.DocumentFacts.{IsBuildable};
 ghost use Rattle.fr_script.specs.Reading.{document_view};
 
+use super::own_hooks::OwnHooks;
 use fr_doc::shapes_of;
 use fr_plan::TypePlanCore;
 use fr_script::{Document, Subcommand, law_documents_in_order, read_document};
-use fr_shape::{NoHooks, ShapeId, ShapeTable};
+use fr_shape::{ShapeId, ShapeTable};
 use serde_json::Value as Json;
 use std::alloc::Global;
 use std::marker::Model;
 use std::process::Abort;
 
-/// A table that the builder takes, and hooks that do nothing.
+/// A table that the builder takes, and the tests' own hooks.
 #[derive(Drop)]
 pub struct Ground {
     pub table: ShapeTable,
-    pub hooks: NoHooks,
+    pub hooks: OwnHooks,
 }
 
 impl Model for Ground {
@@ -40,7 +41,7 @@ fn founded(document: Document) -> Ground
     let Document { table, .. } = document;
     Ground {
         table,
-        hooks: NoHooks,
+        hooks: OwnHooks,
     }
 }
 

@@ -8,9 +8,10 @@ use super::bench::{
     start, unbuilt, with_ledger, with_token,
 };
 use super::grounds::{Ground, ground_of};
+use super::own_hooks::OwnHooks;
 use fr_partial::Partial;
 use fr_plan::TypePlanCore;
-use fr_shape::{Invariant, NoHooks, ReflectErrorKind, ShapeId};
+use fr_shape::{Invariant, ReflectErrorKind, ShapeId};
 use std::alloc::Global;
 use std::process::Abort;
 
@@ -44,7 +45,7 @@ fn lent<'t>(
     alloc: Global,
     ground: &'t Ground,
     plan: &'t TypePlanCore,
-) -> Partial<'t, NoHooks>
+) -> Partial<'t, OwnHooks>
     requires plan { IsPlanFrom ground.now plan.now }
     ensures { (t : ℕ) → holds result t ≡ 0 }
 {
@@ -60,7 +61,7 @@ fn lent_owned<'t>(
     alloc: Global,
     ground: &'t Ground,
     plan: &'t TypePlanCore,
-) -> Partial<'t, NoHooks>
+) -> Partial<'t, OwnHooks>
     requires plan { IsPlanFrom ground.now plan.now }
     ensures { (t : ℕ) → holds result t ≡ 0 }
 {
@@ -71,7 +72,7 @@ fn lent_owned<'t>(
 }
 
 /// A builder that was begun as an owned one.
-fn owned<'t>(rt: &impl Abort, alloc: Global, ground: &'t Ground, root: u32) -> Partial<'t, NoHooks>
+fn owned<'t>(rt: &impl Abort, alloc: Global, ground: &'t Ground, root: u32) -> Partial<'t, OwnHooks>
     ensures { (t : ℕ) → holds result t ≡ 0 }
 {
     assert!(rt; (root as usize) < ground.table.len());

@@ -1,5 +1,5 @@
-//! The example's struct of texts: a person with a name, an email and an age, of which the age has a
-//! default.
+//! The example's struct of texts: a person with a name, an email that has to contain an `@`, and an
+//! age that has a default.
 ghost use Rattle.std.specs.Prelude.{◌≡◌, true};
 ghost use Rattle.fr_shape.specs.declared.shape.Def.{Def};
 ghost use Rattle.fr_shape.specs.declared.shape.ScalarKind.{ScalarKind};
@@ -19,7 +19,7 @@ const PERSON: &str = r#"{"shapes":[
     {"name":"u8","def":"u8"},
     {"name":"Person","def":{"struct":[
         {"name":"name","shape":0},
-        {"name":"email","shape":0},
+        {"name":"email","shape":0,"validators":[{"contains":"@"}]},
         {"name":"age","shape":1,"default":{"custom":30}}
     ]}}
 ],"root":2,"commands":[]}"#;
@@ -54,6 +54,7 @@ fn person(rt: &(impl Abort + AllocGlobal), pairs: Items<Pair>) -> Result<Built, 
         &ground.table,
         ShapeId(2),
         ShapeId(0),
+        &ground.hooks,
         pairs,
         &mut ledger,
     )
@@ -142,6 +143,14 @@ fn refuses(rt: HostRuntime) {
                     index: 1
                 },
             }
+        )
+    );
+    let kind = refusal_of(&rt, &[("email", "ana"), ("name", "Ana")]);
+    assert!(rt;
+        matches!(
+            kind,
+            ReflectErrorKind::ValidationFailed { message, .. }
+                if message.as_str() == "'ana' does not contain '@'"
         )
     );
 }

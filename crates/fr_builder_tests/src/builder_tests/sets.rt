@@ -7,8 +7,9 @@ ghost use Rattle.fr_partial.specs.Builder.{holds};
 
 use super::bench::{check_counts, fresh, ledger, shaped};
 use super::grounds::ground_of;
+use super::own_hooks::OwnHooks;
 use fr_partial::{Partial, ReflectError};
-use fr_shape::{Items, Ledger, NoHooks, Value};
+use fr_shape::{Items, Ledger, Value};
 use std::alloc::Global;
 use std::process::Abort;
 
@@ -24,9 +25,9 @@ const SETS: &str = r#"{"shapes":[
 /// Begins a set that holds nothing.
 fn begin_set<'t>(
     rt: &impl Abort,
-    partial: Partial<'t, NoHooks>,
+    partial: Partial<'t, OwnHooks>,
     ledger: &mut Ledger,
-) -> Partial<'t, NoHooks>
+) -> Partial<'t, OwnHooks>
     requires none { (t : ℕ) → holds partial t ≡ 0 }
     ensures room { Room (holds result) ledger.new }
     ensures none { (t : ℕ) → holds result t ≤ 0 }
@@ -62,10 +63,10 @@ fn check_unused(rt: &impl Abort, ledger: &Ledger, token: u32)
 fn add_item<'t>(
     rt: &impl Abort,
     alloc: Global,
-    partial: Partial<'t, NoHooks>,
+    partial: Partial<'t, OwnHooks>,
     token: u32,
     ledger: &mut Ledger,
-) -> Result<Partial<'t, NoHooks>, ReflectError>
+) -> Result<Partial<'t, OwnHooks>, ReflectError>
     requires room { Room (holds partial) ledger.old }
     requires few { (t : ℕ) → holds partial t ≤ token }
     ensures room { IfOk result (λ after. Room (holds after) ledger.new) }

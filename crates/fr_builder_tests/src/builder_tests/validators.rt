@@ -1,4 +1,4 @@
-//! Validators of fields, which no served table has yet: a place by itself, with ample memory.
+//! Validators of fields: a place by itself, with ample memory.
 ghost use Rattle.std.specs.Prelude.{◌≡◌, ◌<◌, length};
 ghost use Rattle.fr_shape.specs.Fills.{is_empty_struct};
 ghost use Rattle.fr_shape.specs.Look.{def_of};

@@ -1,0 +1,6 @@
+use Rattle.fr_script.specs.Reading.{document_view}
+use Rattle.fr_builder_tests.proofs.builder_tests.hooked.run_bytes.Goals as goal
+
+pub run-requires : goal.run-requires
+run-requires g c =
+    c.law_documents_in_order.ensures.buildable c.args.document.now (document_view c.in-Ok.document) c.in-Ok.ensures.document

@@ -1,0 +1,76 @@
+//! Hooks of the tests' own, with which every builder of the tests is made. A table asks for what
+//! they do by number.
+ghost use Rattle.std.specs.Prelude.{Err};
+ghost use Rattle.fr_shape.specs.Hooks.{Answers};
+ghost use Rattle.fr_builder_tests.specs.OwnHooks.{own_hooks, own_parsed};
+ghost use Rattle.fr_builder_tests.specs.OwnHookLaws.{own_hooks_are_lawful};
+
+use fr_shape::{HookFault, HookId, Hooks, Ledger, ShapeId, ShapeTable, Text, Value, fits, release};
+use std::alloc::Global;
+
+/// The check 1 passes nothing, the check 2 no number above 9, any other check everything. Nothing
+/// is converted. Hook 0 parses each text and all bytes as an empty option, hook 1 refuses them,
+/// hook 2 is out of memory, and any other parses nothing.
+#[derive(Drop)]
+pub struct OwnHooks;
+
+impl Hooks for OwnHooks {
+    ghost means = { λ hooks. own_hooks };
+
+    ghost lawful = { λ hooks. own_hooks_are_lawful };
+
+    fn check(&self, h: HookId, value: &Value) -> bool {
+        match (h.0, value) {
+            (1, _) => false,
+            (2, Value::Nat(n)) => *n <= 9,
+            _ => true,
+        }
+    }
+
+    fn convert(
+        &self,
+        _alloc: Global,
+        _table: &ShapeTable,
+        _h: HookId,
+        _target: ShapeId,
+        value: Value,
+        ledger: &mut Ledger,
+    ) -> Result<Value, HookFault> {
+        release(value, ledger);
+        Err(HookFault::Unsupported)
+    }
+
+    fn parse(
+        &self,
+        _alloc: Global,
+        table: &ShapeTable,
+        h: HookId,
+        target: ShapeId,
+        _text: &str,
+    ) -> Result<Value, HookFault> {
+        parsed(table, h, target)
+    }
+
+    fn parse_bytes(
+        &self,
+        _alloc: Global,
+        table: &ShapeTable,
+        h: HookId,
+        target: ShapeId,
+        _bytes: &[u8],
+    ) -> Result<Value, HookFault> {
+        parsed(table, h, target)
+    }
+}
+
+/// What a hook parses anything as.
+fn parsed(table: &ShapeTable, h: HookId, target: ShapeId) -> Result<Value, HookFault>
+    ensures { Answers (own_parsed table.now h.0 target.0) result }
+{
+    match h.0 {
+        0 if fits(table, target, &Value::None) => Ok(Value::None),
+        1 => Err(HookFault::Refused(Text::default())),
+        2 => Err(HookFault::OutOfMemory),
+        _ => Err(HookFault::Unsupported),
+    }
+}
