@@ -2,8 +2,7 @@
 //! proxies, and where it refers back. The tables are read from documents, and the type is the
 //! second of each.
 ghost use Rattle.std.specs.Prelude.{◌<◌, length};
-ghost use Rattle.fr_shape.specs.Checked.{IsChecked};
-ghost use Rattle.fr_frame.specs.Completing.{IsPlanFor};
+ghost use Rattle.fr_frame.specs.Asking.{IsPlanned};
 
 use super::grounds::{planned, table_of};
 use fr_plan::{
@@ -11,17 +10,14 @@ use fr_plan::{
     law_plan_lookups,
 };
 use fr_rules::FieldLookup;
-use fr_shape::{ShapeId, ShapeTable};
+use fr_shape::ShapeId;
 use std::alloc::{AllocError, Global};
 use std::process::Abort;
 
 /// The plans of a struct's fields. Of any other shape there are none.
-fn fields_of<'a>(table: &ShapeTable, plan: &'a TypePlanCore, node: NodeId) -> &'a [FieldPlan]
-    requires checked { IsChecked table.now }
-    requires planned { IsPlanFor table.now plan.now }
-    requires inside { node.0 < length plan.now.nodes }
+fn fields_of<'a>(plan: &'a TypePlanCore, node: NodeId) -> &'a [FieldPlan]
+    requires planned { IsPlanned plan.now node }
 {
-    let _table = table;
     law_plan_lookups();
     match plan.struct_plan_by_id(node) {
         Some(described) => plan.fields(described.fields),
@@ -30,16 +26,9 @@ fn fields_of<'a>(table: &ShapeTable, plan: &'a TypePlanCore, node: NodeId) -> &'
 }
 
 /// The plans of an enum's variants. Of any other shape there are none.
-fn variants_of<'a>(
-    table: &ShapeTable,
-    plan: &'a TypePlanCore,
-    node: NodeId,
-) -> &'a [VariantPlanMeta]
-    requires checked { IsChecked table.now }
-    requires planned { IsPlanFor table.now plan.now }
-    requires inside { node.0 < length plan.now.nodes }
+fn variants_of<'a>(plan: &'a TypePlanCore, node: NodeId) -> &'a [VariantPlanMeta]
+    requires planned { IsPlanned plan.now node }
 {
-    let _table = table;
     law_plan_lookups();
     match plan.enum_plan_by_id(node) {
         Some(described) => plan.variants(described.variants),
@@ -104,7 +93,7 @@ fn a_field_without_a_default_is_required(rt: HostRuntime) {
     let table = table_of(&rt, rt.alloc(), PERSON);
     let plan = planned(&rt, rt.alloc(), &table);
     assert!(rt; !plan.root().has_default);
-    let fields = fields_of(&table, &plan, plan.root_id());
+    let fields = fields_of(&plan, plan.root_id());
     assert!(rt; fields.len() == 3);
     for (i, field) in fields.iter().enumerate() {
         assert!(rt; field.is_required() == (i < 2));
@@ -158,7 +147,7 @@ fn variants_are_found_by_name(rt: HostRuntime) {
 fn a_variants_fields_are_found_by_name(rt: HostRuntime) {
     let table = table_of(&rt, rt.alloc(), CHOICE);
     let plan = planned(&rt, rt.alloc(), &table);
-    let variants = variants_of(&table, &plan, plan.root_id());
+    let variants = variants_of(&plan, plan.root_id());
     assert!(rt; variants.len() == 3);
     let Some(last) = variants.last() else {
         panic!(rt; "no variant");

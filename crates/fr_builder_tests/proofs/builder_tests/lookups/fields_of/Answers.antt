@@ -1,10 +1,6 @@
-use Rattle.fr_frame.specs.Asking.{IsPlanned}
 use Rattle.fr_frame.proofs.ToldLaws.{struct_found}
 use Rattle.fr_builder_tests.proofs.builder_tests.lookups.fields_of.Goals as goal
 
 pub fields-requires : goal.fields-requires
 fields-requires c =
-    let p = c.requires in
-    let is : IsPlanned c.args.plan.now c.args.node
-    = record { table = c.args.table.now; checked = p.checked; planned = p.planned; inside = p.inside } in
-    record { inside = (struct_found c.law_plan_lookups.ensures.resolve is c.in-Some.ensures.plan).inside }
+    record { inside = (struct_found c.law_plan_lookups.ensures.resolve c.requires.planned c.in-Some.ensures.plan).inside }
