@@ -11,7 +11,7 @@ use super::own_hooks::OwnHooks;
 use fr_doc::json_of;
 use fr_partial::{Built, Partial, ReflectError};
 use fr_path::Path;
-use fr_shape::{Ledger, ShapeId, Shaped, Value, fits};
+use fr_shape::{Ledger, ReflectErrorKind, ShapeId, Shaped, Value, fits};
 use std::alloc::Global;
 use std::process::Abort;
 
@@ -198,4 +198,12 @@ pub fn abandoned(bench: Bench<'_>) -> Ledger {
     } = bench;
     partial.abandon(&mut ledger);
     ledger
+}
+
+/// What a validator that refuses says.
+pub fn message_of(kind: &ReflectErrorKind) -> &str {
+    match kind {
+        ReflectErrorKind::ValidationFailed { message, .. } => message.as_str(),
+        _ => "another refusal",
+    }
 }

@@ -3,8 +3,8 @@ ghost use Rattle.fr_script.specs.DocumentFacts.{IsBuildable};
 ghost use Rattle.fr_script.specs.Reading.{document_view};
 
 use super::bench::{
-    Bench, built, check_counts, check_value, done, fresh, ledger, named, refusal, start, unbuilt,
-    with_token,
+    Bench, built, check_counts, check_value, done, fresh, ledger, message_of, named, refusal,
+    start, unbuilt, with_token,
 };
 use super::grounds::{Ground, ground_of};
 use super::own_hooks::OwnHooks;
@@ -90,14 +90,6 @@ fn name_of(kind: &ReflectErrorKind) -> &'static str {
         ReflectErrorKind::ValidationFailed { .. } => "ValidationFailed",
         ReflectErrorKind::ParseFailed { .. } => "ParseFailed",
         ReflectErrorKind::OutOfMemory => "OutOfMemory",
-        _ => "another refusal",
-    }
-}
-
-/// What a validator that refuses says.
-fn message_of(kind: &ReflectErrorKind) -> &str {
-    match kind {
-        ReflectErrorKind::ValidationFailed { message, .. } => message.as_str(),
         _ => "another refusal",
     }
 }
