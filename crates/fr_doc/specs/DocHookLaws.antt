@@ -8,7 +8,6 @@ use Rattle.fr_shape.specs.Tokens.{occurs}
 use Rattle.fr_shape.specs.Hooks.{Meaning, gives, refuses, unsupported, IfGives, FitsTarget, HoldsTokensOf, HoldsNoToken, IsLawful}
 use Rattle.fr_doc.specs.Integers.{is_zero}
 use Rattle.fr_doc.specs.DocHooks.{doc_hooks, if_it_fits, first_child, not_zero, refused, hook_converted, text_parsed, hook_parsed, utf8_parsed, hook_parsed_bytes}
-use Rattle.fr_doc.specs.declared.doc_hooks.TheConstants.{CONVERT_FIRST_CHILD, CONVERT_SAME, CONVERT_NEVER, CONVERT_NOT_ZERO, PARSE_TEXT, PARSE_BYTES_UTF8}
 
 -- what holds of the one meaning where the test is true, and of the other, holds of what the test picks
 either : (test : Bool) (here otherwise : Meaning) (So : Val → Type 0) → (test ≡ true → IfGives here So) → IfGives otherwise So → IfGives (if test then here else otherwise) So
@@ -74,12 +73,12 @@ module _ (table : Table) (target : ℕ) where
       → ((child : Val) (others : Vals) → source ≡ product (first child others) → fits table target child ≡ true → So child)
       → IfGives (hook_converted table hook target source) So
   converted_where_it_fits hook source So whole part =
-      either (nat_eq hook CONVERT_FIRST_CHILD) (first_child table target source) _ So
+      either (nat_eq hook 0) (first_child table target source) _ So
       (λ e. child_where_it_fits source So part)
-      (either (nat_eq hook CONVERT_SAME) (if_it_fits table target source) _ So
+      (either (nat_eq hook 1) (if_it_fits table target source) _ So
       (λ e. value_where_it_fits source So whole)
-      (either (nat_eq hook CONVERT_NEVER) refused _ So (λ e. tt)
-      (either (nat_eq hook CONVERT_NOT_ZERO) (not_zero table target source) unsupported So
+      (either (nat_eq hook 2) refused _ So (λ e. tt)
+      (either (nat_eq hook 3) (not_zero table target source) unsupported So
       (λ e. integer_where_it_fits source So whole) tt)))
 
   -- of a text
@@ -88,11 +87,11 @@ module _ (table : Table) (target : ℕ) where
 
   parsed_where_it_fits : (hook : ℕ) (t : List ℕ) (So : Val → Type 0) → (fits table target (text t) ≡ true → So (text t)) → IfGives (hook_parsed table hook target t) So
   parsed_where_it_fits hook t So holds =
-      either (nat_eq hook PARSE_TEXT) (text_parsed table target t) unsupported So (λ e. text_where_it_fits t So holds) tt
+      either (nat_eq hook 0) (text_parsed table target t) unsupported So (λ e. text_where_it_fits t So holds) tt
 
   bytes_parsed_where_it_fits : (hook : ℕ) (bytes : List ℕ) (So : Val → Type 0) → (fits table target (text bytes) ≡ true → So (text bytes)) → IfGives (hook_parsed_bytes table hook target bytes) So
   bytes_parsed_where_it_fits hook bytes So holds =
-      either (nat_eq hook PARSE_BYTES_UTF8) (utf8_parsed table target bytes) unsupported So
+      either (nat_eq hook 0) (utf8_parsed table target bytes) unsupported So
       (λ e. either (is_utf8 bytes) (text_parsed table target bytes) refused So (λ e'. text_where_it_fits bytes So holds) tt)
       tt
 

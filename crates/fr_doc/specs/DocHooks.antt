@@ -6,15 +6,14 @@ use Rattle.fr_shape.specs.Look.{Table}
 use Rattle.fr_shape.specs.Fits.{fits}
 use Rattle.fr_shape.specs.Hooks.{Meaning, gives, refuses, unsupported, Meanings}
 use Rattle.fr_doc.specs.Integers.{integers, is_zero, none_is_zero, are_in_order, none_is_negative}
-use Rattle.fr_doc.specs.declared.doc_hooks.TheConstants.{CHECK_NO_ZERO, CHECK_IN_ORDER, CHECK_NEVER, CHECK_NO_NEGATIVE, CONVERT_FIRST_CHILD, CONVERT_SAME, CONVERT_NEVER, CONVERT_NOT_ZERO, PARSE_TEXT, PARSE_BYTES_UTF8}
 
 -- whether the value passes the check of this number
 abbrev pub passes_check : (hook : ℕ) → Val → Bool
 passes_check hook v =
-    if nat_eq hook CHECK_NO_ZERO then none_is_zero (integers v) else
-    if nat_eq hook CHECK_IN_ORDER then are_in_order (integers v) else
-    if nat_eq hook CHECK_NEVER then false else
-    if nat_eq hook CHECK_NO_NEGATIVE then none_is_negative (integers v) else true
+    if nat_eq hook 0 then none_is_zero (integers v) else
+    if nat_eq hook 1 then are_in_order (integers v) else
+    if nat_eq hook 2 then false else
+    if nat_eq hook 3 then none_is_negative (integers v) else true
 
 -- a refusal that tells no reason
 abbrev pub refused : Meaning
@@ -42,10 +41,10 @@ not_zero table target _ = unsupported
 -- what the conversion of this number makes of a source
 abbrev pub hook_converted : Table → (hook target : ℕ) → (source : Val) → Meaning
 hook_converted table hook target source =
-    if nat_eq hook CONVERT_FIRST_CHILD then first_child table target source else
-    if nat_eq hook CONVERT_SAME then if_it_fits table target source else
-    if nat_eq hook CONVERT_NEVER then refused else
-    if nat_eq hook CONVERT_NOT_ZERO then not_zero table target source else unsupported
+    if nat_eq hook 0 then first_child table target source else
+    if nat_eq hook 1 then if_it_fits table target source else
+    if nat_eq hook 2 then refused else
+    if nat_eq hook 3 then not_zero table target source else unsupported
 
 -- a text, if it fits the target
 abbrev pub text_parsed : Table → (target : ℕ) → List ℕ → Meaning
@@ -53,7 +52,7 @@ text_parsed table target t = if fits table target (text t) then gives (text t) e
 
 -- what the parsing hook of this number makes of a text
 abbrev pub hook_parsed : Table → (hook target : ℕ) → List ℕ → Meaning
-hook_parsed table hook target t = if nat_eq hook PARSE_TEXT then text_parsed table target t else unsupported
+hook_parsed table hook target t = if nat_eq hook 0 then text_parsed table target t else unsupported
 
 -- bytes as a text, if they are UTF-8 and it fits the target
 abbrev pub utf8_parsed : Table → (target : ℕ) → (bytes : List ℕ) → Meaning
@@ -61,7 +60,7 @@ utf8_parsed table target bytes = if is_utf8 bytes then text_parsed table target 
 
 -- what the hook of this number that parses bytes makes of bytes
 abbrev pub hook_parsed_bytes : Table → (hook target : ℕ) → (bytes : List ℕ) → Meaning
-hook_parsed_bytes table hook target bytes = if nat_eq hook PARSE_BYTES_UTF8 then utf8_parsed table target bytes else unsupported
+hook_parsed_bytes table hook target bytes = if nat_eq hook 0 then utf8_parsed table target bytes else unsupported
 
 -- the hooks that documents name by number
 abbrev pub doc_hooks : Meanings
