@@ -111,12 +111,13 @@ pub enum ReflectErrorKind {
         dst_shape: ShapeId,
         inner: TryFromFault,
     },
-    /// The text or the bytes don't stand for a value of this shape.
+    /// The text doesn't stand for a value of this shape. (Bytes that don't are an operation that
+    /// failed.)
     ParseFailed {
         shape: ShapeId,
     },
-    /// The call doesn't suit the builder's mode or depth, or the built value doesn't pass the
-    /// invariant of its shape.
+    /// The call doesn't suit the builder's mode or depth, or a struct in the built value doesn't
+    /// keep the invariant of its shape.
     InvariantViolation {
         invariant: Invariant,
     },
