@@ -35,8 +35,8 @@ pub struct Pair {
 /// and has no fill, and `ValidationFailed` for one whose value a validator refuses; and last of all
 /// `InvariantViolation`. Where there is no pair at all, the struct's own default comes before what
 /// is said of fields. `root` is the shape of the struct, `string` that of the texts; the hooks are
-/// asked for custom validators and for invariants. Out of memory is `OutOfMemory`, at any
-/// pair or at the end. The error's path is that of the place before the call that was refused: the
+/// asked for custom validators and for invariants. Out of memory is `OutOfMemory`, at any pair or
+/// at the end. The error's path is that of the place before the call that was refused: the
 /// field for `WrongShape`, the root for any other refusal, and either of them where memory ran out.
 pub fn record_of<H: Hooks>(
     alloc: Global,

@@ -41,7 +41,7 @@ abbrev pub held_after : Result State ReflectErrorKind → ℕ → ℕ
 held_after (Ok next) t = tree_occurs next.tree t
 held_after (Err kind) t = 0
 
--- What the tree held and the command brought is what is held after the command, and what it dropped.
+-- With lawful hooks, what the tree held and the command brought is what is held after the command, and what it dropped.
 abbrev pub StepKeepsTokens : Type 0
 StepKeepsTokens =
     (hooks : Meanings) (table : Table) (root : ℕ) (state : State) (command : Call) → IsLawful hooks → IsChecked table
@@ -65,7 +65,7 @@ BuildKeepsTokens =
 abbrev pub StartIsWell : Type 0
 StartIsWell = (table : Table) (root : ℕ) → IsWell table root (initial table root)
 
--- an admitted command, if it is fitting, leads from a state in order to a state in order
+-- with lawful hooks, an admitted command, if it is fitting, leads from a state in order to a state in order
 abbrev pub StepKeepsOrder : Type 0
 StepKeepsOrder =
     (hooks : Meanings) (table : Table) (root : ℕ) (state next : State) (command : Call) → IsLawful hooks → IsChecked table
@@ -83,7 +83,7 @@ pub record IsFresh (state : State) (command : Call) : Type 0 where
   pub distinct : (t : ℕ) → brings command t ≤ 1
   pub new : (t : ℕ) → 0 < brings command t → tree_occurs state.tree t ≡ 0
 
--- an admitted command, if it is fresh, leaves no token twice in the tree of a well state
+-- with lawful hooks, an admitted command, if it is fresh, leaves no token twice in the tree of a well state
 abbrev pub StepKeepsDistinct : Type 0
 StepKeepsDistinct =
     (hooks : Meanings) (table : Table) (root : ℕ) (state next : State) (command : Call) → IsLawful hooks → IsChecked table

@@ -8,9 +8,9 @@ has_no_hole no_trees = true
 has_no_hole (branch hole ts) = false
 has_no_hole (branch t ts) = has_no_hole ts
 
--- Where its fields pass their validators, completing the place takes no memory: it is whole, or begun with no hole among its children, and neither around one child nor as a
--- pointer to a slice, as the one child, and the list of the items, would be put behind a pointer of its own; nor as a set, a map or a
--- dynamic value, which is put together anew.
+-- Where its fields pass their validators, completing the place takes no memory: it is whole, or begun with no hole among its
+-- children, and neither around one child nor as a pointer to a slice, as the one child, and the list of the items, would be put
+-- behind a pointer of its own; nor as a set, a map or a dynamic value, which is put together anew.
 abbrev pub takes_no_memory : Tree → Bool
 takes_no_memory hole = false
 takes_no_memory entered = false

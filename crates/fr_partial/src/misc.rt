@@ -161,8 +161,8 @@ impl<'t, H: Hooks> Partial<'t, H> {
     /// Completes the root as `end` does in strict mode, asks the invariants of the structs in its
     /// value, children before parents and left to right, and hands it over. Asking takes no memory,
     /// and no time where the root's type reaches no invariant; they are asked once the value is
-    /// made, so where that takes memory, want of it may come first. Refused in deferred mode, and then
-    /// below the root; a value that breaks an invariant is released.
+    /// made, so where that takes memory, want of it may come first. Refused in deferred mode, and
+    /// then below the root; a value that breaks an invariant is released.
     pub fn build(self, ledger: &mut Ledger) -> Result<Built, ReflectError>
         requires room { Room (holds self) ledger.old }
         ensures build { IsBuild (H.means self.entry.hooks) self.entry result ledger.old ledger.new }

@@ -128,7 +128,8 @@ impl<'t, H: Hooks> Partial<'t, H> {
 
     /// Puts the value that bytes mean at the place, in place of all that was put there and beneath
     /// it: what the hook of the place's shape makes of them. Refused where the hook refuses them,
-    /// and its own message isn't told; without a hook it is refused, and never out of memory.
+    /// whose own message isn't told, or doesn't take bytes; without a hook it is refused, and never
+    /// out of memory.
     pub fn parse_from_bytes(
         self,
         bytes: &[u8],

@@ -38,7 +38,7 @@ pub struct TypePlanCore {
     pub(crate) lists: PlanLists,
     pub(crate) walk: Walk,
     pub(crate) shape_fields: Arena<ShapeFields>,
-    /// Whether the shape of a node has an invariant.
+    /// Whether the shape of any node has an invariant.
     pub(crate) has_invariants: bool,
 }
 

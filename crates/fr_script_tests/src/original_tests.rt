@@ -1,5 +1,5 @@
-//! The original's own tests of options, results, pointers, enums and invariants, under the names that
-//! they have there, as documents.
+//! The original's own tests of options, results, pointers, enums and invariants, under the names
+//! that they have there, as documents.
 use crate::cases::check_each;
 use std::test::Fail;
 

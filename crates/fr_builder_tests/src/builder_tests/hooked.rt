@@ -140,7 +140,7 @@ fn what_means_nothing_is_refused(rt: HostRuntime) {
     }
 }
 
-/// Nor are texts and bytes parsed at a place that holds a token.
+/// Where a shape takes neither texts nor bytes, what is put in is released.
 #[test]
 fn a_refused_parse_releases_the_token(rt: HostRuntime) {
     let ground = ground_of(&rt, STRUCT);
@@ -160,7 +160,7 @@ fn holding<'t>(rt: &(impl Abort + AllocGlobal), ground: &'t Ground, root: u32) -
     done(rt, with_token(rt, partial, ledger).end())
 }
 
-/// The number of the place.
+/// Puts a number into the field `n`, and leaves it.
 fn with_number<'t>(rt: &impl Abort, bench: Bench<'t>, n: u128) -> Bench<'t> {
     let bench = done(rt, bench.begin_field("n"));
     let bench = done(rt, bench.put_number(rt, n));
@@ -275,7 +275,7 @@ fn check_script(
     check_counts(rt, &ledger, &[released]);
 }
 
-/// A place that is refused, or given an empty option, lets go of the token.
+/// A call that is refused, or that puts an empty option, lets go of the token.
 #[test]
 fn scripts_parse_by_hooks(rt: HostRuntime) {
     for (rest, calls, want, released) in [
