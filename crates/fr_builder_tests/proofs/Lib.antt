@@ -1,2 +1,4 @@
+pub mod ArrayRows
+pub mod DefaultRows
 pub mod SetLaws
 pub mod SlotLaws

@@ -1,5 +1,4 @@
 pub mod Agreement
-pub mod ArrayRows
 pub mod Basis
 pub mod Becoming
 pub mod Beneath
@@ -10,7 +9,6 @@ pub mod Common
 pub mod Completing
 pub mod Covering
 pub mod Cursor
-pub mod DefaultRows
 pub mod Defaulting
 pub mod Dynamics
 pub mod Ending
