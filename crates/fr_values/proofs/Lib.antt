@@ -4,6 +4,7 @@ pub mod DynamicLaws
 pub mod Gathered
 pub mod IndexLaws
 pub mod Indexed
+pub mod ItemLaws
 pub mod Kept
 pub mod KeyLaws
 pub mod Known

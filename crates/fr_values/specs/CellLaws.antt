@@ -1,7 +1,7 @@
 -- Children side by side: what a change of one value or of one bit does to the list that contracts see.
 use Rattle.std.proofs.Common.{◌≡◌, ◌≢◌, ◌⊎◌, ℕ, zero, suc, ◌+◌, ◌<◌, ◌≤◌, Bool, true, false, List, [], ◌∷◌, ◌++◌, length, map, replicate, Option, Some, None, IsSome, slice_get, slice_index, set, length-set, option_map, inl, inr, refl, sym, ◌∙◌, ap, subst, arith, ◌&&◌, ◌||◌, ◌↔◌}
 use Rattle.std.specs.FinSet as finite
-use Rattle.fr_values.specs.Common.{All, BitSet, Cell, Room, Room_fewer, Room_risen, Room_same, RoseBy, Val, Vals, Value, absent, both, cell, cell_occurs, cells_occur, cells_of, cells_of_vals, first, given, in_slot, is_some, no_vals, occurs, one_more, option_and_then, slot_at, slot_of_cell, unit, vals_occur, vals_view, value_at, value_occurs, value_of_cell, values_of, view}
+use Rattle.fr_values.specs.Common.{All, BitSet, Cell, Room, Room_fewer, Room_risen, Room_same, RoseBy, Val, Vals, Value, absent, both, cell, cell_occurs, cells_occur, cells_of, cells_of_vals, first, given, in_slot, is_some, no_vals, occurs, one_more, option_and_then, placed, slot_at, slot_of_cell, unit, vals_occur, vals_view, value_at, value_occurs, value_of_cell, values_of, view}
 use Rattle.std.specs.Prelude.{not, ◌==◌, IsTrue, get_or}
 use Rattle.std.proofs.lemmas.Grind.{common_steps}
 use Rattle.std.proofs.lemmas.Bool.Decides.{nat_tests}
@@ -346,3 +346,12 @@ cells_pushed bits wide other vs cs v e same unset gone =
     ∙ same j) (ap (λ (n : ℕ). cell (finite.contains other.members n) (view v)) here
     ∙ ap (λ (b : Bool). cell b (view v)) (unset (length vs) ∙ bit_unset_here (length vs) (finite.contains wide.members (length vs)))
     ∙ gone) ∙ ap (λ (ds : List Cell). ds ++ absent ∷ []) e
+
+-- the child whose slot is known
+pub slot_child : (cs : List Cell) (i n : ℕ) → Some n ≡ slot_at cs i → slice_get cs i ≡ Some (placed n)
+slot_child cs i n e = go (slice_get cs i) e
+  where
+    go : (found : Option Cell) → Some n ≡ option_and_then slot_of_cell found → found ≡ Some (placed n)
+    go (Some (placed m)) e = let is : m ≡ n = cc in ap (λ (k : ℕ). Some (placed k)) is
+    go None e = cc
+    go _ e = cc

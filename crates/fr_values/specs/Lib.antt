@@ -6,7 +6,6 @@ pub mod Common
 pub mod ConversionNeeds
 pub mod EntryParts
 pub mod Indexing
-pub mod ItemLaws
 pub mod KeyNames
 pub mod KeyPlaces
 pub mod SliceLaws

@@ -1,7 +1,7 @@
 use Rattle.std.proofs.Common.{List, Option, ap, arith}
 use Rattle.fr_frame.specs.Common.{Cell, absent, cells_occur, option_and_then, value_occurs, value_of_cell}
 use Rattle.fr_values.specs.CellLaws.{occur_taken}
-use Rattle.fr_values.specs.ItemLaws.{slot_child}
+use Rattle.fr_values.specs.CellLaws.{slot_child}
 use Rattle.fr_frame.proofs.partial_values.unlink_child.Goals as goal
 
 pub returns-then-held-slot-clause-tokens : goal.returns-then-held-slot-clause-tokens

@@ -1,5 +1,5 @@
 use Rattle.std.proofs.Common.{refl}
-use Rattle.fr_values.specs.ItemLaws.{cells_popped}
+use Rattle.fr_values.proofs.ItemLaws.{cells_popped}
 use Rattle.fr_values.proofs.children.Children.pop.Goals as goal
 use Rattle.fr_values.proofs.IndexLaws.{popped_indexed}
 

@@ -90,15 +90,7 @@ pub moved_nothing : (cs : List Cell) (i next : ℕ) → next ≡ suc i → slice
 moved_nothing cs i next is e =
     subst (λ (n : ℕ). slice_get cs n ≡ Some absent → set cs n absent ≡ swapped i cs) (sym is) (move_nothing cs i e)
 
--- what a child is whose slot or value is known
-
-pub slot_child : (cs : List Cell) (i n : ℕ) → Some n ≡ slot_at cs i → slice_get cs i ≡ Some (placed n)
-slot_child cs i n e = go (slice_get cs i) e
-  where
-    go : (found : Option Cell) → Some n ≡ option_and_then slot_of_cell found → found ≡ Some (placed n)
-    go (Some (placed m)) e = let is : m ≡ n = cc in ap (λ (k : ℕ). Some (placed k)) is
-    go None e = cc
-    go _ e = cc
+-- what a child is whose value is known
 
 pub value_child : (cs : List Cell) (i : ℕ) (v : Val) → Some v ≡ value_at cs i → slice_get cs i ≡ Some (given v)
 value_child cs i v e = go (slice_get cs i) e
