@@ -7,7 +7,7 @@ use Rattle.fr_model.specs.DueNotes.{IsOffTheWay}
 use Rattle.fr_model.specs.Tree.{child_as, count_below, count_trees}
 use Rattle.fr_model.specs.Well.{AllOff}
 use Rattle.fr_store.specs.Beneath.{completed_beneath}
-use Rattle.fr_store.specs.ClosingLaws.{nth_changed}
+use Rattle.fr_store.proofs.ClosingLaws.{nth_changed}
 
 past_off : (i past : ℕ) (here : Place) → i < past → IsOffTheWay (past ∷ []) (i ∷ here)
 past_off i past here less way e = let same : past ≡ i = cc in omega (arith, less, same)

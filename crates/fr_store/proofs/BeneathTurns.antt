@@ -1,13 +1,13 @@
 -- The turns of the places that lie beneath the one at which a builder works, one after another.
 use Rattle.std.proofs.Common.{◌≡◌, ◌≢◌, ◌↔◌, ℕ, zero, suc, ◌+◌, ◌<◌, ◌≤◌, drop, get_or, length, true, false, List, [], ◌∷◌, ◌++◌, append-nil, Some, refl, sym, ◌∙◌, ap, ap₂, subst, arith}
-use Rattle.fr_store.specs.Common.{AllMarked, AtCursor, Contains, EachFailureHasItsPlace, Failure, FirstByWalkIs, FrameOwner, HasTurned, IsChecked, IsClosed, IsHeldUpHere, IsKept, IsLackingAt, IsLast, IsOpen, IsPlaced, IsStoredAt, IsWalk, KeepsTheRest, Kid, Kids, LackingFails, Leads, MayTurn, Meanings, Node, PathStep, Place, Plan, Reaches, ReflectErrorKind, Slot, StayPutButBeneath, Suits, Table, Top, Tree, at, begun_plot, body_in, closed_at, cursor_in, first_by_walk, heap_of, kid, kid_at, kid_here, kid_nth, kid_on_top, leads_at, marked, no_kids, off_stored, open_reach, open_top, own_lack, put_at, put_nth, reach_place, root_shape, shape_in, slot_at, slot_here, so_top, steps_in, stored_here, stored_in, strict, there, tree_at, tree_here, tree_in_slots, tree_of, tree_of_at, tree_put_at, uses, uses_at}
+use Rattle.fr_store.specs.Common.{AllMarked, AtCursor, Contains, EachFailureHasItsPlace, Failure, FirstByWalkIs, FrameOwner, HasTurned, IsChecked, IsClosed, IsHeldUpHere, IsKept, IsLackingAt, IsLast, IsOpen, IsPlaced, IsStoredAt, IsWalk, KeepsTheRest, Kid, Kids, LackingFails, Leads, MayTurn, Meanings, Node, PathStep, Place, Plan, Reaches, ReflectErrorKind, Slot, StayPutButBeneath, Suits, Table, Top, Tree, at, begun_plot, body_in, closed_at, cursor_in, first_by_walk, heap_of, kid, kid_at, kid_here, kid_nth, kid_on_top, leads_at, marked, no_kids, open_reach, open_top, own_lack, put_at, put_nth, root_shape, shape_in, slot_at, slot_here, so_top, steps_in, stored_here, stored_in, strict, there, tree_at, tree_here, tree_in_slots, tree_of, tree_of_at, tree_put_at, uses, uses_at}
 use Rattle.std.proofs.lemmas.List.{drop_more}
 use Rattle.fr_store.specs.MoveLaws.{top_node}
 use Rattle.fr_model.specs.Failing.{failures}
 use Rattle.fr_model.specs.FinishLaws.{Closes, ClosingKeepsFinish}
 use Rattle.fr_model.specs.Laws.{CompletesOrFails, CompletingFits}
 use Rattle.fr_store.specs.Beneath.{IsCompleteBeneath, completed_beneath, shape_here}
-use Rattle.fr_store.specs.ClosingLaws.{closes_with, shape_append, tree_append}
+use Rattle.fr_store.proofs.ClosingLaws.{closes_with, shape_append, tree_append}
 use Rattle.fr_store.specs.TopLaws.{closed_by_marks}
 use Rattle.fr_store.specs.Turns.{CompletesAsBefore}
 use Rattle.fr_store.specs.WayLaws.{put_at_twice}
@@ -22,6 +22,7 @@ use Rattle.fr_store.proofs.PlaceLaws.{leads_here, mark_at}
 use Rattle.fr_store.proofs.WalkLaws.{placed_stored}
 use Rattle.fr_store.proofs.StayLaws.{stay_but_beneath}
 use Rattle.fr_store.proofs.WalkedLaws.{as_before_again}
+use Rattle.fr_store.proofs.OffLaws.{off_stored, reach_place}
 
 -- What lies at a place, put there, changes nothing.
 

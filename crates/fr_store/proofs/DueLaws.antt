@@ -1,14 +1,15 @@
 -- The first place of a walk over what is stored in an open builder, or in a part of it that lies on the way to where it works:
 -- it may have its turn, and once it had it the others are a walk.
 use Rattle.std.proofs.Common.{◌≡◌, ℕ, List, ◌∷◌, ◌++◌, sym, ◌∙◌, ap, subst, arith}
-use Rattle.fr_store.specs.Common.{HasTurned, IsChecked, IsClosed, IsOpen, IsPlaced, IsStoredAt, IsWalk, Kid, Leads, MayTurn, Meanings, Place, Plan, Slot, Suits, Table, body_in, cursor_in, deferred_column, kid_at, kid_at_append, leads_at, put_append, put_at, reach_place, root_shape, shape_in, there, tree_at, tree_in_slots, uses_at, whole}
+use Rattle.fr_store.specs.Common.{HasTurned, IsChecked, IsClosed, IsOpen, IsPlaced, IsStoredAt, IsWalk, Kid, Leads, MayTurn, Meanings, Place, Plan, Slot, Suits, Table, body_in, cursor_in, deferred_column, kid_at, kid_at_append, leads_at, put_append, put_at, root_shape, shape_in, there, tree_at, tree_in_slots, uses_at, whole}
 use Rattle.fr_model.specs.Laws.{CompletingFits}
-use Rattle.fr_store.specs.ClosingLaws.{suits_at, suits_change}
+use Rattle.fr_store.proofs.ClosingLaws.{suits_at, suits_change}
 use Rattle.fr_store.specs.Turning.{kid_here}
 use Rattle.fr_store.specs.WayLaws.{kid_put_at}
 use Rattle.fr_store.proofs.HeadLaws.{Head, head_closed, head_of, walk_on}
 use Rattle.fr_store.proofs.PlaceLaws.{open_placed, placed_below}
 use Rattle.fr_store.proofs.WalkLaws.{one_stored, placed_stored}
+use Rattle.fr_store.proofs.OffLaws.{reach_place}
 
 module _ {plan : Plan} {now : List Slot} {stack : List ℕ} (still : IsOpen plan now stack) (c way : Place)
     (on : cursor_in now stack ≡ c ++ way) {n : ℕ} {rest : List ℕ} (left : IsWalk (kid_at c (kid_here now stack)) (n ∷ rest)) where

@@ -1,7 +1,7 @@
 -- Laws of the end of deferred mode, for proofs: all stored places had their turn, nothing is stored, and the place at which the
 -- builder works is finished.
 use Rattle.std.proofs.Common.{◌≡◌, ◌≢◌, ℕ, Bool, true, false, List, [], ◌∷◌, ◌++◌, append-nil, option_map, Some, refl, sym, ◌∙◌, ap, subst}
-use Rattle.fr_store.specs.Common.{AreInWalkOrder, Contains, FinishesOrRefuses, HasPlace, IsHeldUp, IsOpen, IsOpenAt, Kid, LacksHere, Leads, Meanings, NoneStored, NothingStored, PathStep, Place, Plan, ReflectErrorKind, Slot, StoppedByTurns, Table, Tree, Walked, at, begun_plot, change_at, cursor_in, failures_off, heap_of, hole, kid_at, leads_at, leads_reach, marked, own_lack, reach_place, root_shape, shape_in, steps_in, stored_here, strict, tree_at, tree_in_slots, tree_of, tree_of_at}
+use Rattle.fr_store.specs.Common.{AreInWalkOrder, Contains, FinishesOrRefuses, HasPlace, IsHeldUp, IsOpen, IsOpenAt, Kid, LacksHere, Leads, Meanings, NoneStored, NothingStored, PathStep, Place, Plan, ReflectErrorKind, Slot, StoppedByTurns, Table, Tree, Walked, at, begun_plot, change_at, cursor_in, failures_off, heap_of, hole, kid_at, leads_at, leads_reach, marked, own_lack, root_shape, shape_in, steps_in, stored_here, strict, tree_at, tree_in_slots, tree_of, tree_of_at}
 use Rattle.fr_model.specs.FailingLaws.{FinishOfDone, NothingFailsOfDone}
 use Rattle.fr_model.specs.Finish.{finished_here}
 use Rattle.fr_model.specs.Well.{Leads as LeadsIn}
@@ -13,6 +13,7 @@ use Rattle.fr_store.proofs.HeldLaws.{held_by_last, leads_deferred, leads_strict,
 use Rattle.fr_store.proofs.HeadLaws.{stored_among}
 use Rattle.fr_store.proofs.WalkedLaws.{stopped_at}
 use Rattle.fr_store.proofs.StoredLaws.{stored_place}
+use Rattle.fr_store.proofs.OffLaws.{reach_place}
 
 -- what stands at the end of the way is no hole
 leads_there : (place : Place) (k : Kid) → Leads place k → tree_at place (tree_of k) ≢ hole

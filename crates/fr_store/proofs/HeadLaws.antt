@@ -2,12 +2,12 @@
 use Rattle.std.proofs.Common.{◌≡◌, ◌≢◌, ◌⊎◌, ℕ, zero, suc, ◌+◌, ◌<◌, ◌≤◌, Bool, true, List, [], ◌∷◌, ◌++◌, length, length-append, get_or, inl, inr, refl, sym, ◌∙◌, ap, subst, arith}
 use Rattle.std.proofs.lemmas.Grind.{common_steps}
 use Rattle.std.proofs.lemmas.List.Elements.{All-contains, All-head, All-tail, Contains-get_or}
-use Rattle.fr_store.specs.Common.{All, AllMarked, AllMarkedAmong, AllMarkedIn, AreInWalkOrder, AreStoredAt, AreUnplaced, ComesBefore, Contains, HasPlace, IsClosed, IsStoredAt, IsWalk, Kid, Kids, Leads, Ordering, PathStep, Place, Plot, Reaches, Tracker, Tree, Val, at, begun_plot, body_in, cells_in, child_tree, count_kids, kid, kid_at, kid_at_append, kid_nth, no_kids, off_stored, ordering_then, put_at, reach_place, steps_in, there, tree_of, tree_put_at, uses, uses_among, uses_nth, walk_order}
+use Rattle.fr_store.specs.Common.{All, AllMarked, AllMarkedAmong, AllMarkedIn, AreInWalkOrder, AreStoredAt, AreUnplaced, ComesBefore, Contains, HasPlace, IsClosed, IsStoredAt, IsWalk, Kid, Kids, Leads, Ordering, PathStep, Place, Plot, Reaches, Tracker, Tree, Val, at, begun_plot, body_in, cells_in, child_tree, count_kids, kid, kid_at, kid_at_append, kid_nth, no_kids, ordering_then, put_at, steps_in, there, tree_of, tree_put_at, uses, uses_among, uses_nth, walk_order}
 use Rattle.std.specs.Ordering.{nat_cmp}
 use Rattle.fr_path.specs.OrderLaws.{walk_itself}
-use Rattle.fr_store.specs.ClosingLaws.{stays}
+use Rattle.fr_store.proofs.ClosingLaws.{stays}
 use Rattle.fr_store.proofs.PairLaws.{in_cases, pairs_weaker}
-use Rattle.fr_store.specs.OffLaws.{marked_off, stored_before, stored_beside, stored_no_more, stored_still}
+use Rattle.fr_store.proofs.OffLaws.{marked_off, off_stored, reach_place, stored_before, stored_beside, stored_no_more, stored_still}
 
 -- The order of the walk.
 

@@ -1,7 +1,7 @@
 -- Laws of a walk that is refused, for proofs: the first place of it that makes no value is the first place that fails.
 use Rattle.std.proofs.Common.{◌≡◌, ◌⊎◌, ℕ, zero, suc, Bool, true, false, List, [], ◌∷◌, ◌++◌, Option, Some, None, inl, inr, refl, sym, ◌∙◌, ap, ap₂, subst, arith}
 use Rattle.std.proofs.lemmas.List.Elements.{All-contains}
-use Rattle.fr_store.specs.Common.{AllMarked, AllMarkedAmong, AreStoredAt, AreUnplaced, AtCursor, ComesBefore, Contains, EachFailureHasItsPlace, Failure, FinishesOrRefuses, FirstByWalkIs, HasPlace, IsClosed, IsStoredAt, IsWalk, Kid, Kids, LackingFails, Leads, Meanings, NoneStored, PathStep, Place, Plot, Reaches, ReflectErrorKind, StoredBut, Table, Tree, Trees, at, begun_plot, body_in, branch, cells_in, count_in, failures_off, finished, first_by_walk, is_some, kid, kid_at, kid_nth, kind_of, no_kids, no_trees, off_stored, own_lack, reach_place, shape_in, steps_in, strict, tree_at, tree_in, tree_of, tree_of_at, tree_of_nth, trees_in, walk_order, whole_plot}
+use Rattle.fr_store.specs.Common.{AllMarked, AllMarkedAmong, AreStoredAt, AreUnplaced, AtCursor, ComesBefore, Contains, EachFailureHasItsPlace, Failure, FinishesOrRefuses, FirstByWalkIs, HasPlace, IsClosed, IsStoredAt, IsWalk, Kid, Kids, LackingFails, Leads, Meanings, NoneStored, PathStep, Place, Plot, Reaches, ReflectErrorKind, StoredBut, Table, Tree, Trees, at, begun_plot, body_in, branch, cells_in, count_in, failures_off, finished, first_by_walk, is_some, kid, kid_at, kid_nth, kind_of, no_kids, no_trees, own_lack, shape_in, steps_in, strict, tree_at, tree_in, tree_of, tree_of_at, tree_of_nth, trees_in, walk_order, whole_plot}
 use Rattle.std.specs.Option.{option_or}
 use Rattle.std.specs.Prelude.{is_none}
 use Rattle.fr_model.specs.Complete.{missing_value}
@@ -11,7 +11,7 @@ use Rattle.fr_model.specs.DueNotes.{IsOffTheWay}
 use Rattle.fr_model.specs.Tree.{deferred}
 use Rattle.fr_model.specs.Well.{AllOff, OffBut, Leads as LeadsIn}
 use Rattle.fr_store.specs.HoldLaws.{no_marks}
-use Rattle.fr_store.specs.OffLaws.{marked_off}
+use Rattle.fr_store.proofs.OffLaws.{marked_off, off_stored, reach_place}
 use Rattle.fr_store.proofs.HeadLaws.{Head, later, head_closed}
 use Rattle.fr_store.proofs.PathOrder.{first_front}
 

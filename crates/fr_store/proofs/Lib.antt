@@ -7,6 +7,7 @@ pub mod BeneathTurns
 pub mod ChildLaws
 pub mod ChildWays
 pub mod ChildOrder
+pub mod ClosingLaws
 pub mod DoneLaws
 pub mod DueLaws
 pub mod EarlierLaws
@@ -23,6 +24,7 @@ pub mod KeptLaws
 pub mod LastLaws
 pub mod MarkLaws
 pub mod NoteLaws
+pub mod OffLaws
 pub mod OpenLaws
 pub mod OrderLaws
 pub mod Outcomes
@@ -48,5 +50,7 @@ pub mod StepLaws
 pub mod StoreLaws
 pub mod StoredLaws
 pub mod TakenLaws
+pub mod TurnLaws
+pub mod TurnedSlots
 pub mod WalkLaws
 pub mod WalkedLaws

@@ -1,6 +1,7 @@
 -- Laws of places that stay in their slots, for proofs: where what lies at one place is replaced, all beside it stays.
 use Rattle.std.proofs.Common.{◌≡◌, ◌≢◌, ◌⊎◌, ℕ, zero, suc, ◌<◌, Bool, List, [], ◌∷◌, ◌++◌, append-nil, inl, inr, refl, sym, ◌∙◌, ap, subst}
-use Rattle.fr_store.specs.Common.{AllStayPut, AreUnplaced, FrameOwner, IsClosed, IsHere, IsOpen, IsPlaced, IsUnplaced, Kid, Kids, Place, Plan, Plot, Reaches, Shows, Slot, Stands, StayPutBut, StayPutButBeneath, StaysPut, at, begun_plot, body_in, cell_of, cells_in, count_put, entered_plot, gone, heap_of, holds_frame, kid, kid_at, kid_here, kid_is, kid_nth, no_kids, nth_other, nth_put, put_at, put_nth, same_or_other, slot_at, slot_here, whole_plot}
+use Rattle.fr_store.specs.Common.{AllStayPut, AreUnplaced, FrameOwner, IsClosed, IsHere, IsOpen, IsPlaced, IsUnplaced, Kid, Kids, Place, Plan, Plot, Reaches, Shows, Slot, Stands, StayPutBut, StayPutButBeneath, StaysPut, at, begun_plot, body_in, cell_of, cells_in, count_put, entered_plot, gone, heap_of, holds_frame, kid, kid_at, kid_here, kid_is, kid_nth, no_kids, nth_put, put_at, put_nth, same_or_other, slot_at, slot_here, whole_plot}
+use Rattle.fr_store.proofs.OffLaws.{nth_other}
 
 pub stay_same : (k : Kid) → AllStayPut k k
 stay_same k place placed = (placed, refl)

@@ -1,11 +1,12 @@
 -- Laws of the steps to places in slots, for proofs: they tell in which order the places come.
 use Rattle.std.proofs.Common.{◌≡◌, ◌≢◌, ◌⊎◌, ℕ, zero, suc, ◌+◌, ◌-◌, ◌<◌, ◌≤◌, Bool, true, false, [], ◌∷◌, inl, inr, refl, sym, ◌∙◌, ap, subst, arith, if◌then◌else◌}
 use Rattle.std.proofs.lemmas.Bool.{cases_lt}
-use Rattle.fr_store.specs.Common.{AllMarked, AreLeftAll, AreLeftRightly, EntriesKind, FrameOwner, Heap, Holds, IsHere, IsLeftRightly, IsThere, ItemsKind, Kid, Kids, Leads, Less, MayHave, NodeId, Ordering, PathStep, Place, Plan, Reaches, Tracker, Tree, as_content, as_entries, as_fields, as_items, at, base_of_tracker, begun_plot, but_nth, child_node, child_owner, count_kids, entry_of, gone, holds_nth, is_key, is_stored, kid, kid_at, kid_nth, leads_same, left_nth, marked_nth, may_have_all, no_kids, order_as, ordering_then, same_or_other, slice_cmp, step_as, step_itself, step_order, steps_in, takes_at_end_as, there, tree_nth, tree_of, tree_of_nth, trees_in}
+use Rattle.fr_store.specs.Common.{AllMarked, AreLeftAll, AreLeftRightly, EntriesKind, FrameOwner, Heap, Holds, IsHere, IsLeftRightly, IsThere, ItemsKind, Kid, Kids, Leads, Less, MayHave, NodeId, Ordering, PathStep, Place, Plan, Reaches, Tracker, Tree, as_content, as_entries, as_fields, as_items, at, base_of_tracker, begun_plot, child_node, child_owner, count_kids, entry_of, gone, holds_nth, is_key, is_stored, kid, kid_at, kid_nth, left_nth, marked_nth, may_have_all, no_kids, order_as, ordering_then, same_or_other, slice_cmp, step_as, step_itself, step_order, steps_in, takes_at_end_as, there, tree_nth, tree_of, tree_of_nth, trees_in}
 use Rattle.std.specs.Ordering.{nat_cmp}
 use Rattle.std.specs.declared.cmp.Ordering.TheVariants.{Equal}
 use Rattle.fr_store.specs.PlaceOrder.{BranchesLater, IsAfter, IsLater}
 use Rattle.fr_store.proofs.PathOrder.{number_less}
+use Rattle.fr_store.proofs.OffLaws.{but_nth, leads_same}
 
 -- Numbers.
 

@@ -1,17 +1,18 @@
 -- Laws of a walk, for proofs: it begins, goes on by a turn, is refused, or comes to its end.
 use Rattle.std.proofs.Common.{◌≡◌, ◌≢◌, ◌⊎◌, ◌+◌, ◌<◌, drop, length, ℕ, true, false, List, [], ◌∷◌, ◌++◌, append-nil, append_assoc, get_or, Some, None, inl, inr, refl, sym, ◌∙◌, ap, subst}
-use Rattle.fr_store.specs.Common.{All, AreInWalkOrder, AreStoredAt, Contains, EachFailureHasItsPlace, Failure, FinishesOrRefuses, FirstByWalkIs, HasPlace, HasTurned, IsChecked, IsHeldUp, IsLackingAt, IsOpen, IsStoredAt, IsWalk, KeepsTheRest, LackingFails, Leads, MayTurn, Meanings, Place, Plan, ReflectErrorKind, Slot, StoppedByTurns, Suits, Table, Tree, Val, Walked, change_at, closed_at, cursor_in, deferred_column, failures_off, finished, first_by_walk, heap_of, kind_of, leads_reach, marked, own_lack, reach_place, root_shape, same_or_other, shape_in, steps_in, stored_in, tree_at, tree_in_slots, whole}
+use Rattle.fr_store.specs.Common.{All, AreInWalkOrder, AreStoredAt, Contains, EachFailureHasItsPlace, Failure, FinishesOrRefuses, FirstByWalkIs, HasPlace, HasTurned, IsChecked, IsHeldUp, IsLackingAt, IsOpen, IsStoredAt, IsWalk, KeepsTheRest, LackingFails, Leads, MayTurn, Meanings, Place, Plan, ReflectErrorKind, Slot, StoppedByTurns, Suits, Table, Tree, Val, Walked, change_at, closed_at, cursor_in, deferred_column, failures_off, finished, first_by_walk, heap_of, kind_of, leads_reach, marked, own_lack, root_shape, same_or_other, shape_in, steps_in, stored_in, tree_at, tree_in_slots, whole}
 use Rattle.std.proofs.lemmas.List.{drop_more}
 use Rattle.std.proofs.lemmas.List.Elements.{All-tail, Contains-get_or}
 use Rattle.fr_model.specs.Complete.{complete}
 use Rattle.fr_model.specs.Finish.{finish_cause}
 use Rattle.fr_model.specs.Laws.{CompletingFits}
-use Rattle.fr_store.specs.ClosingLaws.{stays}
+use Rattle.fr_store.proofs.ClosingLaws.{stays}
 use Rattle.fr_store.specs.Turning.{kid_here, next_place}
 use Rattle.fr_store.specs.Turns.{CompletesAsBefore, KeepThoseLeft, Turned}
 use Rattle.fr_store.proofs.DueLaws.{due, head as due_head, left_next, only_here, suits_next}
 use Rattle.fr_store.proofs.HeadLaws.{Head, stored_among}
 use Rattle.fr_store.proofs.HeldLaws.{first_fails, held_by_first, leads_deferred}
+use Rattle.fr_store.proofs.OffLaws.{reach_place}
 
 -- Turns, one after another.
 

@@ -8,7 +8,6 @@ pub use Rattle.fr_store.specs.LeftLaws.{at_for_at, entry_next, left_as, left_at,
 pub use Rattle.fr_store.specs.MoveLaws.{open_at_from, open_reach, open_top, same_front, same_last, slots_tokens, so_top, top_changed, top_found, top_in_use, top_slot, top_so, top_stands, top_stands_in}
 pub use Rattle.fr_store.specs.StackMoves.{AtTop, HasChild, HasOwner, HasTracker, IsBegunSlice, IsLeftBy, IsOpenAt, IsSlice, MayEnter, MayHandOver, begun_as, changed_here, child_number, count_here, cursor_in, entered_by, node_by, node_here, place_then, takes_at_end, takes_at_end_as, tokens_here, tokens_in, tracker_in, tree_here, tree_in_slots, tree_then, with_entry_of, with_entry_unless, with_item_of, with_key_of}
 pub use Rattle.fr_store.specs.Numbers.{IsLast, numbers, slot_of, slots_of}
-pub use Rattle.fr_store.specs.OffLaws.{but_nth, leads_same, nth_other, off_stored, reach_place}
 pub use Rattle.fr_store.specs.PlaceOrder.{AreAllStored, AreOnce, BelongsTo, ComesEarlier, IsHere, IsKeyOf, IsNarrow, IsNoted, IsPlaced, IsSpread, IsStoredChildOf, IsStoredHere, Pairs, counts_in, first_key, is_between, key_of, order_as, order_below, slot_at, slot_here, slots_between, stored_here}
 pub use Rattle.fr_store.specs.Prunes.{IsPruned, IsRooted, beneath, cells_found, cells_in_body, pruned, slotted_occur}
 pub use Rattle.fr_store.specs.StandLaws.{AllServe, all_kept, kid_is, stands_change, all_changed, all_kept_but, stands_reach}

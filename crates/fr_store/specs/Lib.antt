@@ -1,6 +1,5 @@
 pub mod Below
 pub mod Beneath
-pub mod ClosingLaws
 pub mod Common
 pub mod EnterLaws
 pub mod HereLaws
@@ -9,7 +8,6 @@ pub mod LeaveLaws
 pub mod LeftLaws
 pub mod MoveLaws
 pub mod Numbers
-pub mod OffLaws
 pub mod PlaceOrder
 pub mod Prunes
 pub mod ShapeLaws
@@ -20,7 +18,6 @@ pub mod StayPut
 pub mod Stored
 pub mod TokenLaws
 pub mod TopLaws
-pub mod TurnLaws
 pub mod TurnedLaws
 pub mod Turning
 pub mod Turns

@@ -1,7 +1,7 @@
 use Rattle.std.proofs.Common.{◌≡◌, ◌⊎◌, refl, subst, sym}
 use Rattle.std.proofs.lemmas.Result.{err_from_is_err_and}
 use Rattle.fr_store.specs.Common.{IsLackingAt, ReflectErrorKind}
-use Rattle.fr_store.specs.TurnedLaws.{due_in_use, has_turned, keeps_the_rest, may_be_completed, owned_first, refused}
+use Rattle.fr_store.proofs.TurnedSlots.{due_in_use, has_turned, keeps_the_rest, may_be_completed, owned_first, refused}
 use Rattle.fr_store.proofs.TakenLaws.{closed_room, filled_valued}
 use Rattle.fr_store.proofs.stack.Stack.complete_in_turn.Goals as goal
 

@@ -5,7 +5,7 @@ use Rattle.fr_values.specs.Cells.{given}
 use Rattle.fr_store.specs.HoldLaws.{AgreeBeside, Replaces, holds_at, holds_put_nth, may_have_all, replaces_at}
 use Rattle.fr_store.specs.LeftLaws.{left_put_at, there_for_any}
 use Rattle.fr_store.specs.LeaveLaws.{below_root, kid_at_append, may_have_put, owner_append, put_append, unlinked_child, with_child, within_put}
-use Rattle.fr_store.specs.OffLaws.{way_off, off_stored}
+use Rattle.fr_store.proofs.OffLaws.{way_off, off_stored}
 use Rattle.fr_store.specs.Stands.{Stands}
 use Rattle.fr_store.specs.TopLaws.{body_here, body_other, slot_here, slot_other}
 use Rattle.fr_store.specs.Ways.{count_kids, kid_nth, kid_at, put_nth, put_at, counts_if, uses, uses_in, uses_among, Reaches, node_along, owner_along, owner_below}
