@@ -11,6 +11,7 @@ pub mod HandLaws
 pub mod HeapLaws
 pub mod LackLaws
 pub mod ListLaws
+pub mod OutlinedLaws
 pub mod PlaceLaws
 pub mod RawLaws
 pub mod ReleaseLaws

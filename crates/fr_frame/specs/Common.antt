@@ -16,7 +16,6 @@ pub use Rattle.fr_values.specs.Indexing.{Indexes, IsRun, has_number, is_held, jo
 pub use Rattle.fr_frame.specs.ListItems.{FreesItem, FreesItems, HeldItems, IsListedIn, IsPlain, IsPlainAt, IsReserved, IsUsedAt, KeepsReserved, children_with, held_items, is_list, is_used, item_cell, item_in, item_or, keeps_items, partial_with, place_with, slot_seen, slots_seen, value_held, with_items, with_placed}
 pub use Rattle.fr_values.specs.KeyNames.{names_of}
 pub use Rattle.fr_values.specs.KeyPlaces.{HasKeys, Knows, entry_place, entry_places, first_keys, item_place, item_places, keys_among, place, place_known, places_of, turn_keys, with_new_key}
-pub use Rattle.fr_frame.specs.OutlineLaws.{of_outline, same_body}
 pub use Rattle.fr_frame.specs.Outlines.{is_begun_body, is_list_body, outlined}
 pub use Rattle.fr_frame.specs.RawItems.{HasRoomIn, IsSeenAs}
 pub use Rattle.fr_frame.specs.RawSlots.{body_with}

@@ -1,7 +1,8 @@
 use Rattle.std.proofs.Common.{◌≡◌, None, sym, ◌∙◌}
 use Rattle.std.proofs.lemmas.Result.{on_ok_weaker, IfErr-weaker}
-use Rattle.fr_frame.specs.Common.{HasAllChildren, IsCauseOf, IsChecked, IsPlanFor, IsPlanned, MayComplete, Node, Table, heap_of, invalid, node_of, of_outline, same_body, shape_of}
-use Rattle.fr_frame.specs.OutlineLaws.{found_same, same_list}
+use Rattle.fr_frame.specs.Common.{HasAllChildren, IsCauseOf, IsChecked, IsPlanFor, IsPlanned, MayComplete, Node, Table, heap_of, invalid, node_of, shape_of}
+use Rattle.fr_frame.specs.OutlineLaws.{same_list}
+use Rattle.fr_frame.proofs.OutlinedLaws.{found_same, of_outline, same_body}
 use Rattle.fr_frame.proofs.HandLaws.{so_of}
 use Rattle.fr_frame.proofs.PlaceLaws.{of_node}
 use Rattle.fr_frame.proofs.StayLaws.{list_valid}

@@ -1,6 +1,6 @@
 use Rattle.std.proofs.Common.{◌≡◌, ◌∙◌}
-use Rattle.fr_frame.specs.Common.{Node, heap_of, is_begun_body, node_of, of_outline, same_body}
-use Rattle.fr_frame.specs.OutlineLaws.{same_begun}
+use Rattle.fr_frame.specs.Common.{Node, heap_of, is_begun_body, node_of}
+use Rattle.fr_frame.proofs.OutlinedLaws.{of_outline, same_begun, same_body}
 use Rattle.fr_frame.proofs.slots.Slots.is_begun.Goals as goal
 
 pub returns : goal.returns

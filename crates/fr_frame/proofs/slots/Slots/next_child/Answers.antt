@@ -1,7 +1,7 @@
 use Rattle.std.proofs.Common.{◌≡◌, ◌+◌, ◌<◌, ◌^◌, ◌∙◌, arith}
 use Rattle.std.proofs.lemmas.Result.{IfOk-weaker, on_ok_weaker}
-use Rattle.fr_frame.specs.Common.{IfInUse, Node, body_of, count_cells, heap_of, node_of, of_outline, same_body}
-use Rattle.fr_frame.specs.OutlineLaws.{same_count}
+use Rattle.fr_frame.specs.Common.{IfInUse, Node, body_of, count_cells, heap_of, node_of}
+use Rattle.fr_frame.proofs.OutlinedLaws.{of_outline, same_body, same_count}
 use Rattle.fr_frame.proofs.slots.Slots.next_child.Goals as goal
 
 pub returns-clause-number : goal.returns-clause-number
