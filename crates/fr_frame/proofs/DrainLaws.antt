@@ -82,13 +82,6 @@ module _ (slots : List Slot) (n i m at : ℕ) (slot : Slot) (is : is_some (value
   pub taken_is : (item : Item) × (slot ≡ Slot.Item item)
   taken_is = (there.0, is_there)
 
-  pub taken_value : (item : Item) → slot ≡ Slot.Item item → Some (view item.value) ≡ value_held n i (held_items slots m)
-  taken_value item e =
-      let both : Slot.Item item ≡ Slot.Item there.0 = sym e ∙ is_there in
-      let one : item ≡ there.0 = cc in
-      sym (ap (λ (o : Option Slot). value_held n i (option_and_then item_in o)) there.1 ∙ item_held n i there.0 there.2 there.3
-      ∙ ap (λ (x : Item). Some (view x.value)) (sym one))
-
   pub taken_freed : (now : Slot) (next : Option SlotId) → now ≡ Slot.Free next → IsItemFreed slots (set slots at now) m n i
   taken_freed now next e = record {
     item = there.0;

@@ -252,13 +252,6 @@ module _ (before mid : List Slot) (n : ℕ) (m : IsMadeWhole before mid n) where
       (λ (at : Node). (u : Val) → value_of at.body ≡ Some u → Shows after (handed way n at.owner u (heap_of mid))) mid_here h w
       (sym m.made ∙ is))))
 
-  -- it takes its value itself
-  pub itself : (taker : Taker) → taker ≡ Taker.Itself → IsHanded taker before mid n
-  itself taker is_itself =
-      rw is_itself (handed_so Taker.Itself before mid n m.at m.here (λ w is. subst (Shows mid)
-      (ap (λ (x : Val). with_slot (heap_of before) n (Some (record m.at { body = whole_body x }))) (same_Some m.value w (sym m.made ∙ is))
-      ∙ sym (ap (λ (found : Option Node). with_slot (heap_of before) n (changed (λ (old : Body). whole_body w) found)) m.here)) m.now))
-
 -- There was no memory for the value: the heap is as it was.
 module _ (before mid : List Slot) (n : ℕ) (same : Shows mid (heap_of before)) where
   left : (after : List Slot) → IfInUse mid n (λ (at : Node). Shows after (without (heap_of mid) n at.owner))

@@ -1,10 +1,7 @@
 -- Lists of slots as heaps: what a change of one slot does.
-use Rattle.std.proofs.Common.{◌≡◌, ◌≢◌, ◌⊎◌, ℕ, zero, suc, ◌+◌, ◌<◌, ◌≤◌, Bool, true, false, List, [], ◌∷◌, ◌++◌, length, Option, Some, None, IsSomeAnd, slice_get, set, get_or, option_map, nat_eq, inl, inr, refl, sym, ◌∙◌, ap, ap₂, subst, arith, if◌then◌else◌}
+use Rattle.std.proofs.Common.{◌≡◌, ◌≢◌, ℕ, zero, suc, ◌+◌, ◌<◌, ◌≤◌, Bool, true, false, List, [], ◌∷◌, ◌++◌, length, Option, Some, None, slice_get, set, option_map, nat_eq, inl, inr, refl, sym, ◌∙◌, ap, arith, if◌then◌else◌}
 use Rattle.fr_frame.specs.Common.{Body, Heap, IsInUse, Node, Shows, Slot, heap_of, node_in, option_and_then, slot_occurs, slots_occur, with_body, with_slot}
 use Rattle.fr_values.specs.SliceLaws.{same_number, other_number, number_cases, set_gets, set_keeps}
-use Rattle.std.proofs.lemmas.Grind.{common_steps}
-use Rattle.std.proofs.lemmas.Bool.Decides.{nat_tests}
-use Rattle.std.proofs.lemmas.Option.{slice_get_read}
 
 -- Heaps.
 

@@ -1,11 +1,8 @@
 -- A place that is changed in its slot.
-use Rattle.std.proofs.Common.{◌≡◌, ◌≢◌, ℕ, zero, suc, ◌+◌, Bool, List, [], ◌∷◌, Option, Some, None, IsSomeAnd, slice_get, set, option_map, refl, sym, ◌∙◌, ap, subst}
+use Rattle.std.proofs.Common.{◌≡◌, ◌≢◌, ℕ, ◌+◌, Bool, List, Option, Some, None, IsSomeAnd, slice_get, set, option_map, refl, sym, ◌∙◌, ap, subst}
 use Rattle.fr_frame.specs.Common.{Becomes, Body, Heap, IfInUse, KeepsReserved, Node, PartialValue, Place, Shows, Slot, body_occurs, body_of, heap_of, node_in, node_of, option_and_then, slots_occur, with_body, with_mark, with_slot}
 use Rattle.fr_frame.proofs.HeapLaws.{changed, occur_set, shows_set, with_same}
 use Rattle.fr_values.specs.SliceLaws.{set_gets, set_keeps}
-
-pub set_other : (slots : List Slot) (n : ℕ) (now : Slot) (m : ℕ) → m ≢ n → heap_of (set slots n now) m ≡ heap_of slots m
-set_other slots n now m ne = ap (option_and_then node_in) (set_keeps slots n now m ne)
 
 -- the place with another partial value
 abbrev pub with_partial : Place → PartialValue → Place

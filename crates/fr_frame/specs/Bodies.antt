@@ -1,10 +1,10 @@
 -- What was put at a place, and what becomes of it where a child is entered or leaves.
-use Rattle.std.specs.Prelude.{◌≡◌, ℕ, zero, suc, Bool, true, false, ◌||◌, List, [], ◌∷◌, ◌++◌, length, replicate, slice_get, slice_set, Option, Some, None, IsSome, nat_eq, if◌then◌else◌}
+use Rattle.std.specs.Prelude.{◌≡◌, ℕ, Bool, true, false, ◌||◌, List, [], ◌∷◌, ◌++◌, length, replicate, slice_get, slice_set, Option, Some, None, IsSome, nat_eq, if◌then◌else◌}
 use Rattle.fr_shape.specs.declared.shape.Def.{Def}
 use Rattle.fr_shape.specs.Fills.{is_empty_struct}
-use Rattle.fr_shape.specs.Same.{keys, none_twice, same}
+use Rattle.fr_shape.specs.Same.{keys, none_twice}
 use Rattle.fr_shape.specs.Tokens.{occurs}
-use Rattle.fr_shape.specs.Val.{Val, Vals, unit, product, some, ok, err, list_of, map_of, set_of, ptr, no_vals, first}
+use Rattle.fr_shape.specs.Val.{Val, Vals, unit, product, some, ok, err, list_of, map_of, set_of, ptr, no_vals}
 use Rattle.fr_model.specs.Complete.{made}
 use Rattle.fr_model.specs.DynamicPlaces.{is_object_tracker, entry_found, number_or_last}
 use Rattle.fr_model.specs.Places.{vals_nth}
