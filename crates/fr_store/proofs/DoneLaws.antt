@@ -23,7 +23,7 @@ use Rattle.fr_frame.specs.Changes.{IfInUse, Shows}
 use Rattle.fr_frame.specs.Completing.{shape_of, FillsAt, IsPlanFor, MayComplete}
 use Rattle.fr_frame.specs.Defaults.{KeepGiven, KeepsTracker, WhyNotDefault}
 use Rattle.fr_frame.specs.Heap.{Node, heap_of, stored_in, with_body, with_slot}
-use Rattle.fr_frame.specs.Kids.{Kid, gone, MayHave, Plot, tree_of, cells_in, body_in, kids_in, begun_plot, entered_plot, whole_plot, AreLeftRightly, AreLeftIn, AreLeftAll}
+use Rattle.fr_frame.specs.Kids.{Kid, gone, MayHave, Plot, tree_of, cells_in, body_in, kids_in, begun_plot, AreLeftRightly, AreLeftIn, AreLeftAll}
 use Rattle.fr_store.specs.ValueLaws.{made_of, made_value, more_is, values_count}
 use Rattle.fr_store.specs.HereLaws.{body_back, closed_plot, tree_back, value_closed}
 use Rattle.fr_store.specs.LeftLaws.{left_at, left_end, left_value}

@@ -5,7 +5,7 @@ use Rattle.fr_store.specs.MoveLaws.{top_node}
 use Rattle.fr_shape.specs.TokenLaws.{RoseBy_both}
 use Rattle.fr_model.specs.Tree.{tree_occurs}
 use Rattle.fr_store.specs.StandLaws.{all_changed}
-use Rattle.fr_store.specs.TopLaws.{closed_holds, free_unused, not_beside}
+use Rattle.fr_store.specs.TopLaws.{free_unused}
 use Rattle.fr_store.specs.WayLaws.{tree_tokens}
 use Rattle.fr_store.proofs.PruneLaws.{beneath_is, beneath_uses, plot_tokens, pruned_tokens}
 use Rattle.fr_store.proofs.StayLaws.{stay_but_beneath}

@@ -1,6 +1,6 @@
 -- The steps of the loop that writes down all stored places.
-use Rattle.std.proofs.Common.{◌≡◌, ◌≢◌, ◌⊎◌, ℕ, zero, suc, ◌+◌, ◌<◌, ◌≤◌, List, [], ◌∷◌, ◌++◌, length, length-append, get_or, map, slice_get, take, append_assoc, append-nil, Some, inl, inr, refl, sym, ◌∙◌, ap, subst, arith}
-use Rattle.fr_store.specs.Common.{AreAllStored, Contains, HasOwner, IsKeyOf, IsNonDecreasingBy, IsOpened, IsPlaced, IsSomeAnd, IsSpread, IsStoredChildOf, Kid, Leads, Node, Place, Plan, Slot, SlotId, StoredPlace, cursor_shown, first_key, heap_of, key_of, kid_shown, numbers, slot_at, slot_of, slots_along, slots_between, slots_of}
+use Rattle.std.proofs.Common.{◌≡◌, ◌≢◌, ◌⊎◌, ℕ, ◌+◌, ◌<◌, ◌≤◌, List, [], ◌∷◌, ◌++◌, length, length-append, get_or, map, slice_get, take, append_assoc, append-nil, Some, inl, inr, refl, sym, ◌∙◌, ap, subst, arith}
+use Rattle.fr_store.specs.Common.{AreAllStored, Contains, HasOwner, IsKeyOf, IsNonDecreasingBy, IsOpened, IsPlaced, IsSomeAnd, IsSpread, IsStoredChildOf, Kid, Leads, Node, Place, Slot, SlotId, StoredPlace, cursor_shown, first_key, heap_of, key_of, kid_shown, numbers, slot_at, slot_of, slots_along, slots_between, slots_of}
 use Rattle.std.proofs.lemmas.List.{get_or-take, length-map, length-take-le}
 use Rattle.std.proofs.lemmas.List.Elements.{All-contains}
 use Rattle.std.proofs.lemmas.Option.{none-some, slice_get-get_or, slice_get_past}

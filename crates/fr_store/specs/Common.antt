@@ -1,5 +1,5 @@
 -- The names that clauses and proofs cite most, passed on from one place. Declares nothing.
-pub use Rattle.fr_store.specs.Below.{AreLeftAll, AreLeftIn, AreLeftRightly, AreUnplaced, AtCursor, Body, Cell, ChildWay, Conserved, ContentKind, Def, EachFailureHasItsPlace, Entries, EntriesKind, Failure, FillsAt, FinishesOrRefuses, FirstByWalkIs, FrameOwner, HasPlace, Heap, Holds, HoldsAll, HoldsIn, IfInUse, IsChecked, IsClosed, IsGrowing, IsInUse, IsItemOf, IsLeftRightly, IsMapBody, IsSetBody, IsThere, IsUnplaced, ItemsKind, Kid, Kids, LackingFails, MayHave, Meanings, Node, NodeId, PathStep, Place, Plan, Plot, ReflectErrorKind, Room, Room_fewer, Room_risen, Room_same, RoseBy, RoseBy_both, RoseBy_same, SameMarks, SameTokens, Shows, Slot, SlotId, Suits, Table, Taker, TakesItems, Tracker, Tree, Trees, Val, Vals, absent, added, added_entry, and_item, and_item_cell, and_last, as_content, as_elements, as_entries, as_fields, as_items, as_tracker, at, base_in, base_of_tracker, begun, begun_body, begun_plot, body_in, body_occurs, body_of, both, branch, cause_by, cell_at, cell_of, cells_in, cells_of_vals, change_at, change_child, child_as, child_node, child_owner, child_tree, closed, closed_at, complete, count_below, count_entries, count_trees, count_vals, def_of, deferred_column, depth_above, depth_below, depth_limit, enter, entered, entered_node, entered_plot, entries_of, entry, entry_found, entry_of, entry_owner, failure_at, failures, failures_among, failures_but, failures_off, finished, first, first_by_walk, fresh, given, gone, heap_of, held_by, hole, holes, in_turn, is_begun_object, is_empty_struct, is_key, is_map, is_map_tracker, is_object_tracker, is_root, is_set, is_stored, item_owner, keys_apart, keys_here, keys_of_tracker, kid, kid_occurs, kids_occur, kind_of, lack_of_begun, linked, linked_by, links, map_of, marked, no_entries, no_kids, no_trees, no_vals, node_of, number_in, number_or_last, occurs, opened, opened_as, opened_by, opened_value, or_itself, or_missing, over_base, own_lack, parts_as, placed, plot_occurs, product, reformed, restarted, shape_in, shape_of, slot_of_cell, slots_occur, some, step_as, step_itself, step_order, steps_in, stored_in, strict, taken_over, there, tree_at, tree_in, tree_nth, tree_occurs, tree_of, trees_in, unlinked, up, value_of, walk_order, whole, whole_body, whole_plot, wholes, with_body, with_cell, with_ended, with_ended_item, with_entered, with_mark, with_slot, without}
+pub use Rattle.fr_store.specs.Below.{AreLeftAll, AreLeftIn, AreLeftRightly, AreUnplaced, AtCursor, Body, Cell, ChildWay, Conserved, ContentKind, Def, EachFailureHasItsPlace, Entries, EntriesKind, Failure, FillsAt, FinishesOrRefuses, FirstByWalkIs, FrameOwner, HasPlace, Heap, Holds, HoldsAll, HoldsIn, IfInUse, IsChecked, IsClosed, IsGrowing, IsInUse, IsItemOf, IsLeftRightly, IsMapBody, IsSetBody, IsThere, IsUnplaced, ItemsKind, Kid, Kids, LackingFails, MayHave, Meanings, Node, NodeId, PathStep, Place, Plan, Plot, ReflectErrorKind, Room, Room_fewer, Room_risen, Room_same, RoseBy, RoseBy_both, RoseBy_same, SameMarks, SameTokens, Shows, Slot, SlotId, Suits, Table, Taker, TakesItems, Tracker, Tree, Trees, Val, Vals, absent, added, added_entry, and_item, and_item_cell, and_last, as_content, as_entries, as_fields, as_items, as_tracker, at, base_in, base_of_tracker, begun, begun_body, begun_plot, body_in, body_occurs, body_of, both, branch, cause_by, cell_at, cell_of, cells_in, cells_of_vals, change_at, change_child, child_as, child_node, child_owner, child_tree, closed, closed_at, complete, count_below, count_entries, count_trees, count_vals, def_of, deferred_column, depth_above, depth_below, depth_limit, enter, entered, entered_node, entered_plot, entries_of, entry, entry_found, entry_of, entry_owner, failure_at, failures, failures_among, failures_but, failures_off, finished, first, first_by_walk, fresh, given, gone, heap_of, held_by, hole, holes, in_turn, is_begun_object, is_empty_struct, is_key, is_map, is_map_tracker, is_object_tracker, is_root, is_set, is_stored, item_owner, keys_apart, keys_here, keys_of_tracker, kid, kid_occurs, kids_occur, kind_of, lack_of_begun, linked, linked_by, links, map_of, marked, no_entries, no_kids, no_trees, no_vals, node_of, number_in, number_or_last, opened, opened_as, opened_by, opened_value, or_itself, or_missing, over_base, own_lack, parts_as, placed, plot_occurs, product, reformed, restarted, shape_in, shape_of, slot_of_cell, slots_occur, some, step_as, step_itself, step_order, steps_in, stored_in, strict, taken_over, there, tree_at, tree_in, tree_nth, tree_occurs, tree_of, trees_in, unlinked, up, value_of, walk_order, whole, whole_body, whole_plot, wholes, with_body, with_cell, with_ended, with_ended_item, with_entered, with_mark, with_slot, without}
 pub use Rattle.fr_store.specs.Beneath.{IsHeldUpHere, from_last, is_map_found, kid_on_top, slotted}
 pub use Rattle.fr_store.specs.EnterLaws.{fresh_closed, fresh_plot, fresh_same, fresh_tree}
 pub use Rattle.fr_store.specs.HoldLaws.{AgreeBeside, Replaces, holds_at, holds_frame, holds_frame_in, holds_nth, holds_put_nth, may_have_all, may_have_at, replaces_at}
@@ -26,6 +26,6 @@ pub use Rattle.std.specs.List.{All, Contains, filter}
 pub use Rattle.std.specs.List.Sorted.{IsNonDecreasingBy}
 pub use Rattle.std.specs.Option.{option_and_then, option_map}
 pub use Rattle.std.specs.Ordering.{ordering_then}
-pub use Rattle.std.specs.Prelude.{Err, IsSome, IsSomeAnd, Ok, OnErr, OnOk, Result, Some, [], false, if◌then◌else◌, is_some, length, true, ℕ, ◌++◌, ◌<◌, ◌↔◌, ◌∷◌, ◌≡◌, ◌⊎◌}
+pub use Rattle.std.specs.Prelude.{IsSome, IsSomeAnd, OnErr, OnOk, Some, [], false, is_some, length, true, ℕ}
 pub use Rattle.std.specs.declared.cmp.Ordering.{Ordering}
 pub use Rattle.std.specs.declared.cmp.Ordering.TheVariants.{Less}

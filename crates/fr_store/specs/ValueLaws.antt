@@ -1,7 +1,7 @@
 -- Laws of the values that places come to, for proofs.
 use Rattle.std.proofs.Common.{◌≡◌, suc, Bool, true, false, List, [], ◌∷◌, length, Option, Some, None, refl, sym, ◌∙◌, ap}
 use Rattle.std.specs.Prelude.{if◌then◌else◌}
-use Rattle.fr_store.specs.Below.{Cell, Tracker, Val, Vals, absent, begun_body, can_make, count_vals, first, made, no_vals, one_more, placed, value_as, value_of, values_of}
+use Rattle.fr_store.specs.Below.{Cell, Tracker, Val, Vals, begun_body, can_make, count_vals, first, made, no_vals, one_more, value_as, value_of, values_of}
 use Rattle.fr_values.specs.Cells.{given}
 
 -- what is begun and has a value makes it of its children's

@@ -1,5 +1,3 @@
-use Rattle.std.proofs.Common.{◌≡◌, ◌⊎◌, inl, inr}
-use Rattle.fr_store.specs.Common.{IsHeldUp, LacksHere, ReflectErrorKind, StoppedByTurns}
 use Rattle.fr_store.proofs.FinishedLaws.{came_by_turns, held_here, is_finished, nothing_left, stopped_here}
 use Rattle.fr_store.proofs.Outcomes.{or_so}
 use Rattle.fr_store.proofs.ReleasedLaws.{conserved_on}
