@@ -60,6 +60,13 @@ cells_popped bits vs fewer cs rest last n e is count popped =
     ap (cells_of bits 0) popped ∙ cells_taken bits 0 vs (n - 1) ∙ ap (take (n - 1)) (e ∙ is) ∙ take_at rest (last ∷ []) (n - 1)
     (omega (arith, count, same_length bits vs cs e, ap length is, length_push rest last))
 
+-- where there are none, there are none then
+pub none_popped : (bits : BitSet) (vs fewer : List Value) (cs : List Cell) (n : ℕ) → cells_of bits 0 vs ≡ cs → cs ≡ []
+    → fewer ≡ take n vs → cells_of bits 0 fewer ≡ []
+none_popped bits [] fewer cs zero e is popped = ap (cells_of bits 0) popped
+none_popped bits [] fewer cs (suc n) e is popped = ap (cells_of bits 0) popped
+none_popped bits (v ∷ vs) fewer cs n e is popped = let none : cells_of bits 0 (v ∷ vs) ≡ [] = e ∙ is in cc
+
 -- a child that isn't there and the next one
 
 move_given : (cs : List Cell) (i : ℕ) (c : Cell) → slice_get cs i ≡ Some absent → slice_get cs (suc i) ≡ Some c

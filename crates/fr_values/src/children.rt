@@ -262,20 +262,30 @@ impl Children {
         slot_in(self.parts.value(i))
     }
 
+    /// Lets a child have no value of its own but this, which stands for it, and hands out the value
+    /// that it had, if it was there.
+    fn hand_out(&mut self, i: usize, mark: Value) -> Option<Value>
+        requires { i < length self.old }
+        ensures marked { self.new ≡ slice_set self.old i (in_slot (view mark)) }
+        ensures taken { option_map view result ≡ value_at self.old i }
+    {
+        let was_given = self.given.get(i);
+        cut_at(&mut self.base, &mut self.index, i);
+        self.given.unset(i);
+        let held = self.parts.replace(i, mark);
+        if !was_given {
+            return None;
+        }
+        Some(held)
+    }
+
     /// Puts a child into a slot of its own, of this number, and hands its value out, if it was there.
     pub fn place(&mut self, i: usize, slot: u32) -> Option<Value>
         requires { i < length self.old }
         ensures placed { self.new ≡ slice_set self.old i (placed slot) }
         ensures taken { option_map view result ≡ value_at self.old i }
     {
-        let was_given = self.given.get(i);
-        cut_at(&mut self.base, &mut self.index, i);
-        self.given.unset(i);
-        let held = self.parts.replace(i, in_place(slot));
-        if !was_given {
-            return None;
-        }
-        Some(held)
+        self.hand_out(i, in_place(slot))
     }
 
     /// Takes a child out, which then isn't there, and hands its value out, if it was there.
@@ -284,14 +294,7 @@ impl Children {
         ensures rest { self.new ≡ slice_set self.old i absent }
         ensures taken { option_map view result ≡ value_at self.old i }
     {
-        let was_given = self.given.get(i);
-        cut_at(&mut self.base, &mut self.index, i);
-        self.given.unset(i);
-        let held = self.parts.replace(i, nothing());
-        if !was_given {
-            return None;
-        }
-        Some(held)
+        self.hand_out(i, nothing())
     }
 
     /// Lets a child not be there.
@@ -299,9 +302,7 @@ impl Children {
         requires { i < length self.old }
         ensures { self.new ≡ slice_set self.old i absent }
     {
-        cut_at(&mut self.base, &mut self.index, i);
-        self.given.unset(i);
-        let _held = self.parts.replace(i, nothing());
+        let _held = self.take(i);
     }
 
     /// Puts a child's value in the stead of what stood there.
@@ -343,10 +344,11 @@ impl Children {
         Ok(())
     }
 
-    /// Lets the last child go.
+    /// Lets the last child go, if there is one.
     pub fn pop(&mut self)
-        ensures { (rest : List Cell) (last : Cell) → self.old ≡ rest ++ last ∷ []
+        ensures rest { (rest : List Cell) (last : Cell) → self.old ≡ rest ++ last ∷ []
             → self.new ≡ rest }
+        ensures none { self.old ≡ [] → self.new ≡ [] }
     {
         self.parts.pop();
         cut_at(&mut self.base, &mut self.index, self.parts.len());

@@ -10,7 +10,7 @@ behind i all before moved e is = is ∙ ap (λ (cs : List Cell). without_cell i 
 
 pub returns-then-is_there-clause-ended : goal.returns-then-is_there-clause-ended
 returns-then-is_there-clause-ended c =
-    c.pop.ensures (without_cell c.args.i c.args.self.now) absent
+    c.pop.ensures.rest (without_cell c.args.i c.args.self.now) absent
     (behind c.args.i c.args.self.now c.index_more.new.self c.move_last-last.new.self c.index_more.ensures
     c.move_last-last.ensures.moved) ∙ there_already (view c.args.value) c.args.i c.args.self.now c.requires.absent
     (ap (has_same_cell (view c.args.value)) (sym c.index_more.ensures) ∙ sym c.has_same-is_there.ensures ∙ c.if-is_there.true)
@@ -18,7 +18,7 @@ returns-then-is_there-clause-ended c =
 pub returns-then-is_there-clause-conserved : goal.returns-then-is_there-clause-conserved
 returns-then-is_there-clause-conserved c =
     item_released (view c.args.value) c.args.i c.args.self.now c.pop.new.self c.args.ledger.now c.release.new.ledger
-    c.requires.absent (c.pop.ensures (without_cell c.args.i c.args.self.now) absent
+    c.requires.absent (c.pop.ensures.rest (without_cell c.args.i c.args.self.now) absent
     (behind c.args.i c.args.self.now c.index_more.new.self c.move_last-last.new.self c.index_more.ensures
     c.move_last-last.ensures.moved)) c.release.ensures.released
 
