@@ -16,7 +16,7 @@ mod dynamic_refusal_tests;
 #[cfg(test)]
 mod dynamic_tests;
 #[cfg(test)]
-mod hook_tests;
+mod invariant_tests;
 #[cfg(test)]
 mod limit_tests;
 #[cfg(test)]
@@ -25,8 +25,6 @@ mod list_tests;
 mod original_list_tests;
 #[cfg(test)]
 mod original_tests;
-#[cfg(test)]
-mod parse_tests;
 #[cfg(test)]
 mod plan_tests;
 #[cfg(test)]

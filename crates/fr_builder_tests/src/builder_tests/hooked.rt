@@ -6,6 +6,7 @@ use super::bench::{
     Bench, built, check_counts, check_value, done, fresh, ledger, message_of, named, refusal,
     start, unbuilt, with_token,
 };
+use super::documents::joined;
 use super::grounds::{Ground, ground_of};
 use super::own_hooks::OwnHooks;
 use super::structs::{STRUCT, begun};
@@ -65,17 +66,6 @@ const NO_PARSING_OF_BYTES: &str = "Type does not support parsing from bytes";
 const BYTES_NOT_PARSED: &str = "Failed to parse bytes value";
 
 const TYPE_INVARIANT: &str = "a type invariant does not hold";
-
-/// A document of shapes and the rest.
-fn joined(rt: &impl Abort, alloc: Global, shapes: &str, rest: &str) -> String {
-    let Ok(mut document) = String::from_str(alloc, shapes) else {
-        panic!(rt; "no memory");
-    };
-    if document.push_str(rest).is_err() {
-        panic!(rt; "no memory");
-    }
-    document
-}
 
 /// The table of these shapes.
 fn ground(rt: &(impl Abort + AllocGlobal), shapes: &str) -> Ground {

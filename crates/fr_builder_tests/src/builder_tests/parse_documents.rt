@@ -1,7 +1,6 @@
 //! What texts and bytes are parsed to in documents, with a hook and without one, and two documents
 //! as a loader makes them.
-use crate::cases::check_each;
-use std::test::Fail;
+use super::documents::check_each;
 
 /// The shapes u32, i8, u64, i128, u128, bool, char, String, CowStr, str, a pointer to it, what
 /// isn't parsed (a list, a dynamic value), Named (a number and a text) and Cell (an opaque value
@@ -262,17 +261,17 @@ const PORTS: &str = r#"
 "#;
 
 #[test]
-fn texts_are_parsed_as_scalars(rt: HostRuntime) -> Result<(), Fail> {
-    check_each(&rt, SCALARS, 28, WRITTEN)
+fn texts_are_parsed_as_scalars(rt: HostRuntime) {
+    check_each(&rt, SCALARS, 28, WRITTEN);
 }
 
 #[test]
-fn hooks_parse_texts_and_bytes(rt: HostRuntime) -> Result<(), Fail> {
-    check_each(&rt, HOOKED, 13, PARSED)
+fn hooks_parse_texts_and_bytes(rt: HostRuntime) {
+    check_each(&rt, HOOKED, 13, PARSED);
 }
 
 #[test]
-fn a_loader_reads_what_lines_say(rt: HostRuntime) -> Result<(), Fail> {
-    check_each(&rt, SETTINGS, 2, LOADED)?;
-    check_each(&rt, ENDPOINT, 3, PORTS)
+fn a_loader_reads_what_lines_say(rt: HostRuntime) {
+    check_each(&rt, SETTINGS, 2, LOADED);
+    check_each(&rt, ENDPOINT, 3, PORTS);
 }
