@@ -130,7 +130,7 @@ fn what_means_nothing_is_refused(rt: HostRuntime) {
     }
 }
 
-/// Where a shape takes neither texts nor bytes, what is put in is released.
+/// A text or bytes at a place that holds a token and parses neither.
 #[test]
 fn a_refused_parse_releases_the_token(rt: HostRuntime) {
     let ground = ground_of(&rt, STRUCT);
@@ -150,7 +150,7 @@ fn holding<'t>(rt: &(impl Abort + AllocGlobal), ground: &'t Ground, root: u32) -
     done(rt, with_token(rt, partial, ledger).end())
 }
 
-/// Puts a number into the field `n`, and leaves it.
+/// Puts a number into the field `n` and leaves it.
 fn with_number<'t>(rt: &impl Abort, bench: Bench<'t>, n: u128) -> Bench<'t> {
     let bench = done(rt, bench.begin_field("n"));
     let bench = done(rt, bench.put_number(rt, n));
@@ -265,183 +265,189 @@ fn check_script(
     check_counts(rt, &ledger, &[released]);
 }
 
-/// A call that is refused, or that puts an empty option, lets go of the token.
+/// A call that is refused, or gives an empty option, lets go of the token.
+const PARSES: [(&str, u32, &str, u32); 8] = [
+    (
+        r#""root":3,"tokens":1,"commands":[
+            ["begin_some"],["set",1,{"t":0}],["end"],["parse_from_str","x"]
+        ]}"#,
+        4,
+        "null",
+        1,
+    ),
+    (
+        r#""root":3,"tokens":1,"commands":[
+            ["begin_some"],["set",1,{"t":0}],["end"],["parse_from_bytes",[0,255]]
+        ]}"#,
+        4,
+        "null",
+        1,
+    ),
+    (
+        r#""root":7,"tokens":1,"commands":[
+            ["begin_field","r"],["set",1,{"t":0}],["end"],
+            ["begin_field","refused"],["parse_from_str","7"]
+        ]}"#,
+        4,
+        "ParseFailed",
+        1,
+    ),
+    (
+        r#""root":7,"tokens":1,"commands":[
+            ["begin_field","refused"],["parse_from_bytes",[]],["set",1,{"t":0}]
+        ]}"#,
+        1,
+        BYTES_NOT_PARSED,
+        1,
+    ),
+    (
+        r#""root":7,"tokens":1,"commands":[
+            ["begin_field","starved"],["parse_from_str","7"],["set",1,{"t":0}]
+        ]}"#,
+        1,
+        "OutOfMemory",
+        1,
+    ),
+    (
+        r#""root":7,"tokens":1,"commands":[
+            ["begin_field","r"],["set",1,{"t":0}],["end"],
+            ["begin_field","starved"],["parse_from_bytes",[7]]
+        ]}"#,
+        4,
+        "OutOfMemory",
+        1,
+    ),
+    (
+        r#""root":7,"tokens":1,"commands":[
+            ["begin_field","unparsed"],["parse_from_str","7"],["set",1,{"t":0}]
+        ]}"#,
+        1,
+        NO_PARSING,
+        1,
+    ),
+    (
+        r#""root":1,"tokens":1,"commands":[["set",1,{"t":0}],["parse_from_bytes",[7]]]}"#,
+        1,
+        NO_PARSING_OF_BYTES,
+        1,
+    ),
+];
+
 #[test]
 fn scripts_parse_by_hooks(rt: HostRuntime) {
-    for (rest, calls, want, released) in [
-        (
-            r#""root":3,"tokens":1,"commands":[
-                ["begin_some"],["set",1,{"t":0}],["end"],["parse_from_str","x"]
-            ]}"#,
-            4,
-            "null",
-            1,
-        ),
-        (
-            r#""root":3,"tokens":1,"commands":[
-                ["begin_some"],["set",1,{"t":0}],["end"],["parse_from_bytes",[0,255]]
-            ]}"#,
-            4,
-            "null",
-            1,
-        ),
-        (
-            r#""root":7,"tokens":1,"commands":[
-                ["begin_field","r"],["set",1,{"t":0}],["end"],
-                ["begin_field","refused"],["parse_from_str","7"]
-            ]}"#,
-            4,
-            "ParseFailed",
-            1,
-        ),
-        (
-            r#""root":7,"tokens":1,"commands":[
-                ["begin_field","refused"],["parse_from_bytes",[]],["set",1,{"t":0}]
-            ]}"#,
-            1,
-            BYTES_NOT_PARSED,
-            1,
-        ),
-        (
-            r#""root":7,"tokens":1,"commands":[
-                ["begin_field","starved"],["parse_from_str","7"],["set",1,{"t":0}]
-            ]}"#,
-            1,
-            "OutOfMemory",
-            1,
-        ),
-        (
-            r#""root":7,"tokens":1,"commands":[
-                ["begin_field","r"],["set",1,{"t":0}],["end"],
-                ["begin_field","starved"],["parse_from_bytes",[7]]
-            ]}"#,
-            4,
-            "OutOfMemory",
-            1,
-        ),
-        (
-            r#""root":7,"tokens":1,"commands":[
-                ["begin_field","unparsed"],["parse_from_str","7"],["set",1,{"t":0}]
-            ]}"#,
-            1,
-            NO_PARSING,
-            1,
-        ),
-        (
-            r#""root":1,"tokens":1,"commands":[["set",1,{"t":0}],["parse_from_bytes",[7]]]}"#,
-            1,
-            NO_PARSING_OF_BYTES,
-            1,
-        ),
-    ] {
+    for (rest, calls, want, released) in PARSES {
         check_script(&rt, PARSED, rest, calls, want, released);
     }
 }
 
 /// A struct that is set whole isn't asked. An item of a set is asked as it ends, in either mode.
+const VALIDATIONS: [(&str, u32, &str, u32); 6] = [
+    (
+        r#""root":3,"tokens":1,"commands":[
+            ["begin_field","r"],["set",1,{"t":0}],["end"],
+            ["begin_field","digit"],["begin_field","n"],["set",0,10],["end"],["end"]
+        ]}"#,
+        7,
+        "ValidationFailed",
+        1,
+    ),
+    (
+        r#""root":3,"tokens":1,"commands":[
+            ["begin_field","r"],["set",1,{"t":0}],["end"],
+            ["begin_field","digit"],["set",2,[10]],["end"],
+            ["begin_field","n"],["set",0,10],["end"]
+        ]}"#,
+        9,
+        "ValidationFailed",
+        1,
+    ),
+    (
+        r#""root":3,"tokens":1,"commands":[
+            ["begin_deferred"],["begin_field","r"],["set",1,{"t":0}],["end"],
+            ["begin_field","digit"],["begin_field","n"],["set",0,10],["end"],["end"],
+            ["finish_deferred"]
+        ]}"#,
+        9,
+        "ValidationFailed",
+        1,
+    ),
+    (
+        r#""root":3,"tokens":1,"commands":[
+            ["begin_deferred"],["begin_field","r"],["set",1,{"t":0}],["end"],
+            ["begin_field","digit"],["set",2,[10]],["end"],["finish_deferred"]
+        ]}"#,
+        8,
+        r#"[{"t":0},[10],1]"#,
+        0,
+    ),
+    (
+        r#""root":4,"tokens":1,"commands":[
+            ["init_set"],["begin_set_item"],["begin_field","n"],["set",0,10],["end"],
+            ["end"],["set",1,{"t":0}]
+        ]}"#,
+        5,
+        "ValidationFailed",
+        1,
+    ),
+    (
+        r#""root":4,"tokens":1,"commands":[
+            ["begin_deferred"],["init_set"],["begin_set_item"],["begin_field","n"],
+            ["set",0,10],["end"],["end"],["finish_deferred"],["set",1,{"t":0}]
+        ]}"#,
+        6,
+        "ValidationFailed",
+        1,
+    ),
+];
+
 #[test]
 fn scripts_are_validated_by_hooks(rt: HostRuntime) {
-    for (rest, calls, want, released) in [
-        (
-            r#""root":3,"tokens":1,"commands":[
-                ["begin_field","r"],["set",1,{"t":0}],["end"],
-                ["begin_field","digit"],["begin_field","n"],["set",0,10],["end"],["end"]
-            ]}"#,
-            7,
-            "ValidationFailed",
-            1,
-        ),
-        (
-            r#""root":3,"tokens":1,"commands":[
-                ["begin_field","r"],["set",1,{"t":0}],["end"],
-                ["begin_field","digit"],["set",2,[10]],["end"],
-                ["begin_field","n"],["set",0,10],["end"]
-            ]}"#,
-            9,
-            "ValidationFailed",
-            1,
-        ),
-        (
-            r#""root":3,"tokens":1,"commands":[
-                ["begin_deferred"],["begin_field","r"],["set",1,{"t":0}],["end"],
-                ["begin_field","digit"],["begin_field","n"],["set",0,10],["end"],["end"],
-                ["finish_deferred"]
-            ]}"#,
-            9,
-            "ValidationFailed",
-            1,
-        ),
-        (
-            r#""root":3,"tokens":1,"commands":[
-                ["begin_deferred"],["begin_field","r"],["set",1,{"t":0}],["end"],
-                ["begin_field","digit"],["set",2,[10]],["end"],["finish_deferred"]
-            ]}"#,
-            8,
-            r#"[{"t":0},[10],1]"#,
-            0,
-        ),
-        (
-            r#""root":4,"tokens":1,"commands":[
-                ["init_set"],["begin_set_item"],["begin_field","n"],["set",0,10],["end"],
-                ["end"],["set",1,{"t":0}]
-            ]}"#,
-            5,
-            "ValidationFailed",
-            1,
-        ),
-        (
-            r#""root":4,"tokens":1,"commands":[
-                ["begin_deferred"],["init_set"],["begin_set_item"],["begin_field","n"],
-                ["set",0,10],["end"],["end"],["finish_deferred"],["set",1,{"t":0}]
-            ]}"#,
-            6,
-            "ValidationFailed",
-            1,
-        ),
-    ] {
+    for (rest, calls, want, released) in VALIDATIONS {
         check_script(&rt, CHECKED, rest, calls, want, released);
     }
 }
 
+const INVARIANTS: [(&str, u32, &str, u32); 5] = [
+    (
+        r#""root":6,"tokens":1,"commands":[
+            ["begin_some"],["begin_field","r"],["set",1,{"t":0}],["end"],["end"]
+        ]}"#,
+        5,
+        TYPE_INVARIANT,
+        1,
+    ),
+    (
+        r#""root":6,"tokens":1,"commands":[["set",6,null]]}"#,
+        1,
+        "null",
+        0,
+    ),
+    (
+        r#""root":7,"tokens":1,"commands":[
+            ["init_map"],["begin_key"],["set",5,[{"t":0}]],["end"],
+            ["begin_value"],["set",0,7],["end"]
+        ]}"#,
+        7,
+        TYPE_INVARIANT,
+        1,
+    ),
+    (
+        r#""root":8,"tokens":1,"commands":[["set",8,[{"t":0}]]]}"#,
+        1,
+        r#"[{"t":0}]"#,
+        0,
+    ),
+    (
+        r#""root":9,"tokens":1,"commands":[["set",9,7]]}"#,
+        1,
+        "7",
+        0,
+    ),
+];
+
 #[test]
 fn scripts_keep_invariants_by_hooks(rt: HostRuntime) {
-    for (rest, calls, want, released) in [
-        (
-            r#""root":6,"tokens":1,"commands":[
-                ["begin_some"],["begin_field","r"],["set",1,{"t":0}],["end"],["end"]
-            ]}"#,
-            5,
-            TYPE_INVARIANT,
-            1,
-        ),
-        (
-            r#""root":6,"tokens":1,"commands":[["set",6,null]]}"#,
-            1,
-            "null",
-            0,
-        ),
-        (
-            r#""root":7,"tokens":1,"commands":[
-                ["init_map"],["begin_key"],["set",5,[{"t":0}]],["end"],
-                ["begin_value"],["set",0,7],["end"]
-            ]}"#,
-            7,
-            TYPE_INVARIANT,
-            1,
-        ),
-        (
-            r#""root":8,"tokens":1,"commands":[["set",8,[{"t":0}]]]}"#,
-            1,
-            r#"[{"t":0}]"#,
-            0,
-        ),
-        (
-            r#""root":9,"tokens":1,"commands":[["set",9,7]]}"#,
-            1,
-            "7",
-            0,
-        ),
-    ] {
+    for (rest, calls, want, released) in INVARIANTS {
         check_script(&rt, CHECKED, rest, calls, want, released);
     }
 }
