@@ -1,4 +1,5 @@
-//! The hooks that documents name by number. What finds no memory ends the test.
+//! The hooks that documents name by number: 0 to 3, and 4, which none has. What finds no memory ends
+//! the test.
 ghost use Rattle.std.specs.Prelude.{◌≡◌, ℕ, ◌≤◌};
 ghost use Rattle.fr_shape.specs.Val.{product, first, nat, token, no_vals};
 ghost use Rattle.fr_shape.specs.View.{view};
@@ -8,10 +9,7 @@ ghost use Rattle.fr_shape.specs.Tokens.{occurs};
 ghost use Rattle.fr_shape.specs.TokenLaws.{one};
 
 use crate::texts::{check_text, table_of, value_of};
-use fr_doc::{
-    CHECK_IN_ORDER, CHECK_NEVER, CHECK_NO_NEGATIVE, CHECK_NO_ZERO, CONVERT_FIRST_CHILD,
-    CONVERT_NEVER, CONVERT_NOT_ZERO, CONVERT_SAME, DocHooks, PARSE_BYTES_UTF8, PARSE_TEXT, json_of,
-};
+use fr_doc::{DocHooks, json_of};
 use fr_shape::{HookFault, HookId, Hooks, Items, Ledger, ShapeId, ShapeTable, Value};
 use std::alloc::{AllocGlobal, Global};
 use std::process::Abort;
@@ -29,34 +27,27 @@ const STRING: u32 = 1;
 
 const OPAQUE: u32 = 2;
 
-/// A number that no hook has.
-const NO_HOOK: u32 = 4;
-
 #[test]
 fn checks_ask_each_integer(rt: HostRuntime) {
     for (h, text, want) in [
-        (CHECK_NO_ZERO, "[1,{\"i\":-1},{\"d\":0}]", true),
-        (CHECK_NO_ZERO, "[1,{\"s\":{\"i\":0}}]", false),
+        (0, "[1,{\"i\":-1},{\"d\":0}]", true),
+        (0, "[1,{\"s\":{\"i\":0}}]", false),
+        (1, "[{\"i\":-2},0,{\"i\":0},[7,{\"d\":1}]]", true),
+        (1, "{\"m\":[[1,3],[2,4]]}", false),
         (
-            CHECK_IN_ORDER,
-            "[{\"i\":-2},0,{\"i\":0},[7,{\"d\":1}]]",
-            true,
-        ),
-        (CHECK_IN_ORDER, "{\"m\":[[1,3],[2,4]]}", false),
-        (
-            CHECK_IN_ORDER,
+            1,
             "[{\"i\":7},{\"n\":\"340282366920938463463374607431768211455\"}]",
             true,
         ),
         (
-            CHECK_IN_ORDER,
+            1,
             "[{\"n\":\"340282366920938463463374607431768211455\"},{\"i\":7}]",
             false,
         ),
-        (CHECK_NEVER, "true", false),
-        (CHECK_NO_NEGATIVE, "[0,{\"i\":5},{\"d\":{\"i\":-1}}]", true),
-        (CHECK_NO_NEGATIVE, "{\"l\":[1,{\"i\":-1}]}", false),
-        (NO_HOOK, "0", true),
+        (2, "true", false),
+        (3, "[5,{\"i\":0},{\"d\":{\"i\":-1}}]", true),
+        (3, "{\"l\":[1,{\"i\":-1}]}", false),
+        (4, "0", true),
     ] {
         let value = value_of(&rt, rt.alloc(), text);
         assert!(rt; DocHooks.check(HookId(h), &value) == want, "{text}");
@@ -138,21 +129,21 @@ fn number_and_token(rt: &impl Abort, alloc: Global, n: u128) -> Value
 #[test]
 fn conversions_release_what_they_keep_back(rt: HostRuntime) {
     for (h, target, want) in [
-        (CONVERT_FIRST_CHILD, BYTE, "7"),
-        (CONVERT_FIRST_CHILD, STRING, "unsupported"),
-        (CONVERT_SAME, BYTE, "unsupported"),
-        (CONVERT_NEVER, BYTE, "refused"),
-        (CONVERT_NOT_ZERO, BYTE, "unsupported"),
-        (NO_HOOK, BYTE, "unsupported"),
+        (0, BYTE, "7"),
+        (0, STRING, "unsupported"),
+        (1, BYTE, "unsupported"),
+        (2, BYTE, "refused"),
+        (3, BYTE, "unsupported"),
+        (4, BYTE, "unsupported"),
     ] {
         let source = number_and_token(&rt, rt.alloc(), 7);
         check_conversion(&rt, h, target, source, want, 1);
     }
     for (target, want, released) in [(OPAQUE, "{\"t\":0}", 0), (BYTE, "unsupported", 1)] {
-        check_conversion(&rt, CONVERT_SAME, target, Value::Token(0), want, released);
+        check_conversion(&rt, 1, target, Value::Token(0), want, released);
     }
     for (n, want) in [(7, "7"), (0, "must not be zero"), (256, "unsupported")] {
-        check_conversion(&rt, CONVERT_NOT_ZERO, BYTE, Value::Nat(n), want, 0);
+        check_conversion(&rt, 3, BYTE, Value::Nat(n), want, 0);
     }
 }
 
@@ -183,9 +174,12 @@ fn check_bytes_parsing(
 #[test]
 fn texts_and_bytes_are_parsed_as_texts(rt: HostRuntime) {
     for (h, target, text, want) in [
-        (PARSE_TEXT, STRING, "é", "\"é\""),
-        (PARSE_TEXT, BYTE, "7", "refused"),
-        (NO_HOOK, STRING, "7", "unsupported"),
+        (0, STRING, "é", "\"é\""),
+        (0, BYTE, "7", "refused"),
+        (1, STRING, "7", "unsupported"),
+        (2, STRING, "7", "unsupported"),
+        (3, STRING, "7", "unsupported"),
+        (4, STRING, "7", "unsupported"),
     ] {
         check_text_parsing(&rt, h, target, text, want);
         check_bytes_parsing(&rt, h, target, text.as_bytes(), want);
@@ -194,5 +188,5 @@ fn texts_and_bytes_are_parsed_as_texts(rt: HostRuntime) {
 
 #[test]
 fn bytes_that_are_no_text_are_refused(rt: HostRuntime) {
-    check_bytes_parsing(&rt, PARSE_BYTES_UTF8, STRING, &[0xC3, 0x28], "refused");
+    check_bytes_parsing(&rt, 0, STRING, &[0xC3, 0x28], "refused");
 }
