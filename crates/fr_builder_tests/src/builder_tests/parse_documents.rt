@@ -1,6 +1,8 @@
 //! What texts and bytes are parsed to in documents, with a hook and without one, and two documents
 //! as a loader makes them.
-use super::documents::check_each;
+use super::documents::{check_each, check_report};
+use std::alloc::Global;
+use std::process::Abort;
 
 /// The shapes u32, i8, u64, i128, u128, bool, char, String, CowStr, str, a pointer to it, what
 /// isn't parsed (a list, a dynamic value), Named (a number and a text) and Cell (an opaque value
@@ -123,6 +125,63 @@ const WRITTEN: &str = r#"
     ]}
     = 1 {"error":{"command":4,"detail":"u32","kind":"ParseFailed","path":"n"},"released":[0]}
 "#;
+
+/// Of each kind of integer the number below its range, both ends, and the number above, with the value
+/// that is reported.
+const ENDS: &str = r#"
+    i8 -129 refused
+    i8 -128 {"i":-128}
+    i8 127 {"i":127}
+    i8 128 refused
+    i16 -32769 refused
+    i16 -32768 {"i":-32768}
+    i16 32767 {"i":32767}
+    i16 32768 refused
+    i32 -2147483649 refused
+    i32 -2147483648 {"i":-2147483648}
+    i32 2147483647 {"i":2147483647}
+    i32 2147483648 refused
+    i64 -9223372036854775809 refused
+    i64 -9223372036854775808 {"i":-9223372036854775808}
+    i64 9223372036854775807 {"i":9223372036854775807}
+    i64 9223372036854775808 refused
+    isize -9223372036854775809 refused
+    isize -9223372036854775808 {"i":-9223372036854775808}
+    isize 9223372036854775807 {"i":9223372036854775807}
+    isize 9223372036854775808 refused
+    i128 -170141183460469231731687303715884105729 refused
+    i128 -170141183460469231731687303715884105728 {"i":"-170141183460469231731687303715884105728"}
+    i128 170141183460469231731687303715884105727 {"i":"170141183460469231731687303715884105727"}
+    i128 170141183460469231731687303715884105728 refused
+    u8 -1 refused
+    u8 0 0
+    u8 255 255
+    u8 256 refused
+    u16 -1 refused
+    u16 0 0
+    u16 65535 65535
+    u16 65536 refused
+    u32 -1 refused
+    u32 0 0
+    u32 4294967295 4294967295
+    u32 4294967296 refused
+    u64 -1 refused
+    u64 0 0
+    u64 18446744073709551615 18446744073709551615
+    u64 18446744073709551616 refused
+    usize -1 refused
+    usize 0 0
+    usize 18446744073709551615 18446744073709551615
+    usize 18446744073709551616 refused
+    u128 -1 refused
+    u128 0 0
+    u128 340282366920938463463374607431768211455 {"n":"340282366920938463463374607431768211455"}
+    u128 340282366920938463463374607431768211456 refused
+"#;
+
+/// What is reported of a text that is refused as an integer.
+const REFUSED_INTEGER: &str =
+    r#"{"error":{"command":0,"detail":"Integer","kind":"ParseFailed","path":""},"released":[]}"#;
 
 /// The shapes Word (a text whose hooks take texts), Never (a number with the same hooks), Off (one
 /// whose hooks do nothing), Res (opaque), Words (a list of Word), Cell (a Res and a Word), Text (a
@@ -263,6 +322,51 @@ const PORTS: &str = r#"
 #[test]
 fn texts_are_parsed_as_scalars(rt: HostRuntime) {
     check_each(&rt, SCALARS, 28, WRITTEN);
+}
+
+/// A document that parses a text as a kind of integer.
+fn integer_document(rt: &impl Abort, alloc: Global, kind: &str, text: &str) -> String {
+    match format!(in alloc;
+        "{{\"shapes\":[{{\"name\":\"Integer\",\"def\":\"{kind}\"}}],\"root\":0,\"commands\":[[\"parse_from_str\",\"{text}\"]]}}"
+    ) {
+        Ok(document) => document,
+        Err(_) => panic!(rt; "no memory"),
+    }
+}
+
+/// What is reported where this value is built.
+fn report_of_value(rt: &impl Abort, alloc: Global, value: &str) -> String {
+    match format!(in alloc; "{{\"ok\":{value},\"released\":[]}}") {
+        Ok(report) => report,
+        Err(_) => panic!(rt; "no memory"),
+    }
+}
+
+/// Ends the test where a text comes to something else at a kind of integer than the row says.
+fn check_integer(rt: &(impl Abort + AllocGlobal), row: &str, kind: &str, text: &str, want: &str) {
+    let document = integer_document(rt, rt.alloc(), kind, text);
+    if want == "refused" {
+        check_report(rt, row, document.as_str(), 1, REFUSED_INTEGER);
+    } else {
+        let report = report_of_value(rt, rt.alloc(), want);
+        check_report(rt, row, document.as_str(), 0, report.as_str());
+    }
+}
+
+#[test]
+fn each_kind_of_integer_is_parsed_in_its_range(rt: HostRuntime) {
+    let mut found = 0usize;
+    for row in ENDS.lines() {
+        let Some((kind, rest)) = row.trim_start().split_once(' ') else {
+            continue;
+        };
+        let Some((text, want)) = rest.split_once(' ') else {
+            panic!(&rt; "half a row");
+        };
+        check_integer(&rt, row, kind, text, want);
+        found = found.saturating_add(1);
+    }
+    assert!(rt; found == 48);
 }
 
 #[test]
