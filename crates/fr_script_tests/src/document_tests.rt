@@ -1,17 +1,11 @@
 //! A document that is read, the test of its script, and the calls that answer it, with ample
 //! memory.
-ghost use Rattle.fr_script.specs.DocumentFacts.{IsBuildable};
-ghost use Rattle.fr_script.specs.Reading.{document_view};
-
-use crate::run_tests::NESTED;
-use fr_partial::Built;
 use fr_plan::TypePlanNodeKind;
 use fr_script::{
-    Answer, Document, PlanAnswer, ScriptFault, Subcommand, answer, build_script, is_valid_script,
-    law_documents_in_order, plan_document, read_document,
+    Answer, PlanAnswer, ScriptFault, Subcommand, answer, is_valid_script, plan_document,
+    read_document,
 };
-use fr_shape::{Ledger, NoHooks, Value};
-use std::alloc::Global;
+use fr_shape::{Ledger, Value};
 use std::test::Fail;
 
 const DOCUMENT: &str = r#"{"shapes":[
@@ -72,54 +66,5 @@ fn a_document_is_planned(rt: HostRuntime) -> Result<(), Fail> {
     assert!(rt; plan.node_count() == 3);
     assert!(rt; plan.root().shape.0 == 1);
     assert!(rt; matches!(plan.root().kind, TypePlanNodeKind::Struct(_)));
-    Ok(())
-}
-
-/// What the script of a document comes to, over a ledger of its own.
-fn built_from(alloc: Global, document: Document) -> Result<Built, Fail>
-    requires { IsBuildable (document_view document) }
-{
-    let Document {
-        table,
-        root,
-        tokens,
-        script,
-    } = document;
-    let Ok(mut ledger) = Ledger::new(alloc, tokens) else {
-        return Err(Fail::from("no memory"));
-    };
-    match build_script(alloc, &table, root, &NoHooks, script, &mut ledger) {
-        Ok(built) => Ok(built),
-        Err(_) => Err(Fail::from("refused")),
-    }
-}
-
-/// The same of the bytes of a document.
-fn built_of(alloc: Global, bytes: &[u8]) -> Result<Built, Fail> {
-    match read_document(alloc, Subcommand::Build, bytes) {
-        Ok(document) => {
-            law_documents_in_order();
-            built_from(alloc, document)
-        }
-        Err(_) => Err(Fail::from("a fault")),
-    }
-}
-
-/// With ample memory it isn't out of memory.
-#[test]
-fn a_script_is_built(rt: HostRuntime) -> Result<(), Fail> {
-    let built = built_of(rt.alloc(), NESTED.as_bytes())?;
-    assert!(rt; built.calls() == 11);
-    let Value::Product(fields) = built.into_value() else {
-        return Err(Fail::from("no struct"));
-    };
-    assert!(rt;
-        matches!(fields.get(0), Some(Value::Text(text)) if text.as_str() == "Hello, world!")
-    );
-    let Some(Value::Product(inner)) = fields.get(1) else {
-        return Err(Fail::from("no struct in it"));
-    };
-    assert!(rt; matches!(inner.get(0), Some(Value::Nat(42))));
-    assert!(rt; matches!(inner.get(1), Some(Value::Nat(43))));
     Ok(())
 }

@@ -11,7 +11,7 @@ use std::test::Fail;
 const PIECE: usize = 4096;
 
 /// A struct of a text and a struct of two numbers, built in the order of its fields.
-pub(crate) const NESTED: &str = r#"{"shapes":[
+const NESTED: &str = r#"{"shapes":[
     {"name":"u32","def":"u32"},
     {"name":"String","def":"String"},
     {"name":"Inner","def":{"struct":[{"name":"x","shape":0},{"name":"b","shape":0}]}},

@@ -265,6 +265,17 @@ fn check_script(
     check_counts(rt, &ledger, &[released]);
 }
 
+/// With ample memory it isn't out of memory.
+#[test]
+fn a_script_is_built(rt: HostRuntime) {
+    let rest = r#""root":3,"tokens":1,"commands":[
+        ["begin_field","r"],["set",1,{"t":0}],["end"],
+        ["begin_field","digit"],["begin_field","n"],["set",0,9],["end"],["end"],
+        ["begin_field","n"],["set",0,8],["end"]
+    ]}"#;
+    check_script(&rt, CHECKED, rest, 11, r#"[{"t":0},[9],8]"#, 0);
+}
+
 /// A call that is refused, or gives an empty option, lets go of the token.
 const PARSES: [(&str, u32, &str, u32); 8] = [
     (
