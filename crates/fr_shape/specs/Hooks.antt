@@ -29,10 +29,6 @@ Answers meaning (Err (HookFault.Refused message)) = meaning ≡ refuses message
 Answers meaning (Err HookFault.Unsupported) = meaning ≡ unsupported
 Answers meaning (Err HookFault.OutOfMemory) = ⊤
 
--- no token stands twice in the value
-abbrev pub IsDistinct : Val → Type 0
-IsDistinct v = (t : ℕ) → occurs v t ≤ 1
-
 -- so it is of a value that is given
 abbrev pub IfGives : Meaning → (Val → Type 0) → Type 0
 IfGives (gives v) So = So v

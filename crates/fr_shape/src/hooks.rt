@@ -5,7 +5,7 @@ ghost use Rattle.fr_shape.specs.Look.{IsIn};
 ghost use Rattle.fr_shape.specs.Checked.{IsChecked};
 ghost use Rattle.fr_shape.specs.Tokens.{occurs};
 ghost use Rattle.fr_shape.specs.Released.{Room, RoseBy, Conserved};
-ghost use Rattle.fr_shape.specs.Hooks.{Meanings, Answers, IsDistinct, IsLawful, no_hooks};
+ghost use Rattle.fr_shape.specs.Hooks.{Meanings, Answers, IsLawful, no_hooks};
 ghost use Rattle.fr_shape.specs.HookLaws.{no_hooks_are_lawful};
 
 use crate::{HookId, Ledger, OutOfMemory, ShapeId, ShapeTable, Text, Value, release};
@@ -56,7 +56,6 @@ pub trait Hooks {
     ) -> Result<Value, HookFault>
         requires checked { IsChecked table.now }
         requires target { IsIn table.now target.0 }
-        requires distinct { IsDistinct (view value) }
         requires room { Room (occurs (view value)) ledger.old }
         ensures meaning { Answers
             ((means self.now).convert table.now h.0 target.0 (view value)) result }
