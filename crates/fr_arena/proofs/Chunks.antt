@@ -46,12 +46,6 @@ module _ {T : Type 0} where
 module _ {T : Type 0} (size : ℕ) (positive : 0 < size) where
   -- ---- how many items, and how many chunks
 
-  pub items-count : (count : ℕ) (chunks : List (Chunk T)) → AreFilled size count chunks → length (items_of chunks) ≡ count
-  items-count count [] filled = sym filled
-  items-count count (chunk ∷ chunks) filled =
-      let rest : length (items_of chunks) ≡ count - size = items-count (count - size) chunks filled.3 in
-      length-append chunk.items (items_of chunks) ∙ omega (arith, filled.1)
-
   covered : (count : ℕ) (chunks : List (Chunk T)) → AreFilled size count chunks → (count ≤ length chunks * size) × (length chunks * size < count + size)
   covered count [] filled = (omega arith, omega arith)
   covered count (chunk ∷ []) filled = (omega arith, omega arith)

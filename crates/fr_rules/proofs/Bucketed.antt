@@ -91,18 +91,6 @@ module _ (prefix_len : ℕ) where
     pub described : IsBucketed prefix_len (take start sorted) (take start sorted) buckets
     pub below : All (λ entry. All (λ other. key entry < key other) (drop start sorted)) (take start sorted)
 
-  pub describes_none : (sorted : List FieldLookupEntry) → DescribesFront sorted 0 []
-  describes_none sorted = record {
-    within = omega arith;
-    described = record {
-      ascending = λ i within. absurd (omega arith);
-      inside = All-nil _;
-      runs = All-nil (IsRun [] []);
-      complete = All-nil (λ entry. Contains [] (key entry));
-    };
-    below = All-nil (λ entry. All (λ other. key entry < key other) sorted);
-  }
-
   module _ (sorted : List FieldLookupEntry) (start : ℕ) (buckets : List PrefixBucket) (bucket : PrefixBucket)
       (front : DescribesFront sorted start buckets)
       (starts : bucket.start ≡ start) (some : 0 < bucket.len) (within : start + bucket.len ≤ length sorted)
@@ -145,11 +133,6 @@ module _ (prefix_len : ℕ) where
           (λ other above. subst (λ n. n < key other) (sym e) above) (drop (start + bucket.len) sorted) others)
           next_run same));
     }
-
-  pub describes_all : (sorted : List FieldLookupEntry) (start : ℕ) (buckets : List PrefixBucket) → DescribesFront sorted start buckets → length sorted ≤ start
-      → IsBucketed prefix_len sorted sorted buckets
-  describes_all sorted start buckets front past =
-      subst (λ done. IsBucketed prefix_len done done buckets) (take_all start sorted past) front.described
 
   -- the same buckets describe the entries as they stood before a stable sort
   pub bucketed_before : (entries stored : List FieldLookupEntry) (buckets : List PrefixBucket) → IsPermutation entries stored

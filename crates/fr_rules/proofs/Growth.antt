@@ -97,21 +97,3 @@ lookup_stays before after (FieldLookup.PrefixBuckets prefix_len stored buckets) 
           subst (IsBucketed prefix_len entries (part_of after.entries stored)) same_buckets
           (subst (λ l. IsBucketed prefix_len entries l (part_of before.buckets buckets)) same_stored long.bucketed);
     }
-
--- ---- growth in steps
-
-continues_itself : {X : Type 0} (xs : List X) → Continues xs xs
-continues_itself xs = ([], sym (append-nil xs))
-
-continues_on : {X : Type 0} (xs ys zs : List X) → Continues xs ys → Continues ys zs → Continues xs zs
-continues_on xs ys zs first second =
-    (first.0 ++ second.0, second.1 ∙ ap (λ l. l ++ second.0) first.1 ∙ append_assoc xs first.0 second.0)
-
-pub grown_not : (pool : Pool) → HasGrown pool pool
-grown_not pool = record { entries = continues_itself pool.entries; buckets = continues_itself pool.buckets }
-
-pub grown_twice : (first second third : Pool) → HasGrown first second → HasGrown second third → HasGrown first third
-grown_twice first second third once again = record {
-  entries = continues_on first.entries second.entries third.entries once.entries again.entries;
-  buckets = continues_on first.buckets second.buckets third.buckets once.buckets again.buckets;
-}

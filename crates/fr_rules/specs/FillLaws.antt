@@ -1,5 +1,5 @@
 -- A rule that was told leads to what the hole takes.
-use Rattle.std.specs.Prelude.{◌≡◌, Bool, true, false, Option, Some, None, IfSome, refl}
+use Rattle.std.specs.Prelude.{◌≡◌, Bool, true, false, Option, Some, None, refl}
 use Rattle.std.proofs.Common.{◌∙◌, ap}
 use Rattle.fr_shape.specs.declared.shape.Field.{Field}
 use Rattle.fr_shape.specs.declared.shape.FieldRef.{FieldRef}
@@ -28,15 +28,3 @@ told_is_fill table meant field at = go field.default refl
     go None mark = unmarked (takes_shape_default table meant.shape.0 (is_of_variant meant) field) mark refl
     go (Some DefaultSource.FromTrait) mark = rw mark refl
     go (Some (DefaultSource.Custom v)) mark = rw (mark, at) (rw mark refl)
-
--- so it is of the field that is there
-pub told_of_field : (table : Table) (meant : FieldRef) (rule : FillRule)
-    → IfSome (field_at table meant) (λ field. rule ≡ told_strict meant field (strict_rule_of table meant field))
-    → IfSome (field_at table meant) (λ field. fill_told table rule ≡ strict_fill table meant.shape.0 (is_of_variant meant) field)
-told_of_field table meant rule told = go (field_at table meant) refl told
-  where
-    go : (found : Option Field) → field_at table meant ≡ found
-        → IfSome found (λ field. rule ≡ told_strict meant field (strict_rule_of table meant field))
-        → IfSome found (λ field. fill_told table rule ≡ strict_fill table meant.shape.0 (is_of_variant meant) field)
-    go None at is = tt
-    go (Some field) at is = ap (fill_told table) is ∙ told_is_fill table meant field at
