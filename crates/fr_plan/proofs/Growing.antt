@@ -35,17 +35,6 @@ pub continues_on : {X : Type 0} (xs ys zs : List X) → Continues xs ys → Cont
 continues_on xs ys zs first second =
     (first.0 ++ second.0, second.1 ∙ ap (λ l. l ++ second.0) first.1 ∙ append_assoc xs first.0 second.0)
 
-pub grown_not : (lists : PlanLists) → ListsGrow lists lists
-grown_not lists = record {
-  fields = continues_itself lists.fields;
-  variants = continues_itself lists.variants;
-  validators = continues_itself lists.validators;
-  lookups = record {
-    entries = continues_itself lists.lookups.entries;
-    buckets = continues_itself lists.lookups.buckets;
-  };
-}
-
 pub grown_twice : (first second third : PlanLists) → ListsGrow first second → ListsGrow second third
     → ListsGrow first third
 grown_twice first second third once again = record {

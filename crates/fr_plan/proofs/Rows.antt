@@ -62,9 +62,6 @@ module _ (id : ShapeId) (variant : Option ℕ) where
   length-fields_from k [] = refl
   length-fields_from k (field ∷ fields) = ap suc (length-fields_from (k + 1) fields)
 
-  placed_at : ℕ → Field → Placed
-  placed_at i field = record { meant = record { shape = id; variant = variant; index = i }; field = field }
-
   get_or-fields_from : (k : ℕ) (fields : List Field) (i : ℕ) (d : Placed) (e : Field) → i < length fields
       → get_or (fields_from id variant k fields) i d
       ≡ record { meant = record { shape = id; variant = variant; index = k + i }; field = get_or fields i e }

@@ -8,6 +8,7 @@ pub mod Looks
 pub mod Marks
 pub mod Paths
 pub mod Ranges
+pub mod Reached
 pub mod Reaching
 pub mod ShapesKept
 pub mod Sizes

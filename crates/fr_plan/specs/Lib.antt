@@ -11,6 +11,7 @@ pub mod PathLaws
 pub mod PlanLaws
 pub mod Plans
 pub mod ProxyLookups
+pub mod ReachLaws
 pub mod RefusalLaws
 pub mod Results
 pub mod ShapeFields

@@ -2,6 +2,7 @@
 ghost use Rattle.fr_plan.specs.LookupLaws.{BackReferencesResolve, LookupPathsAgree, LookupsAgree};
 ghost use Rattle.fr_plan.specs.PathLaws.{PathsAgree};
 ghost use Rattle.fr_plan.specs.PlanLaws.{PlansAreComplete};
+ghost use Rattle.fr_plan.specs.ReachLaws.{NodesAreReached, ReachedHaveNodes};
 ghost use Rattle.fr_plan.specs.RefusalLaws.{RefusesFirst, PlansPlannable};
 ghost use Rattle.fr_plan.specs.SizeLaws.{PlansAreSmall, PlainPlansAreSmall};
 
@@ -39,4 +40,11 @@ pub fn law_plan_lookups()
     ensures resolve { BackReferencesResolve }
     ensures agree { LookupsAgree }
     ensures paths { LookupPathsAgree }
+{}
+
+/// Over a checked table a plan has nodes of shapes that its root reaches alone, and each shape that
+/// the root reaches has its own node.
+pub fn law_plan_reach()
+    ensures reached { NodesAreReached }
+    ensures nodes { ReachedHaveNodes }
 {}

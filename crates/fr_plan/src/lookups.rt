@@ -44,9 +44,10 @@ impl TypePlanCore {
         self.find(id?)
     }
 
-    /// The number of a shape's own node.
-    fn own_id(&self, shape: ShapeId) -> Option<NodeId>
-        ensures { result ≡ own_id self.now shape }
+    /// The number of a shape's own node, if it has one. It takes the same time however large the
+    /// plan is.
+    pub fn own_node_id(&self, shape: ShapeId) -> Option<NodeId>
+        ensures own { result ≡ own_id self.now shape }
     {
         match entry(&self.walk.marks, shape.0)? {
             Mark::Done(node) => Some(*node),
@@ -58,7 +59,7 @@ impl TypePlanCore {
     pub(crate) fn own_outline(&self, shape: ShapeId) -> Option<&Outline>
         ensures { option_copied result ≡ own_outline self.now shape }
     {
-        entry(&self.walk.nodes, self.own_id(shape)?.0)
+        entry(&self.walk.nodes, self.own_node_id(shape)?.0)
     }
 
     /// The child at this place, as it was built for the shape's own node.
@@ -77,7 +78,7 @@ impl TypePlanCore {
         ensures resolved { result.now ≡ resolved self.now node.now }
     {
         match &node.kind {
-            TypePlanNodeKind::BackRef(shape) => match self.found(self.own_id(*shape)) {
+            TypePlanNodeKind::BackRef(shape) => match self.found(self.own_node_id(*shape)) {
                 Some(own) => own,
                 None => node,
             },
@@ -93,7 +94,7 @@ impl TypePlanCore {
             return id;
         };
         match &node.kind {
-            TypePlanNodeKind::BackRef(shape) => match self.own_id(*shape) {
+            TypePlanNodeKind::BackRef(shape) => match self.own_node_id(*shape) {
                 Some(own) => own,
                 None => id,
             },

@@ -1,6 +1,6 @@
 -- What stands at a place of a list after a write or behind an addition, and how many marks are left unseen.
-use Rattle.std.proofs.Common.{◌≡◌, ◌≢◌, ap, refl, subst, ℕ, suc, zero, ◌+◌, ◌≤◌, ◌⊎◌, inl, inr, Bool, true, false, List, [], ◌∷◌, ◌++◌, length, set, replicate, arith, Some, slice_get}
-use Rattle.std.specs.List.{All, AllZip, Contains}
+use Rattle.std.proofs.Common.{◌≡◌, ◌≢◌, ap, refl, ℕ, suc, zero, ◌+◌, ◌≤◌, ◌⊎◌, inl, inr, Bool, true, false, List, [], ◌∷◌, ◌++◌, length, set, replicate, arith, Some, slice_get}
+use Rattle.std.specs.List.{All, AllZip}
 use Rattle.std.proofs.lemmas.Option.{none-some, same_Some}
 use Rattle.std.proofs.lemmas.List.Elements.{All-nil, All-cons}
 use Rattle.fr_plan.specs.declared.nodes.NodeId.{NodeId}
@@ -53,13 +53,6 @@ module _ {A B : Type 0} (R : A → B → Type 0) where
   zip_push [] (b ∷ ys) x y all one = absurd all
   zip_push (a ∷ xs) [] x y all one = absurd all
   zip_push (a ∷ xs) (b ∷ ys) x y all one = (all.0, zip_push xs ys x y all.1 one)
-
-  pub zip_contains : (xs : List A) (ys : List B) (y : B) → AllZip R xs ys → Contains ys y → (x : A) × R x y
-  zip_contains [] [] y all has = absurd (omega (arith, has.1))
-  zip_contains [] (b ∷ ys) y all has = absurd all
-  zip_contains (a ∷ xs) [] y all has = absurd all
-  zip_contains (a ∷ xs) (b ∷ ys) y all (zero, inside, is) = (a, subst (R a) is all.0)
-  zip_contains (a ∷ xs) (b ∷ ys) y all (suc k, inside, is) = zip_contains xs ys y all.1 (k, omega (arith, inside), is)
 
   pub zip_all : (P : A → Type 0) → ((x : A) (y : B) → R x y → P x) → (xs : List A) (ys : List B) → AllZip R xs ys → All P xs
   zip_all P gives [] [] all = All-nil P
