@@ -1,8 +1,9 @@
 -- Places at which a content is entered or a variant is selected: what is kept of them, and how they start anew.
 use Rattle.std.proofs.Common.{◌≡◌, ◌&&◌, ◌+◌, ◌==◌, if◌then◌else◌, ◌∷◌}
-use Rattle.fr_model.proofs.Common.{ℕ, eqb-true, Bool, true, false, List, [], length, Option, Some, None, unwrap_or, refl, sym, ◌∙◌, ap, ap₂, subst, arith, option_map, option_or, Def, ShapeId, VariantDef, Operation, is_option, fits, Table, def_of, Val, some, is_result, pointer_refusal, variant_anew, around, content_anew, slice_anew, kept_so, kept_in, reopened, kept_slice, content_of, kept_option, Place, content_shape, Tracker, as_fields, as_content, ContentKind, as_items, ItemsKind, as_entries, EntriesKind, base_of_tracker, keys_of_tracker, same_keys, same_tracker, Tree, hole, entered, whole, begun, Trees, no_trees, branch, child_as, tree_occurs, Mode, strict, deferred, is_enum, fields_or_none, variant_fields, has_discriminant, selection_refusal, HasContent, HasFieldsOf, HasFields, TakesItemsAs, IsFullAs, MayBegin, IsBegunAs, MayPoint, IsTouched, IsContent, IsBegunRightly, Suits, IsBehindBase, RestsAround, AtCursor, OffBut, Leads}
+use Rattle.fr_model.proofs.Common.{ℕ, eqb-true, Bool, true, false, List, [], length, Option, Some, None, unwrap_or, refl, sym, ◌∙◌, ap, ap₂, subst, arith, option_map, option_or, Def, ShapeId, VariantDef, Operation, is_option, Field, ConversionsSuit, fits, Table, IsIn, Conversion, def_of, Val, some, is_result, pointer_refusal, variant_anew, around, content_anew, slice_anew, kept_so, kept_in, reopened, kept_slice, content_of, kept_option, Place, content_shape, Tracker, as_fields, as_content, ContentKind, as_items, ItemsKind, as_entries, EntriesKind, base_of_tracker, keys_of_tracker, hook_of_tracker, source_of_tracker, same_keys, same_tracker, Tree, hole, entered, whole, begun, Trees, no_trees, branch, child_as, tree_occurs, Mode, strict, deferred, is_enum, fields_or_none, variant_fields, has_discriminant, selection_refusal, HasContent, HasFieldsOf, HasFields, TakesItemsAs, IsFullAs, MayBegin, IsBegunAs, MayPoint, IsTouched, IsContent, IsBegunRightly, Suits, IsBehindBase, RestsAround, AtCursor, OffBut, Leads}
+use Rattle.fr_model.proofs.Converts.{convert_alike}
 use Rattle.fr_model.specs.StateCode.{tracker_numbered, tracker_comes_back}
-use Rattle.fr_model.proofs.Basis.{bytes_are, enter_touched, fresh_suits, fresh_at_cursor, holes_off, all_deferred, rests_here, holes_rest, fresh_rests, rest_but, has_pointee, count_holes, holes_suit, settled_as, both_true, fresh_holds, holes_hold, done_none, done_but, suit_alike}
+use Rattle.fr_model.proofs.Basis.{bytes_are, may_work, enter_touched, fresh_suits, fresh_at_cursor, holes_off, all_deferred, rests_here, holes_rest, fresh_rests, rest_but, has_pointee, count_holes, holes_suit, settled_as, both_true, fresh_holds, holes_hold, done_none, done_but, suit_alike}
 
 -- what is begun just so
 
@@ -16,13 +17,20 @@ same_keys_are (key ∷ keys) (other ∷ others) e =
 
 same_tracker_is : (one other : Tracker) → same_tracker one other ≡ true → one ≡ other
 same_tracker_is one other e =
-    let kept = same_keys _ (keys_of_tracker other) && (base_of_tracker one == base_of_tracker other) in
-    let both = both_true kept _ e in
-    let alike = both_true _ _ both.0 in
-    let number = eqb-true _ _ both.1 in
-    let base = eqb-true _ _ alike.1 in
-    let keys = same_keys_are _ _ alike.0 in
-    sym (tracker_comes_back one) ∙ (λ j. tracker_numbered (number j) (base j) (keys j)) ∙ tracker_comes_back other
+    let keys_too = same_keys _ (keys_of_tracker other) in
+    let base_too = keys_too && (base_of_tracker one == base_of_tracker other) in
+    let hook_too = base_too && (hook_of_tracker one == hook_of_tracker other) in
+    let source_too = hook_too && (source_of_tracker one == source_of_tracker other) in
+    let all = both_true source_too _ e in
+    let with_source = both_true hook_too _ all.0 in
+    let with_hook = both_true base_too _ with_source.0 in
+    let with_base = both_true keys_too _ with_hook.0 in
+    let number = eqb-true _ _ all.1 in
+    let source = eqb-true _ _ with_source.1 in
+    let hook = eqb-true _ _ with_hook.1 in
+    let base = eqb-true _ _ with_base.1 in
+    let keys = same_keys_are _ _ with_base.0 in
+    sym (tracker_comes_back one) ∙ (λ j. tracker_numbered (number j) (base j) (keys j) (hook j) (source j)) ∙ tracker_comes_back other
 
 pub record KeptSo (tracker : Tracker) (t kept : Tree) : Type 0 where
   pub children : Trees
@@ -59,27 +67,36 @@ pub record Becoming (mode : Mode) (table : Table) (s : ℕ) (way : Place) (old :
   pub placed : Placed mode table s way (unwrap_or kept anew)
   pub rest : RestsAround [] old → RestsAround way (unwrap_or kept anew)
   pub hold : (t : ℕ) → tree_occurs (unwrap_or kept anew) t + lost kept old t ≡ tree_occurs old t
+  pub converts : (field : Option Field) → ConversionsSuit table s field anew → ConversionsSuit table s field old
+      → ConversionsSuit table s field (unwrap_or kept anew)
 
 -- what is kept is placed so, and holds what the place held
 pub record IsKept (mode : Mode) (table : Table) (s : ℕ) (way : Place) (old kept : Tree) : Type 0 where
   pub placed : Placed mode table s way kept
   pub rest : RestsAround [] old → RestsAround way kept
   pub hold : (t : ℕ) → tree_occurs kept t ≡ tree_occurs old t
+  pub converts : (field : Option Field) → ConversionsSuit table s field old → ConversionsSuit table s field kept
 
 -- what is kept just as it was
 pub stays_kept : (mode : Mode) (table : Table) (s : ℕ) (t kept : Tree) → Suits table s t → AtCursor mode t
     → ◌≡◌ {A = Option Tree} (Some t) (Some kept) → IsKept mode table s [] t kept
 stays_kept mode table s t kept suits at e =
     let same : t ≡ kept = cc in
-    rw (← same) (record { placed = record { suits = suits; leads = at }; rest = λ rested. rested; hold = λ token. refl })
+    rw (← same) (record { placed = record { suits = suits; leads = at }; rest = λ rested. rested; hold = λ token. refl; converts = λ field there. there })
 
 pub becoming : (mode : Mode) (table : Table) (s : ℕ) (way : Place) (old : Tree) (kept : Option Tree) (anew : Tree)
     → ((tree : Tree) → kept ≡ Some tree → IsKept mode table s way old tree) → Placed mode table s way anew
     → RestsAround way anew → ((t : ℕ) → tree_occurs anew t ≡ 0) → Becoming mode table s way old kept anew
 becoming mode table s way old (Some tree) anew keeps placed rests none =
-    let there = keeps tree refl in record { placed = there.placed; rest = there.rest; hold = λ t. omega (arith, there.hold t) }
+    let there = keeps tree refl in
+    record {
+      placed = there.placed;
+      rest = there.rest;
+      hold = λ t. omega (arith, there.hold t);
+      converts = λ field new old. there.converts field old;
+    }
 becoming mode table s way old None anew keeps placed rests none =
-    record { placed = placed; rest = λ rested. rests; hold = λ t. omega (arith, none t) }
+    record { placed = placed; rest = λ rested. rests; hold = λ t. omega (arith, none t); converts = λ field new old. new }
 
 -- Contents
 
@@ -130,12 +147,13 @@ anew_holds table s tracker t = let none = fresh_holds (def_of table (child_as ta
 
 has_content : (table : Table) (s : ℕ) (tracker : Tracker) (ts : Trees) → HoldsOne tracker → IsBegunRightly table s tracker ts → IsContent ts
 has_content table s (as_content ContentKind.Pointer) ts holds rightly = rightly.0
+has_content table s (as_content (ContentKind.Source conversion)) ts holds rightly = rightly.0
 has_content table s (as_content _) ts holds rightly = rightly
 has_content table s _ ts holds rightly = absurd holds
 
 touched_at : (start : ℕ) (t : Tree) → IsTouched t → AtCursor (deferred start) t
 touched_at start hole touched = absurd touched
-touched_at start (begun tracker ts) touched = all_deferred start ts
+touched_at start (begun tracker ts) touched = (tt, all_deferred start ts)
 touched_at start _ touched = tt
 
 content_leads : (start : ℕ) (ts : Trees) → IsContent ts → OffBut (deferred start) 0 (λ child. Leads (deferred start) [] child) ts
@@ -159,6 +177,7 @@ kept_in_keeps (deferred start) table s tracker t kept holds suits e =
           let behind = one_behind tracker 0 holds in
           (done_but tracker 0 to.children behind there.0, rest_but 0 to.children there.1, behind);
       hold = λ t. ap (λ (tree : Tree). tree_occurs tree t) (sym to.is);
+      converts = λ field there. subst (ConversionsSuit table s field) to.is there;
     })
 
 pub content_becomes : (mode : Mode) (table : Table) (s : ℕ) (tracker : Tracker) (t : Tree) → MayHold table s tracker → Suits table s t
@@ -197,6 +216,7 @@ some_keeps mode table s (some held) kept holds here fit e =
       placed = around_placed mode table s _ (whole held) holds (rw shape content_fits) tt tt;
       rest = λ rested. (tt, (tt, tt), tt);
       hold = λ t. omega arith;
+      converts = λ field there. (tt, (tt, tt));
     })
 some_keeps mode table s _ kept holds here fit e = cc
 
@@ -221,6 +241,13 @@ option_becomes mode table s t e suits =
     (λ tree is. kept_option_keeps mode table s t tree (option_holds table s e) (option_is table s e) suits is)
     (anew_placed mode table s (as_content ContentKind.Some) (option_holds table s e)) (anew_rests table s (as_content ContentKind.Some) tt) (anew_holds table s (as_content ContentKind.Some))
 
+-- an option that starts anew
+pub option_anew : (mode : Mode) (table : Table) (s : ℕ) (t : Tree) → is_option (def_of table s) ≡ true
+    → Becoming mode table s (0 ∷ []) t None (content_anew table s (as_content ContentKind.Some))
+option_anew mode table s t e =
+    becoming mode table s (0 ∷ []) t None _ (λ tree is. cc) (anew_placed mode table s (as_content ContentKind.Some) (option_holds table s e))
+    (anew_rests table s (as_content ContentKind.Some) tt) (anew_holds table s (as_content ContentKind.Some))
+
 -- Results and pointers
 
 abbrev pub IsSide : Tracker → Type 0
@@ -242,6 +269,11 @@ side_holds table s _ of_result e = absurd of_result
 pub pointer_holds : (table : Table) (s : ℕ) → MayPoint table s false → MayHold table s (as_content ContentKind.Pointer)
 pointer_holds table s points =
     record { full_as = has_pointee table _ points.0; may = tt; rightly = λ child touched. (touched, points); holds = tt }
+
+pub source_holds : (table : Table) (s : ℕ) (conversion : Conversion) → IsIn table s
+    → MayHold table s (as_content (ContentKind.Source conversion))
+source_holds table s conversion there =
+    record { full_as = refl; may = tt; rightly = λ child touched. (touched, there); holds = tt }
 
 -- a pointer to a slice is open for items
 
@@ -275,13 +307,15 @@ open_suits table s ts suits = (
 
 reopened_keeps : (start : ℕ) (table : Table) (s : ℕ) (tracker : Tracker) (ts : Trees) (kept : Tree) → Suits table s (begun tracker ts)
     → reopened tracker ts ≡ Some kept → IsKept (deferred start) table s [] (begun tracker ts) kept
-reopened_keeps start table s (as_items ItemsKind.Slice) ts kept suits e = stays_kept _ table s _ kept suits (all_deferred start ts) e
+reopened_keeps start table s (as_items ItemsKind.Slice) ts kept suits e = stays_kept _ table s _ kept suits (tt, all_deferred start ts) e
 reopened_keeps start table s (as_items ItemsKind.ClosedSlice) ts kept suits e =
     let same : begun (as_items ItemsKind.Slice) ts ≡ kept = cc in
     rw (← same) (record {
-      placed = record { suits = open_suits table s ts suits; leads = all_deferred start ts };
+      placed = record { suits = open_suits table s ts suits; leads = (tt, all_deferred start ts) };
       rest = λ rested. (tt, rested.1);
       hold = λ t. refl;
+      converts = λ field there.
+          (tt, convert_alike table s (as_items ItemsKind.ClosedSlice) (as_items ItemsKind.Slice) (λ i. refl) (λ i. refl) 0 ts there.1);
     })
 reopened_keeps start table s _ ts kept suits e = cc
 
@@ -295,7 +329,7 @@ pub slice_becomes : (mode : Mode) (table : Table) (s : ℕ) (t : Tree) → MayPo
     → Becoming mode table s [] t (kept_slice mode t) slice_anew
 slice_becomes mode table s t points suits =
     becoming mode table s [] t _ slice_anew (λ tree e. kept_slice_keeps mode table s t tree suits e)
-    (record { suits = ((is_pointer table _ points.0, tt), tt, (tt, points)); leads = tt }) (tt, tt) (λ token. refl)
+    (record { suits = ((is_pointer table _ points.0, tt), tt, (tt, points)); leads = (may_work mode _ refl, tt) }) (tt, tt) (λ token. refl)
 
 -- Variants
 
@@ -321,7 +355,7 @@ variant_becomes mode table s k t is admitted at suits =
     keeps tree e =
         let to = kept_so_is (as_fields (Some k)) t tree e in
         let same : tree ≡ t = to.same ∙ sym to.is in
-        rw same (record { placed = record { suits = suits; leads = at }; rest = λ rested. rested; hold = λ token. refl })
+        rw same (record { placed = record { suits = suits; leads = at }; rest = λ rested. rested; hold = λ token. refl; converts = λ field there. there })
 
     anew : Placed mode table s [] (variant_anew (def_of table s) k)
     anew = record {
@@ -330,5 +364,5 @@ variant_becomes mode table s k t is admitted at suits =
         holes_suit table s (as_fields (Some k)) 0 _,
         admitted,
       );
-      leads = holes_off mode _;
+      leads = (may_work mode _ refl, holes_off mode _);
     }

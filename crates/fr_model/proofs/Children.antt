@@ -1,7 +1,8 @@
 -- Which children may be entered, by the machine and by the journal.
 use Rattle.std.proofs.Common.{◌≡◌, ◌+◌, ◌<◌, ◌≤◌, ◌&&◌, if◌then◌else◌, ◌∷◌}
-use Rattle.fr_model.proofs.Common.{ℕ, suc, le-ltb, lt-ltb, ltb-true, leb-true, Bool, true, false, List, [], length, nat_lt, nat_le, Option, Some, None, refl, ap, arith, Def, ShapeId, StructDef, EnumDef, Field, Operation, Table, def_of, Val, first_declared, field_named, array_limit, count_children, Journal, Held, held, is_written, may_enter_children, Tracker, as_fields, selected, Tree, hole, entered, whole, begun, count_trees, Mode, field_refusal, named_refusal, variant_fields, field_found, IsFullAs, Suits, AtCursor}
-use Rattle.fr_model.proofs.Basis.{IsWhole, by_value, by_entry, Agrees, IsOpen, Enterable, a_field, an_element, a_variant_field}
+use Rattle.fr_model.proofs.Common.{ℕ, suc, le-ltb, lt-ltb, ltb-true, leb-true, Bool, true, false, List, [], length, nat_lt, nat_le, Option, Some, None, refl, ◌∙◌, ap, arith, is_begun_conversion, without_source, fresh, Def, ShapeId, StructDef, EnumDef, Field, Operation, Table, def_of, Val, first_declared, field_named, array_limit, count_children, Journal, Held, held, is_written, may_enter_children, Tracker, as_fields, selected, Tree, hole, entered, whole, begun, count_trees, Mode, field_refusal, named_refusal, variant_fields, field_found, IsFullAs, Suits, AtCursor}
+use Rattle.fr_model.proofs.Tokens.{fresh_is}
+use Rattle.fr_model.proofs.Basis.{without_source_is, IsWhole, by_value, by_entry, Agrees, IsOpen, Enterable, a_field, an_element, a_variant_field}
 
 -- of an array, the journal holds a value exactly where the tree has one
 
@@ -45,10 +46,30 @@ pub data ChildOf (def : Def) (i : ℕ) (t : Tree) : Type 0 where
   variant_field_of : (k : ℕ) (enumeration : EnumDef) → def ≡ Def.Enum enumeration → selected t ≡ Some k
       → i < length (variant_fields def k) → ChildOf def i t
 
-pub enterable : (table : Table) (s i : ℕ) (t : Tree) → ChildOf (def_of table s) i t → Enterable table s i t
-enterable table s i t (field_of struct is below) = a_field struct is below
-enterable table s i t (element_of item n is below few not_whole) = an_element item n is below few not_whole
-enterable table s i t (variant_field_of k enumeration is chosen below) = a_variant_field k enumeration is chosen below
+pub enterable : (table : Table) (s i : ℕ) (t : Tree) → is_begun_conversion t ≡ false → ChildOf (def_of table s) i t → Enterable table s i t
+enterable table s i t apart (field_of struct is below) = a_field struct is below apart
+enterable table s i t apart (element_of item n is below few not_whole) = an_element item n is below few not_whole apart
+enterable table s i t apart (variant_field_of k enumeration is chosen below) = a_variant_field k enumeration is chosen below
+
+-- no variant is selected at a conversion, nor where it has started anew
+pub without_source_selects : (def : Def) (t : Tree) → selected (without_source def t) ≡ selected t
+without_source_selects def t = without_source_is (λ u. selected u ≡ selected t) def t (anew t) (λ apart. refl)
+  where
+    anew : (t : Tree) → is_begun_conversion t ≡ true → selected (fresh def) ≡ selected t
+    anew (begun (as_fields chosen) ts) conversion = cc
+    anew (begun _ ts) conversion = fresh_is (λ u. selected u ≡ None) def (λ e. refl) (λ e. refl)
+    anew _ conversion = cc
+
+fresh_open : (item : ShapeId) (n : ℕ) (def : Def) → def ≡ Def.Array item n → IsOpen (fresh def)
+fresh_open item n def is = rw is tt
+
+-- it has the child that it would have
+pub without_source_child : (def : Def) (i : ℕ) (t : Tree) → ChildOf def i t → ChildOf def i (without_source def t)
+without_source_child def i t (field_of struct is below) = field_of struct is below
+without_source_child def i t (element_of item n is below few not_whole) =
+    element_of item n is below few (without_source_is IsOpen def t (λ anew. fresh_open item n def is) (λ apart. not_whole))
+without_source_child def i t (variant_field_of k enumeration is chosen below) =
+    variant_field_of k enumeration is (without_source_selects def t ∙ chosen) below
 
 -- a child that the journal may enter too, one of a variant, which the journal doesn't know, or none
 pub data ChildCase (def : Def) (i : ℕ) (t : Tree) : Type 0 where

@@ -1,6 +1,6 @@
 -- Closing a place beneath the others leaves as it is what completes, what fails, and what becomes of the tree at the end.
-use Rattle.std.proofs.Common.{◌≡◌, ◌≢◌, ◌+◌, ◌<◌, ◌∷◌, ◌++◌}
-use Rattle.fr_model.proofs.Common.{ℕ, zero, suc, not, is_none, List, [], Option, Some, None, refl, sym, ◌∙◌, ap, ap₂, subst, arith, option_map, option_or, ReflectErrorKind, Meanings, is_nil, Table, Val, Vals, PathStep, complete, complete_all, failing_child, hole_takes, made, valid_child, missing_child, unless_there, first_unmet, first_missing, first_invalid, lack_of_begun, Failure, failure_at, or_itself, failures, failures_among, closed, one_more_tree, closed_all, closed_but, begun_with, finished, failures_but, failures_off, IsOffTheWay, step_as, Place, deferred_column, one_more, Tracker, Tree, hole, whole, begun, Trees, no_trees, branch, for_hole, tree_nth, change_nth, child_as, count_trees}
+use Rattle.std.proofs.Common.{◌≡◌, ◌≢◌, ◌+◌, ◌<◌, ◌∷◌, ◌++◌, ◌||◌, if◌then◌else◌}
+use Rattle.fr_model.proofs.Common.{ℕ, zero, suc, not, is_none, List, [], Option, Some, None, refl, sym, ◌∙◌, ap, ap₂, subst, arith, option_map, option_or, ReflectErrorKind, Meanings, is_nil, Table, Val, Vals, PathStep, complete, complete_all, failing_child, hole_takes, made, valid_child, missing_child, unless_there, first_unmet, first_missing, first_invalid, lack_of_begun, Failure, failure_at, or_itself, failures, failures_among, closed, one_more_tree, closed_all, closed_but, begun_with, finished, failures_but, failures_off, IsOffTheWay, HasATurn, is_conversion, is_begun_conversion, is_closed_slice, failing_path, value_as, wholes, Bool, true, false, inl, inr, step_as, Place, deferred_column, one_more, Tracker, Tree, hole, whole, begun, Trees, no_trees, branch, for_hole, tree_nth, change_nth, child_as, count_trees}
 use Rattle.fr_model.specs.FinishLaws.{Closes, closed_at, ClosingKeepsCompletion, ClosingKeepsFailures, ClosingKeepsFinish, ClosingKeepsFailuresOff}
 use Rattle.fr_model.proofs.Failing.{completes_or_fails}
 
@@ -96,7 +96,8 @@ begun_alike hooks table s tracker ts us alike = record {
   there = λ e. cc;
   still = λ e. cc;
   makes = ap (λ (values : Option Vals). made tracker values) alike.make;
-  fails = λ path. ap₂ (λ (beneath : List Failure) (kind : Option ReflectErrorKind). or_itself beneath (failure_at path kind))
+  fails = λ path. ap₂ (λ (beneath : List Failure) (kind : Option ReflectErrorKind).
+      or_itself beneath (failure_at (failing_path tracker path) kind))
       (alike.fail path) (lack_alike hooks table s tracker ts us alike);
 }
 
@@ -199,8 +200,34 @@ but_alike hooks table s tracker (suc on_way) becomes beneath (suc d) k (branch t
 -- the place at the cursor, with such a child
 here_alike : (hooks : Meanings) (table : Table) (s : ℕ) (tracker : Tracker) (ts us : Trees) → AreAlike hooks table s tracker 0 ts us
     → FinishAlike hooks table s [] (begun tracker ts) (begun tracker us)
-here_alike hooks table s tracker ts us alike =
-    record { become = ap (λ (values : Option Vals). option_map (begun_with tracker) values) alike.make; fail = alike.fail }
+here_alike hooks table s tracker ts us alike = record {
+  become = ap (λ (values : Option Vals). option_map (begun_with tracker) values) alike.make;
+  fail = λ path. ap₂ (λ (all beneath : List Failure). if is_conversion tracker then all else beneath)
+      ((begun_alike hooks table s tracker ts us alike).fails path) (alike.fail path);
+}
+
+-- a conversion at the cursor, and the same place whole with what it makes
+conversion_alike : (hooks : Meanings) (table : Table) (s : ℕ) (v : Val) (t : Tree) → is_begun_conversion t ≡ true
+    → complete deferred_column hooks table s t ≡ Some v → FinishAlike hooks table s [] t (whole v)
+conversion_alike hooks table s v (begun tracker ts) conversion makes = record {
+  become = go (complete_all deferred_column hooks table s tracker 0 ts) makes;
+  fail = λ path. (whole_alike hooks table s (begun tracker ts) v (λ e. cc) makes).fails path
+      ∙ ap (λ (b : Bool). if b then failures hooks table s path (begun tracker ts)
+      else failures_among hooks table s tracker 0 path ts) (sym conversion);
+}
+  where
+    either : (b : Bool) → (b || true) ≡ true
+    either true = refl
+    either false = refl
+
+    go : (values : Option Vals) → made tracker values ≡ Some v → ◌≡◌ {A = Option Tree} (Some (whole v)) (option_map (begun_with tracker) values)
+    go (Some vs) e =
+        let same : v ≡ value_as tracker vs = cc in
+        ap (λ (u : Val). Some (whole u)) same
+        ∙ ap (λ (b : Bool). Some (if b then whole (value_as tracker vs) else begun tracker (wholes vs)))
+        (sym (either (is_closed_slice tracker)) ∙ ap (λ (b : Bool). is_closed_slice tracker || b) (sym conversion))
+    go None e = cc
+conversion_alike hooks table s v _ conversion makes = cc
 
 -- a place above the cursor
 above_alike : (hooks : Meanings) (table : Table) (s : ℕ) (tracker : Tracker) (i : ℕ) (cursor : Place) (ts us : Trees)
@@ -213,9 +240,17 @@ above_alike hooks table s tracker i cursor ts us alike =
 off_beneath : (c i : ℕ) (cursor here : Place) → c ≡ i → IsOffTheWay (c ∷ cursor) (i ∷ here) → IsOffTheWay cursor here
 off_beneath c i cursor here same off way e = off way (ap₂ (λ (k : ℕ) (rest : Place). k ∷ rest) same e)
 
+pub turn_beneath : (c i : ℕ) (cursor here : Place) (tracker : Tracker) (ts : Trees) → c ≡ i
+    → HasATurn (c ∷ cursor) (i ∷ here) (begun tracker ts) → HasATurn cursor here (tree_nth i ts)
+turn_beneath c i cursor here tracker ts same (inl off) = inl (off_beneath c i cursor here same off)
+turn_beneath c i cursor here tracker ts same (inr (at, conversion)) = inr (cc, conversion)
+
 pub finish_alike : (hooks : Meanings) (table : Table) (s : ℕ) (cursor here : Place) (v : Val) (tree : Tree)
-    → Closes hooks table s here v tree → IsOffTheWay cursor here → FinishAlike hooks table s cursor tree (closed_at here v tree)
-finish_alike hooks table s cursor [] v tree closes off = absurd (off cursor refl)
+    → Closes hooks table s here v tree → HasATurn cursor here tree → FinishAlike hooks table s cursor tree (closed_at here v tree)
+finish_alike hooks table s cursor [] v tree closes (inl off) = absurd (off cursor refl)
+finish_alike hooks table s cursor [] v tree closes (inr (at, conversion)) =
+    subst (λ (place : Place). FinishAlike hooks table s place tree (whole v)) (sym at)
+    (conversion_alike hooks table s v tree conversion closes.makes)
 finish_alike hooks table s [] (i ∷ here) v (begun tracker ts) closes off =
     here_alike hooks table s tracker ts (change_nth i (λ child. closed_at here v child) ts)
     (alike_nth hooks table s tracker i 0 ts i (λ child. closed_at here v child) (omega arith) closes.place.0
@@ -227,7 +262,7 @@ finish_alike hooks table s (c ∷ cursor) (i ∷ here) v (begun tracker ts) clos
     (λ child. closed_at here v child) (omega arith) closes.place.0
     (closing_alike hooks table (child_as table s tracker i) here v (tree_nth i ts) (below hooks table s i here v tracker ts closes))
     (λ same. let child = finish_alike hooks table (child_as table s tracker i) cursor here v (tree_nth i ts)
-    (below hooks table s i here v tracker ts closes) (off_beneath c i cursor here same off) in
+    (below hooks table s i here v tracker ts closes) (turn_beneath c i cursor here tracker ts same off) in
     (child.become, child.fail)))
 finish_alike hooks table s cursor (i ∷ here) v _ closes off = absurd closes.place
 

@@ -3,7 +3,7 @@ use Rattle.std.proofs.Common.{◌≡◌, if◌then◌else◌, ◌∷◌}
 use Rattle.fr_model.proofs.Common.{ℕ, zero, suc, Bool, true, false, [], Some, None, refl, sym, subst, arith, Def, ShapeId, Operation, fits, entries_fit, Table, def_of, is_dynamic, none_twice, keys, Val, Entries, unit, set_of, map_of, no_entries, entry, is_hole, ends_in_hole, key_refusal, value_refusal, with_key, last_of, count_entries, is_key, in_turn, opened, init_map_refusal, init_set_refusal, as_items, ItemsKind, as_entries, EntriesKind, Tree, hole, entered, whole, begun, Trees, no_trees, branch, and_last, child_as, count_trees, count_below, wholes, fresh, tree_occurs, Mode, HasEntries, IsTouched, AreEntries, Suits, IsOff, AllOff, AtCursor, OffBut}
 use Rattle.fr_model.proofs.Becoming.{Placed}
 use Rattle.fr_model.proofs.Items.{items_suit, last_suits, last_leads, last_holds}
-use Rattle.fr_model.proofs.Basis.{Enterable, a_value, enter_touched, fresh_suits, fresh_at_cursor, hole_off, wholes_off, count_last, SuitFrom, settled_as, both_true, fresh_holds, wholes_touched, odd_next}
+use Rattle.fr_model.proofs.Basis.{Enterable, a_value, may_work, enter_touched, fresh_suits, fresh_at_cursor, hole_off, wholes_off, count_last, SuitFrom, settled_as, both_true, fresh_holds, wholes_touched, odd_next}
 
 -- A set is begun
 
@@ -11,7 +11,7 @@ whole_set : (mode : Mode) (table : Table) (s : ℕ) (item : ShapeId) (v : Val) �
     → fits table s v ≡ true → Placed mode table s [] (opened (Def.Set item) (whole v))
 whole_set mode table s item (set_of vs) is fit =
     let both = both_true _ _ (rw (settled_as table s is refl) at fit) in
-    record { suits = ((rw is tt, tt), items_suit table s (as_items ItemsKind.Set) item.0 (λ i. rw is refl) 0 vs both.0, wholes_touched vs); leads = wholes_off mode vs }
+    record { suits = ((rw is tt, tt), items_suit table s (as_items ItemsKind.Set) item.0 (λ i. rw is refl) 0 vs both.0, wholes_touched vs); leads = (may_work mode _ refl, wholes_off mode vs) }
 whole_set mode table s item unit is fit = cc
 whole_set mode table s item _ is fit = let none = rw (settled_as table s is refl) at fit in cc
 
@@ -23,7 +23,7 @@ set_opens mode table s t e there = go (def_of table s) t refl e there
         → Placed mode table s [] (opened def t)
     go def (begun tracker ts) is e there = there
     go def hole is e there = absurd there.leads
-    go (Def.Set item) entered is e there = record { suits = ((rw is tt, tt), tt, tt); leads = tt }
+    go (Def.Set item) entered is e there = record { suits = ((rw is tt, tt), tt, tt); leads = (may_work mode _ refl, tt) }
     go (Def.Set item) (whole v) is e there = whole_set mode table s item v is there.suits
     go _ _ is e there = cc
 
@@ -53,7 +53,7 @@ whole_map mode table s key item (map_of es) is fit =
     let both = both_true (entries_fit table key.0 item.0 es) (none_twice (keys es)) (rw (settled_as table s is refl) at fit) in
     record {
       suits = ((rw is (turns_count es), tt), turns_suit table s key item is (count_entries es) 0 refl es both.0, turns_are es);
-      leads = wholes_off mode (in_turn es);
+      leads = (may_work mode _ refl, wholes_off mode (in_turn es));
     }
 whole_map mode table s key item unit is fit = cc
 whole_map mode table s key item _ is fit = let none = rw (settled_as table s is refl) at fit in cc
@@ -66,7 +66,7 @@ map_opens mode table s t other e there = go (def_of table s) t refl other e ther
         → Placed mode table s [] t → Placed mode table s [] (opened def t)
     go def (begun tracker ts) is other e there = there
     go def hole is other e there = absurd there.leads
-    go (Def.Map key item) entered is other e there = record { suits = ((rw is refl, tt), tt, tt); leads = tt }
+    go (Def.Map key item) entered is other e there = record { suits = ((rw is refl, tt), tt, tt); leads = (may_work mode _ refl, tt) }
     go (Def.Map key item) (whole v) is other e there = whole_map mode table s key item v is there.suits
     go _ _ is other e there = cc
 
@@ -137,7 +137,7 @@ key_placed mode table s base ts ends there =
         entries_more ts key (enter_touched (def_of table shape) hole) ends there.suits.2,
       );
       leads = off_last mode (count_trees ts) (λ child. AtCursor mode child) (and_last ts key) hole (hole_off mode)
-          (last_leads mode ts key there.leads (fresh_at_cursor mode (def_of table shape)));
+          (last_leads mode ts key there.leads.1 (fresh_at_cursor mode (def_of table shape)));
     }
 
 pub key_holds : (table : Table) (s base : ℕ) (ts : Trees) (token : ℕ)

@@ -1,12 +1,12 @@
 -- The place to which a cursor leads, and a tree that is changed there.
 use Rattle.std.proofs.Common.{◌≡◌, ◌<◌, ◌≤◌, ◌∷◌, ◌++◌}
-use Rattle.fr_model.proofs.Common.{ℕ, zero, suc, true, [], append-nil, length, length-append, Some, refl, sym, subst, arith, None, IsChecked, Meanings, Table, def_of, Val, fits, Place, Column, up, shape_at, as_fields, as_elements, Tree, hole, whole, begun, Trees, no_trees, branch, tree_nth, change_nth, tree_at, change_at, shape_in, child_as, tree_occurs, Mode, strict, deferred, State, cursor_shape, cursor_tree, one_more_call, initial, dropped_by_completing, complete, Way, enter_child, enters, puts, puts_and_leaves, leaves, Journal, HasParts, IsBegunAs, IsTouched, Suits, AllOff, AtCursor, OffBut, Leads, BeganAbove, IsInOrder}
+use Rattle.fr_model.proofs.Common.{ℕ, zero, suc, true, false, is_begun_conversion, without_source, [], append-nil, length, length-append, Some, refl, sym, subst, arith, None, IsChecked, Meanings, Table, def_of, Val, fits, Place, Column, up, shape_at, as_fields, as_elements, Tree, hole, whole, begun, Trees, no_trees, branch, tree_nth, Tracker, change_nth, tree_at, change_at, shape_in, child_as, tree_occurs, Mode, strict, deferred, State, cursor_shape, cursor_tree, one_more_call, initial, dropped_by_completing, complete, Way, enter_child, enters, puts, puts_and_leaves, leaves, Journal, HasParts, IsBegunAs, IsTouched, Suits, AllOff, MayWorkAt, AtCursor, OffBut, Leads, BeganAbove, IsInOrder}
 use Rattle.fr_model.proofs.Agreement.{Agrees, agree_nth, begun_count, leads_within, leads_child}
 use Rattle.fr_model.proofs.Beneath.{down}
-use Rattle.fr_model.proofs.Completing.{Made, completing_makes}
+use Rattle.fr_model.proofs.Completing.{LawfulIn, Made, completing_makes}
 use Rattle.fr_model.proofs.Plain.{AllPlain, plain_child}
 use Rattle.fr_model.proofs.Structs.{count_change, suit_change, suit_nth}
-use Rattle.fr_model.proofs.Opening.{Enterable, Entry, entry, fresh_suits, fresh_at_cursor, rightly_changed, whole_off, all_deferred}
+use Rattle.fr_model.proofs.Opening.{without_source_at, without_source_suits, Enterable, Entry, entry, fresh_suits, fresh_at_cursor, rightly_changed, whole_off, all_deferred}
 
 -- what stands at the cursor
 
@@ -109,16 +109,41 @@ whole_among mode i Below v no_trees off = absurd off
 whole_among mode zero Below v (branch t ts) off = (whole_off mode v, off.1)
 whole_among mode (suc i) Below v (branch t ts) off = (off.0, whole_among mode i Below v ts off.1)
 
+-- the place above is no conversion, to which strict mode doesn't go up
+abbrev pub MayGoUp : Mode → Place → Tree → Type 0
+MayGoUp strict here t = is_begun_conversion (tree_at (up here) t) ≡ false
+MayGoUp (deferred start) here t = Unit {0}
+
+-- the cursor may go up to what is no conversion, and in deferred mode to anything
+pub may_go_up : (mode : Mode) (here : Place) (t : Tree) → is_begun_conversion (tree_at (up here) t) ≡ false → MayGoUp mode here t
+may_go_up strict here t apart = apart
+may_go_up (deferred start) here t apart = tt
+
+pub may_go_deferred : (mode : Mode) (start : ℕ) (here : Place) (t : Tree) → mode ≡ deferred start → MayGoUp mode here t
+may_go_deferred strict start here t is = cc
+may_go_deferred (deferred from) start here t is = tt
+
+works_above : (mode : Mode) (i : ℕ) (tracker : Tracker) (ts : Trees) → MayGoUp mode (i ∷ []) (begun tracker ts) → MayWorkAt mode tracker
+works_above strict i tracker ts may = may
+works_above (deferred start) i tracker ts may = tt
+
+goes_below : (mode : Mode) (i j : ℕ) (here : Place) (tracker : Tracker) (ts : Trees) → MayGoUp mode (i ∷ j ∷ here) (begun tracker ts)
+    → MayGoUp mode (j ∷ here) (tree_nth i ts)
+goes_below strict i j here tracker ts may = may
+goes_below (deferred start) i j here tracker ts may = tt
+
 -- the cursor goes up from a place that is now whole
-pub leads_up : (mode : Mode) (here : Place) (t : Tree) (v : Val) → Leads mode here t
+pub leads_up : (mode : Mode) (here : Place) (t : Tree) (v : Val) → MayGoUp mode here t → Leads mode here t
     → Leads mode (up here) (change_at here (λ old. whole v) t)
-leads_up mode [] t v leads = tt
-leads_up mode (i ∷ []) (begun tracker ts) v leads = whole_among mode i (λ child. Leads mode [] child) v ts leads
-leads_up mode (i ∷ []) _ v leads = absurd leads
-leads_up mode (i ∷ j ∷ here) (begun tracker ts) v leads =
+leads_up mode [] t v may leads = tt
+leads_up mode (i ∷ []) (begun tracker ts) v may leads =
+    (works_above mode i tracker ts may, whole_among mode i (λ child. Leads mode [] child) v ts leads)
+leads_up mode (i ∷ []) _ v may leads = absurd leads
+leads_up mode (i ∷ j ∷ here) (begun tracker ts) v may leads =
     off_change mode i (λ child. Leads mode (j ∷ here) child) (λ child. Leads mode _ child)
-    (λ child. change_at (j ∷ here) (λ old. whole v) child) ts (λ child. leads_up mode (j ∷ here) _ v child) leads
-leads_up mode (i ∷ j ∷ here) _ v leads = absurd leads
+    (λ child. change_at (j ∷ here) (λ old. whole v) child) ts
+    (λ child. leads_up mode (j ∷ here) _ v (goes_below mode i j here tracker ts may) child) leads
+leads_up mode (i ∷ j ∷ here) _ v may leads = absurd leads
 
 -- what lies off the way in either mode does so in deferred mode
 off_deferred : (mode : Mode) (start i : ℕ) (Below After : Tree → Type 0) (ts : Trees)
@@ -130,7 +155,7 @@ off_deferred mode start (suc i) Below After (branch t ts) step off = (tt, off_de
 -- in deferred mode the cursor goes up from a place that is left as it is
 pub leads_left : (start : ℕ) (here : Place) (t : Tree) → Leads (deferred start) here t → Leads (deferred start) (up here) t
 leads_left start [] t leads = leads
-leads_left start (i ∷ []) (begun tracker ts) leads = all_deferred start ts
+leads_left start (i ∷ []) (begun tracker ts) leads = (tt, all_deferred start ts)
 leads_left start (i ∷ []) _ leads = absurd leads
 leads_left start (i ∷ j ∷ here) (begun tracker ts) leads =
     off_deferred (deferred start) start i (λ child. Leads (deferred start) (j ∷ here) child)
@@ -141,7 +166,7 @@ leads_left start (i ∷ j ∷ here) _ leads = absurd leads
 
 strict_all : (start : ℕ) (t : Tree) → AtCursor strict t → AtCursor (deferred start) t
 strict_all start hole at = absurd at
-strict_all start (begun tracker ts) at = all_deferred start ts
+strict_all start (begun tracker ts) at = (tt, all_deferred start ts)
 strict_all start _ at = tt
 
 pub leads_deferred : (start : ℕ) (here : Place) (t : Tree) → Leads strict here t → Leads (deferred start) here t
@@ -175,13 +200,18 @@ began_strict (deferred start) here is = cc
 pub start_in_order : (table : Table) (root : ℕ) → IsInOrder table root (initial table root)
 start_in_order table root = record { suits = fresh_suits table root; leads = fresh_at_cursor strict _; began = tt }
 
+-- what stands at the cursor, which starts anew where it is a conversion
+abbrev pub started : Table → (root : ℕ) → State → Tree
+started table root state = without_source (def_of table (cursor_shape table root state)) (cursor_tree state)
+
 pub entry_at : (table : Table) (root : ℕ) (state : State) (i : ℕ)
-    → Enterable table (cursor_shape table root state) i (cursor_tree state) → IsInOrder table root state
-    → Entry state.mode table (cursor_shape table root state) i (cursor_tree state)
-    (enter_child table (cursor_shape table root state) i (cursor_tree state))
+    → Enterable table (cursor_shape table root state) i (started table root state) → IsInOrder table root state
+    → Entry state.mode table (cursor_shape table root state) i (started table root state)
+    (enter_child table (cursor_shape table root state) i (started table root state))
 entry_at table root state i enterable order =
-    entry state.mode table _ i _ enterable (at_cursor state.mode state.cursor state.tree order.leads)
-    (suits_at state.mode table root state.cursor state.tree order.leads order.suits)
+    entry state.mode table _ i _ enterable
+    (without_source_at state.mode _ _ (at_cursor state.mode state.cursor state.tree order.leads))
+    (without_source_suits table _ _ (suits_at state.mode table root state.cursor state.tree order.leads order.suits))
 
 -- the place at the cursor becomes another that suits its shape and may be the cursor's
 pub changed_in_order : (table : Table) (root : ℕ) (state : State) (change : Tree → Tree)
@@ -212,7 +242,7 @@ moved_in_order table root state i change suits leads order = record {
 }
 
 pub begun_in_order : (table : Table) (root : ℕ) (state : State) (i : ℕ)
-    → Enterable table (cursor_shape table root state) i (cursor_tree state) → IsInOrder table root state
+    → Enterable table (cursor_shape table root state) i (started table root state) → IsInOrder table root state
     → IsInOrder table root (enters table (cursor_shape table root state) state (Way.Child i))
 begun_in_order table root state i enterable order =
     let child = entry_at table root state i enterable order in moved_in_order table root state i _ child.suits child.leads order
@@ -222,25 +252,25 @@ pub put_in_order : (table : Table) (root : ℕ) (state : State) (v : Val)
 put_in_order table root state v fit order = changed_in_order table root state (λ old. whole v) fit tt order
 
 -- what the place at the cursor makes
-pub made_at : (column : Column) (hooks : Meanings) (table : Table) (root : ℕ) (state : State) (v : Val) → IsChecked table
-    → complete column hooks table (cursor_shape table root state) (cursor_tree state) ≡ Some v → IsInOrder table root state
+pub made_at : (column : Column) (hooks : Meanings) (table : Table) (root : ℕ) (state : State) (v : Val)
+    → LawfulIn hooks (cursor_tree state) → IsChecked table → complete column hooks table (cursor_shape table root state) (cursor_tree state) ≡ Some v → IsInOrder table root state
     → Made table (cursor_shape table root state)
     (λ k. dropped_by_completing column hooks table (cursor_shape table root state) (cursor_tree state) k)
     (λ k. tree_occurs (cursor_tree state) k) v
-made_at column hooks table root state v checked e order =
-    completing_makes column hooks table (cursor_tree state) (cursor_shape table root state) v checked
+made_at column hooks table root state v lawful checked e order =
+    completing_makes column hooks table (cursor_tree state) (cursor_shape table root state) v lawful checked
     (suits_at state.mode table root state.cursor state.tree order.leads order.suits) e
 
 -- what the place makes stands there, and the cursor goes up
 pub completed_in_order : (column : Column) (hooks : Meanings) (table : Table) (root : ℕ) (state : State) (v : Val)
-    → IsChecked table → BeganAbove state.mode (up state.cursor)
+    → LawfulIn hooks (cursor_tree state) → IsChecked table → BeganAbove state.mode (up state.cursor) → MayGoUp state.mode state.cursor state.tree
     → complete column hooks table (cursor_shape table root state) (cursor_tree state) ≡ Some v
     → IsInOrder table root state → IsInOrder table root (puts_and_leaves state v)
-completed_in_order column hooks table root state v checked began e order =
-    let made = made_at column hooks table root state v checked e order in
+completed_in_order column hooks table root state v lawful checked began may e order =
+    let made = made_at column hooks table root state v lawful checked e order in
     record {
       suits = suits_changed state.mode table root state.cursor state.tree (λ old. whole v) order.leads order.suits tt made.fit;
-      leads = leads_up state.mode state.cursor state.tree v order.leads;
+      leads = leads_up state.mode state.cursor state.tree v may order.leads;
       began = began;
     }
 

@@ -1,18 +1,19 @@
 -- A field of the place at the cursor that is set to its default, which is as entering it, setting it and leaving it; or why it can't
 -- be is told.
 use Rattle.std.proofs.Common.{◌≡◌, ◌+◌, ◌<◌, ◌∷◌, ◌≤◌, if◌then◌else◌, ◌++◌}
-use Rattle.fr_model.proofs.Common.{ℕ, zero, suc, true, List, [], length, slice_get, Option, Some, None, refl, sym, ◌∙◌, ap, subst, arith, Def, EnumDef, Field, StructDef, VariantDef, fits, Table, def_of, field_of_variant, field_in, occurs, Val, opened, put_child, Tracker, as_fields, tracker_of, tracker_at, over_base, selected, Tree, whole, begun, Trees, no_trees, branch, child_tree, change_nth, change_child, child_as, count_trees, tree_occurs, Mode, child_count, fields_or_none, IsFullAs, IsBegunAs, Suits, RestsAround, AllOff, AtCursor, eq-eqb, lt-ltb, nat_lt, Bool, false, length-append, Result, Ok, Err, Invariant, Operation, ReflectErrorKind, Meanings, is_set, is_set_tracker, Call, complete, is_begun_dynamic, is_dynamic_tracker, is_open_slice, and_step, three_calls, AreSameButCalls, Place, strict_column, deferred_column, is_root, up, Way, enter, enter_child, enters, unless_refused, at_shape, violates, field_refusal, named_refusal, set_refusal, set_dynamic, set, field_default, puts, puts_child, puts_child_default, defaults_field, ended, is_set_item, is_dynamic_part, ends_item, leaves_deferred, end_in, leaves_place, closes_slice, step, tree_at, change_at, shape_in, shape_below, strict, deferred, State, cursor_shape, cursor_tree, Leads, BeganAbove, IsInOrder, ap₂, HasNoDefault, names_none, no_such_field, no_default, DefaultIsThreeCalls}
-use Rattle.fr_model.proofs.Basis.{Enterable, a_field, a_variant_field, enterable_apart, Opening, opening, rightly_changed, whole_off, opened_rests, put_among, count_change, suit_change, nth_holds, opened_holds, done_but, done_put, leads_within, leads_child, at_cursor, suits_at, begun_in_order}
+use Rattle.fr_model.proofs.Common.{ℕ, zero, suc, true, List, [], length, slice_get, Option, Some, None, refl, sym, ◌∙◌, ap, subst, arith, Def, EnumDef, Field, StructDef, VariantDef, fits, Table, def_of, field_of_variant, field_in, occurs, Val, opened, put_child, Tracker, as_fields, tracker_of, tracker_at, over_base, selected, Tree, whole, begun, Trees, no_trees, branch, child_tree, change_nth, change_child, child_as, count_trees, tree_occurs, Mode, child_count, fields_or_none, IsFullAs, IsBegunAs, Suits, RestsAround, AllOff, AtCursor, eq-eqb, lt-ltb, nat_lt, Bool, false, length-append, Result, Ok, Err, Invariant, Operation, ReflectErrorKind, Meanings, is_set, is_set_tracker, Call, complete, is_begun_dynamic, is_dynamic_tracker, is_open_slice, and_step, three_calls, AreSameButCalls, Place, strict_column, deferred_column, is_root, up, Way, enter, enters, unless_refused, at_shape, violates, field_refusal, named_refusal, set_refusal, set_dynamic, set, field_default, puts, puts_child, puts_child_default, defaults_field, ended, is_set_item, is_dynamic_part, entered_on, without_source, is_source_place, ends_source, is_conversion, is_begun_conversion, as_content, ContentKind, ends_item, leaves_deferred, end_in, leaves_place, closes_slice, step, tree_at, change_at, shape_in, shape_below, strict, deferred, State, cursor_shape, cursor_tree, Leads, BeganAbove, IsInOrder, ap₂, HasNoDefault, names_none, no_such_field, no_default, DefaultIsThreeCalls}
+use Rattle.fr_model.proofs.Basis.{Enterable, a_field, a_variant_field, may_work, started, without_source_at, without_source_suits, without_source_apart, enterable_apart, Opening, opening, rightly_changed, whole_off, opened_rests, put_among, count_change, suit_change, nth_holds, opened_holds, done_but, done_put, leads_within, leads_child, at_cursor, suits_at, begun_in_order}
 use Rattle.fr_model.specs.Refusals.{operation_failed, at_shape, named_refusal}
 use Rattle.fr_model.proofs.Paths.{changed_nth}
+use Rattle.fr_model.proofs.Children.{without_source_selects}
 
 -- the place with its child i whole: it suits its shape, may be the cursor's, and holds the value's tokens in place of the child's
 pub record Putting (mode : Mode) (table : Table) (s i : ℕ) (v : Val) (t : Tree) : Type 0 where
-  pub suits : Suits table s (put_child (def_of table s) i v t)
-  pub at : AtCursor mode (put_child (def_of table s) i v t)
-  pub rest : RestsAround [] t → RestsAround [] (put_child (def_of table s) i v t)
-  pub hold : (k : ℕ) → tree_occurs (put_child (def_of table s) i v t) k + tree_occurs (child_tree i (opened (def_of table s) t)) k
-      ≡ tree_occurs t k + occurs v k
+  pub suits : Suits table s (change_child i (λ old. whole v) (opened (def_of table s) t))
+  pub at : AtCursor mode (change_child i (λ old. whole v) (opened (def_of table s) t))
+  pub rest : RestsAround [] t → RestsAround [] (change_child i (λ old. whole v) (opened (def_of table s) t))
+  pub hold : (k : ℕ) → tree_occurs (change_child i (λ old. whole v) (opened (def_of table s) t)) k
+      + tree_occurs (child_tree i (opened (def_of table s) t)) k ≡ tree_occurs t k + occurs v k
 
 put_off : (mode : Mode) (i : ℕ) (v : Val) (ts : Trees) → AllOff mode ts → AllOff mode (change_nth i (λ old. whole v) ts)
 put_off mode i v no_trees off = tt
@@ -28,7 +29,7 @@ putting mode table s i v t enterable at suits fit = record {
     rightly_changed table s tracker place.children i (λ old. whole v) tt place.rightly,
   );
   at = subst (λ (u : Tree). AtCursor mode (change_child i (λ old. whole v) u)) (sym place.is)
-      (put_off mode i v place.children place.off);
+      (may_work mode tracker place.apart, put_off mode i v place.children place.off);
   rest = λ rested.
       let there : RestsAround [] (begun tracker place.children)
       = subst (λ (u : Tree). RestsAround [] u) place.is (opened_rests table s t suits rested) in
@@ -67,25 +68,28 @@ get_below (y ∷ ys) zero x e = omega arith
 get_below (y ∷ ys) (suc i) x e = let rest = get_below ys i x e in omega arith
 
 struct_child : (table : Table) (s i : ℕ) (struct : StructDef) (field : Field) (tracker : Tracker) → def_of table s ≡ Def.Struct struct
-    → slice_get struct.fields i ≡ Some field → (n : ℕ) → IsFullAs (Def.Struct struct) tracker n → child_as table s tracker i ≡ field.shape.0
-struct_child table s i struct field (as_fields None) is e n full_as = rw (is, e) refl
-struct_child table s i struct field _ is e n full_as = absurd full_as
+    → slice_get struct.fields i ≡ Some field → (n : ℕ) → is_conversion tracker ≡ false → IsFullAs (Def.Struct struct) tracker n
+    → child_as table s tracker i ≡ field.shape.0
+struct_child table s i struct field (as_fields None) is e n apart full_as = rw (is, e) refl
+struct_child table s i struct field (as_content (ContentKind.Source conversion)) is e n apart full_as = cc
+struct_child table s i struct field _ is e n apart full_as = absurd full_as
 
 -- one that isn't begun yet is begun as a struct
 struct_fresh : (table : Table) (s i : ℕ) (struct : StructDef) (field : Field) → def_of table s ≡ Def.Struct struct
     → slice_get struct.fields i ≡ Some field → child_as table s (tracker_of (def_of table s)) i ≡ field.shape.0
 struct_fresh table s i struct field is e =
     subst (λ (def : Def). child_as table s (tracker_of def) i ≡ field.shape.0) (sym is)
-    (struct_child table s i struct field (as_fields None) is e _ refl)
+    (struct_child table s i struct field (as_fields None) is e _ refl refl)
 
 struct_tracker : (table : Table) (s i : ℕ) (struct : StructDef) (field : Field) (t : Tree) → def_of table s ≡ Def.Struct struct
-    → slice_get struct.fields i ≡ Some field → Suits table s t → child_as table s (tracker_at (def_of table s) t) i ≡ field.shape.0
-struct_tracker table s i struct field (begun tracker ts) is e suits =
-    struct_child table s i struct field tracker is e _ (rw is at suits.0.0)
-struct_tracker table s i struct field (whole v) is e suits =
+    → slice_get struct.fields i ≡ Some field → is_begun_conversion t ≡ false → Suits table s t
+    → child_as table s (tracker_at (def_of table s) t) i ≡ field.shape.0
+struct_tracker table s i struct field (begun tracker ts) is e apart suits =
+    struct_child table s i struct field tracker is e _ apart (rw is at suits.0.0)
+struct_tracker table s i struct field (whole v) is e apart suits =
     subst (λ (def : Def). child_as table s (over_base (tracker_of def) v) i ≡ field.shape.0) (sym is)
-    (struct_child table s i struct field (as_fields None) is e _ refl)
-struct_tracker table s i struct field _ is e suits = struct_fresh table s i struct field is e
+    (struct_child table s i struct field (as_fields None) is e _ refl refl)
+struct_tracker table s i struct field _ is e apart suits = struct_fresh table s i struct field is e
 
 variant_child : (table : Table) (s i k : ℕ) (enumeration : EnumDef) (field : Field) (t : Tree) → def_of table s ≡ Def.Enum enumeration
     → selected t ≡ Some k → field_in (Def.Enum enumeration) (Some k) i ≡ Some field
@@ -99,15 +103,15 @@ pub of_variant_below : (found : Option VariantDef) (i : ℕ) (field : Field) →
 of_variant_below (Some variant) i field e = get_below variant.fields i field e
 of_variant_below None i field e = cc
 
-pub field_there : (table : Table) (s i : ℕ) (t : Tree) (field : Field) → Suits table s t
+pub field_there : (table : Table) (s i : ℕ) (t : Tree) (field : Field) → is_begun_conversion t ≡ false → Suits table s t
     → field_in (def_of table s) (selected t) i ≡ Some field → FieldThere table s i t field
-field_there table s i t field suits e = go _ (selected t) refl refl e
+field_there table s i t field apart suits e = go _ (selected t) refl refl e
   where
     go : (def : Def) (chosen : Option ℕ) → def_of table s ≡ def → selected t ≡ chosen → field_in def chosen i ≡ Some field
         → FieldThere table s i t field
     go (Def.Struct struct) None is chosen e = record {
-      enterable = a_field struct is (get_below struct.fields i field e);
-      shape = struct_tracker table s i struct field t is e suits;
+      enterable = a_field struct is (get_below struct.fields i field e) apart;
+      shape = struct_tracker table s i struct field t is e apart suits;
     }
     go (Def.Struct struct) (Some k) is chosen e = cc
     go (Def.Enum enumeration) (Some k) is chosen e = record {
@@ -211,8 +215,10 @@ own_shape table s given state v same = go _
 fields_alone : (def : Def) (tracker : Tracker) (n : ℕ) (chosen : Option ℕ) (i : ℕ) (field : Field)
     → field_in def chosen i ≡ Some field → IsFullAs def tracker n → (is_set_tracker tracker ≡ false) × (is_dynamic_tracker tracker ≡ false)
 fields_alone (Def.Struct struct) (as_fields None) n chosen i field e full_as = (refl, refl)
+fields_alone (Def.Struct struct) (as_content kind) n chosen i field e full_as = (refl, refl)
 fields_alone (Def.Struct struct) _ n chosen i field e full_as = absurd full_as
 fields_alone (Def.Enum enumeration) (as_fields (Some k)) n chosen i field e full_as = (refl, refl)
+fields_alone (Def.Enum enumeration) (as_content kind) n chosen i field e full_as = (refl, refl)
 fields_alone (Def.Enum enumeration) _ n chosen i field e full_as = absurd full_as
 fields_alone _ tracker n chosen i field e full_as = cc
 
@@ -232,17 +238,22 @@ module _ (hooks : Meanings) (table : Table) (root : ℕ) (state : State) (i : �
   abbrev put : State
   put = puts inside v
 
-  at_here : AtCursor state.mode (cursor_tree state)
-  at_here = at_cursor state.mode state.cursor state.tree order.leads
+  abbrev base : Tree
+  base = started table root state
 
-  suits_here : Suits table here (cursor_tree state)
-  suits_here = suits_at state.mode table root state.cursor state.tree order.leads order.suits
+  at_here : AtCursor state.mode base
+  at_here = without_source_at state.mode _ _ (at_cursor state.mode state.cursor state.tree order.leads)
 
-  there : FieldThere table here i (cursor_tree state) field
-  there = field_there table here i (cursor_tree state) field suits_here is
+  suits_here : Suits table here base
+  suits_here = without_source_suits table _ _ (suits_at state.mode table root state.cursor state.tree order.leads order.suits)
 
-  place : Opening state.mode table here i (tracker_at (def_of table here) (cursor_tree state)) (cursor_tree state)
-  place = opening state.mode table here i (cursor_tree state) there.enterable at_here suits_here
+  there : FieldThere table here i base field
+  there =
+      field_there table here i base field (without_source_apart _ _) suits_here
+      (ap (λ (chosen : Option ℕ). field_in (def_of table here) chosen i) (without_source_selects _ (cursor_tree state)) ∙ is)
+
+  place : Opening state.mode table here i (tracker_at (def_of table here) base) base
+  place = opening state.mode table here i base there.enterable at_here suits_here
 
   may : MayEnter (def_of table here) (cursor_tree state) i
   may = may_enter (def_of table here) (cursor_tree state) i field is
@@ -253,9 +264,9 @@ module _ (hooks : Meanings) (table : Table) (root : ℕ) (state : State) (i : �
   -- the field has its own shape
   inside_shape : cursor_shape table root inside ≡ field.shape.0
   inside_shape =
-      shape_on state.mode table root state.cursor i state.tree (enter_child table here i) order.leads
+      shape_on state.mode table root state.cursor i state.tree (entered_on table here (Way.Child i)) order.leads
       ∙ ap (λ (u : Tree). shape_below table here i
-      (change_child i (enter (def_of table (child_as table here (tracker_at (def_of table here) (cursor_tree state)) i))) u)) place.is
+      (change_child i (enter (def_of table (child_as table here (tracker_at (def_of table here) base) i))) u)) place.is
       ∙ there.shape
 
   enters_it : step hooks table root state (Call.BeginNthField i) ≡ Ok inside
@@ -270,35 +281,44 @@ module _ (hooks : Meanings) (table : Table) (root : ℕ) (state : State) (i : �
   -- entering the field, and putting the value, is putting it there
   same_tree : change_at state.cursor (put_child (def_of table here) i v) state.tree ≡ put.tree
   same_tree =
-      sym (change_after state.cursor (i ∷ []) (enter_child table here i) (λ old. whole v) (put_child (def_of table here) i v)
-      state.tree (λ u. child_after i (enter (def_of table (child_as table here (tracker_at (def_of table here) u) i))) (λ old. whole v)
-      (λ old. whole v) (opened (def_of table here) u) (λ child. refl)))
+      sym (change_after state.cursor (i ∷ []) (entered_on table here (Way.Child i)) (λ old. whole v) (put_child (def_of table here) i v)
+      state.tree (λ u. child_after i
+      (enter (def_of table (child_as table here (tracker_at (def_of table here) (without_source (def_of table here) u)) i)))
+      (λ old. whole v) (λ old. whole v) (opened (def_of table here) (without_source (def_of table here) u)) (λ child. refl)))
 
   -- what stands above it
-  above : tree_at (up below) put.tree
-      ≡ begun (tracker_at (def_of table here) (cursor_tree state)) (change_nth i (λ old. whole v) place.children)
-  above =
+  above_it : tree_at (up below) put.tree
+      ≡ begun (tracker_at (def_of table here) base) (change_nth i (λ old. whole v) place.children)
+  above_it =
       ap (λ (way : Place). tree_at way put.tree) (up_again state.cursor i) ∙ ap (tree_at state.cursor) (sym same_tree)
       ∙ stands_there state.mode state.cursor state.tree (put_child (def_of table here) i v) order.leads
       ∙ ap (change_child i (λ old. whole v)) place.is
 
   alone : (is_set_item put ≡ false) × (is_dynamic_part put ≡ false)
   alone =
-      let tracker = fields_alone (def_of table here) (tracker_at (def_of table here) (cursor_tree state)) _
+      let tracker = fields_alone (def_of table here) (tracker_at (def_of table here) base) _
       (selected (cursor_tree state)) i field is place.begun_as.0 in
-      (ap is_set above ∙ tracker.0, ap is_begun_dynamic above ∙ tracker.1)
+      (ap is_set above_it ∙ tracker.0, ap is_begun_dynamic above_it ∙ tracker.1)
+
+  no_source : is_source_place put ≡ false
+  no_source = ap is_begun_conversion above_it ∙ place.apart
 
   ends_it : (mode : Mode) → BeganAbove mode state.cursor → AreSameButCalls (Ok (record (puts_child table here state i v) { mode = mode }))
-      (end_in hooks table (cursor_shape table root put) (record put { mode = mode }) mode)
+      (end_in hooks table root (cursor_shape table root put) (record put { mode = mode }) mode)
   ends_it strict began =
       subst (λ (of_set : Bool). AreSameButCalls (Ok (record (puts_child table here state i v) { mode = strict }))
       (if of_set then ends_item strict_column hooks table (cursor_shape table root put) (record put { mode = strict })
+      else if is_source_place put then ends_source hooks table root (record put { mode = strict })
       else ended hooks table (cursor_shape table root put) (record put { mode = strict })
       (complete strict_column hooks table (cursor_shape table root put) (cursor_tree put)))) (sym alone.0)
+      (subst (λ (source : Bool). AreSameButCalls (Ok (record (puts_child table here state i v) { mode = strict }))
+      (if source then ends_source hooks table root (record put { mode = strict })
+      else ended hooks table (cursor_shape table root put) (record put { mode = strict })
+      (complete strict_column hooks table (cursor_shape table root put) (cursor_tree put)))) (sym no_source)
       (subst (λ (made : Option Val). AreSameButCalls (Ok (record (puts_child table here state i v) { mode = strict }))
       (ended hooks table (cursor_shape table root put) (record put { mode = strict }) made))
       (sym (ap (complete strict_column hooks table (cursor_shape table root put)) put_tree))
-      (same_tree ∙ sym (twice below v inside.tree), sym (up_again state.cursor i), refl))
+      (same_tree ∙ sym (twice below v inside.tree), sym (up_again state.cursor i), refl)))
   ends_it (deferred start) began =
       subst (λ (b : Bool). AreSameButCalls (Ok (record (puts_child table here state i v) { mode = deferred start })) (if b then
       (if is_set_item put then
@@ -317,9 +337,9 @@ module _ (hooks : Meanings) (table : Table) (root : ℕ) (state : State) (i : �
   leaves_it =
       subst (λ (u : Tree). AreSameButCalls (Ok (puts_child table here state i v))
       (if is_open_slice u then closes_slice hooks table (cursor_shape table root put) put put.mode
-      else leaves_place hooks table (cursor_shape table root put) put)) (sym put_tree)
+      else leaves_place hooks table root (cursor_shape table root put) put)) (sym put_tree)
       (subst (λ (b : Bool). AreSameButCalls (Ok (puts_child table here state i v))
-      (if b then Err (violates Invariant.EndAtRoot) else end_in hooks table (cursor_shape table root put) put put.mode))
+      (if b then Err (violates Invariant.EndAtRoot) else end_in hooks table root (cursor_shape table root put) put put.mode))
       (sym (not_root state.cursor i)) (ends_it state.mode order.began))
 
   defaults_it : step hooks table root state (Call.SetNthFieldToDefault i) ≡ Ok (puts_child table here state i v)

@@ -4,7 +4,8 @@ use Rattle.std.proofs.Common.{◌≡◌, if◌then◌else◌, ◌<◌, ◌∷◌
 use Rattle.fr_model.proofs.Common.{encode_utf8, ℕ, Bool, true, false, List, Option, Some, None, Ok, Err, refl, arith, option_map, Operation, Def, ScalarKind, keys_once, Table, occurs, vals_occur, Val, Vals, bool, char, int, nat, text, list_of, no_vals, first, Dynamic, dyn_bool, dyn_int, dyn_nat, dyn_text, dyn_bytes, or_not_dynamic, from_bool, from_char, from_int, from_nat, from_text, byte_before, bytes_of, from_bytes, from_scalar, converted, zero, suc, [], length, length-append, sym, ap, subst, fits, all_keys_once, members_keys_once, def_of, is_dynamic, dyn, Dynamics, Members, dyn_array, dyn_object, no_dynamics, first_dynamic, no_members, member, is_begun_object, array_of, object_of, array_anew, object_anew, kept_array, kept_object, entry_refusal, entry_found, entry_number, number_or_last, and_entry, with_entry, element_vals, member_vals, member_keys, elements_in, members_of_object, dynamic_in, as_items, ItemsKind, as_entries, EntriesKind, Tree, hole, whole, begun, Trees, no_trees, branch, and_last, count_trees, wholes, fresh, tree_occurs, trees_occur, Mode, strict, deferred, TakesItemsAs, HasEntries, IsTouched, AreTouched, AreDone, Suits, RestsAround, IsOff, AllOff, AtCursor, OffBut}
 use Rattle.fr_model.proofs.Becoming.{stays_kept, Placed, Becoming, IsKept, becoming}
 use Rattle.fr_model.proofs.Items.{last_suits, last_touched, last_leads, last_holds}
-use Rattle.fr_model.proofs.Basis.{apart_last, found_at, member_keys_apart, enter_touched, fresh_suits, fresh_at_cursor, wholes_off, all_deferred, rests_here, wholes_rest, fresh_rests, rest_but, last_rests, count_last, SuitFrom, settled_as, both_true, fresh_holds, opened_holds, done_but, done_none, without_last, wholes_touched, suit_alike}
+use Rattle.fr_model.proofs.Converts.{wholes_convert}
+use Rattle.fr_model.proofs.Basis.{may_work, apart_last, found_at, member_keys_apart, enter_touched, fresh_suits, fresh_at_cursor, wholes_off, all_deferred, rests_here, wholes_rest, fresh_rests, rest_but, last_rests, count_last, SuitFrom, settled_as, both_true, fresh_holds, opened_holds, done_but, done_none, without_last, wholes_touched, suit_alike}
 
 -- no object in the dynamic value has a key twice, and the value of which it was made holds no token
 pub record IsTaken (v : Val) (d : Dynamic) : Type 0 where
@@ -106,10 +107,11 @@ whole_array_keeps mode table s (dyn (dyn_array ds)) kept is fit e =
     rw (← same) (record {
       placed = record {
         suits = ((is_dynamic_def _ is, tt), elements_suit table s is 0 ds once, wholes_touched _);
-        leads = wholes_off mode _;
+        leads = (may_work mode _ refl, wholes_off mode _);
       };
       rest = λ rested. (record { values = element_vals ds; are = refl }, wholes_rest _);
       hold = λ t. opened_holds (as_items ItemsKind.Array) 0 (whole (dyn (dyn_array ds))) t;
+      converts = λ field there. (tt, wholes_convert table s (as_items ItemsKind.Array) 0 (element_vals ds));
     })
 whole_array_keeps mode table s (dyn _) kept is fit e = cc
 whole_array_keeps mode table s _ kept is fit e = cc
@@ -124,7 +126,7 @@ pub array_becomes : (mode : Mode) (table : Table) (s : ℕ) (t : Tree) → def_o
     → Suits table s t → Becoming mode table s [] t (kept_array t) array_anew
 array_becomes mode table s t is at suits =
     becoming mode table s [] t _ array_anew (λ tree e. kept_array_keeps mode table s t tree is at suits e)
-    (record { suits = ((is_dynamic_def _ is, tt), tt, tt); leads = tt }) (done_none (as_items ItemsKind.Array) refl, tt)
+    (record { suits = ((is_dynamic_def _ is, tt), tt, tt); leads = (may_work mode _ refl, tt) }) (done_none (as_items ItemsKind.Array) refl, tt)
     (λ token. refl)
 
 -- An object is begun
@@ -153,10 +155,11 @@ whole_object_keeps mode table s (dyn (dyn_object ms)) kept is fit e =
           members_suit table s (member_keys ms) is 0 ms once,
           (wholes_touched _, member_keys_apart ms once),
         );
-        leads = wholes_off mode _;
+        leads = (may_work mode _ refl, wholes_off mode _);
       };
       rest = λ rested. (record { values = member_vals ms; are = refl }, wholes_rest _);
       hold = λ t. opened_holds (as_entries (EntriesKind.Object [])) 0 (whole (dyn (dyn_object ms))) t;
+      converts = λ field there. (tt, wholes_convert table s (as_entries (EntriesKind.Object (member_keys ms))) 0 (member_vals ms));
     })
 whole_object_keeps mode table s (dyn _) kept is fit e = cc
 whole_object_keeps mode table s _ kept is fit e = cc
@@ -171,7 +174,7 @@ pub object_becomes : (mode : Mode) (table : Table) (s : ℕ) (t : Tree) → def_
     → Suits table s t → Becoming mode table s [] t (kept_object t) object_anew
 object_becomes mode table s t is at suits =
     becoming mode table s [] t _ object_anew (λ tree e. kept_object_keeps mode table s t tree is at suits e)
-    (record { suits = ((has_keys _ [] 0 is refl, tt), tt, (tt, refl)); leads = tt })
+    (record { suits = ((has_keys _ [] 0 is refl, tt), tt, (tt, refl)); leads = (may_work mode _ refl, tt) })
     (done_none (as_entries (EntriesKind.Object [])) refl, tt) (λ token. refl)
 
 -- An entry is begun
@@ -197,7 +200,7 @@ takes_an_entry _ t e = cc
 touched_off : (mode : Mode) (t : Tree) → IsOff mode t → IsTouched t → AtCursor mode t
 touched_off mode hole off touched = absurd touched
 touched_off strict (begun tracker ts) off touched = absurd off
-touched_off (deferred start) (begun tracker ts) off touched = all_deferred start ts
+touched_off (deferred start) (begun tracker ts) off touched = (tt, all_deferred start ts)
 touched_off mode _ off touched = tt
 
 there_leads : (mode : Mode) (i : ℕ) (ts : Trees) → i < count_trees ts → AllOff mode ts → AreTouched ts
@@ -220,7 +223,7 @@ entry_placed mode table s key keys ts there = go _ refl
         (and_entry table s key (as_entries (EntriesKind.Object keys)) ts found)
     go (Some i) is =
         let at = found_at key keys i is in
-        record { suits = there.suits; leads = there_leads mode i ts (omega (arith, at.below, had.1)) there.leads there.suits.2.0 }
+        record { suits = there.suits; leads = there_leads mode i ts (omega (arith, at.below, had.1)) there.leads.1 there.suits.2.0 }
     go None none =
         let last = fresh _ in
         let counted = count_last ts last in
@@ -233,7 +236,7 @@ entry_placed mode table s key keys ts there = go _ refl
             (last_touched ts last there.suits.2.0 (enter_touched (def_of table s) hole), apart_last key keys none there.suits.2.1),
           );
           leads = subst (λ (n : ℕ). OffBut mode n (λ child. AtCursor mode child) (and_last ts last)) had.1
-              (last_leads mode ts last there.leads (fresh_at_cursor mode (def_of table s)));
+              (last_leads mode ts last there.leads.1 (fresh_at_cursor mode (def_of table s)));
         }
 
 pub entry_holds : (table : Table) (s : ℕ) (key : List ℕ) (keys : List (List ℕ)) (ts : Trees) (token : ℕ)

@@ -1,7 +1,7 @@
 -- The cursor goes up: from a place that becomes whole with what it makes, and from an item that its set takes.
 use Rattle.std.proofs.Common.{◌≡◌, ◌+◌, if◌then◌else◌, ◌∷◌}
-use Rattle.fr_model.proofs.Common.{ℕ, zero, suc, Bool, true, false, [], Some, refl, sym, ap, subst, arith, IsChecked, fits, Meanings, Table, occurs, Val, is_set, has_same, without_nth, and_item, with_ended_item, leaves_item_out, number_in, complete, dropped_by_completing, Place, Column, is_root, up, is_set_item, takes_item, as_items, ItemsKind, Tree, whole, begun, Trees, no_trees, branch, tree_nth, tree_at, change_at, and_last, shape_in, child_as, count_trees, tree_occurs, trees_occur, Mode, strict, deferred, State, cursor_shape, cursor_tree, AreTouched, IsTouched, Suits, AllOff, OffBut, Leads, BeganAbove, IsInOrder}
-use Rattle.fr_model.proofs.Basis.{leads_child, Made, suits_at, suits_changed, off_change, leads_left, leads_deferred, made_at, whole_off, SuitFrom, change_holds}
+use Rattle.fr_model.proofs.Common.{ℕ, zero, suc, Bool, true, false, [], Some, refl, sym, ap, subst, arith, IsChecked, fits, Meanings, Table, occurs, Val, is_set, has_same, without_nth, and_item, with_ended_item, leaves_item_out, number_in, complete, dropped_by_completing, Place, Column, is_root, up, is_set_item, takes_item, above, puts, as_items, ItemsKind, Tree, whole, begun, Trees, no_trees, branch, tree_nth, tree_at, change_at, and_last, shape_in, child_as, count_trees, tree_occurs, trees_occur, Mode, strict, deferred, State, cursor_shape, cursor_tree, AreTouched, IsTouched, Suits, AllOff, OffBut, Leads, BeganAbove, IsInOrder}
+use Rattle.fr_model.proofs.Basis.{LawfulIn, completing_makes, may_work, leads_child, Made, suits_at, suits_changed, off_change, leads_left, leads_deferred, made_at, whole_off, SuitFrom, change_holds}
 use Rattle.fr_model.proofs.Collections.{all_last}
 use Rattle.fr_model.proofs.Items.{last_suits, last_touched, last_holds}
 use Rattle.fr_model.proofs.Wholes.{either_way}
@@ -15,6 +15,50 @@ loosened (deferred start) = deferred start
 leads_above : (mode : Mode) (here : Place) (t : Tree) → Leads mode here t → Leads (loosened mode) (up here) t
 leads_above strict here t leads = leads_left 0 here t (leads_deferred 0 here t leads)
 leads_above (deferred start) here t leads = leads_left start here t leads
+
+-- What is converted as its source ends
+
+-- the place above is whole, and the cursor goes up to it
+leads_converted : (mode : Mode) (here : Place) (t : Tree) (v : Val) → is_root here ≡ false → Leads mode here t
+    → Leads mode (up here) (change_at (up here) (λ old. whole v) t)
+leads_converted mode [] t v root leads = cc
+leads_converted mode (i ∷ []) t v root leads = tt
+leads_converted mode (i ∷ j ∷ here) (begun tracker ts) v root leads =
+    off_change mode i (λ child. Leads mode (j ∷ here) child) (λ child. Leads mode _ child)
+    (λ child. change_at _ (λ old. whole v) child) ts (λ child. leads_converted mode (j ∷ here) _ v refl child) leads
+leads_converted mode (i ∷ j ∷ here) _ v root leads = absurd leads
+
+-- what the place above makes
+pub made_above : (column : Column) (hooks : Meanings) (table : Table) (root : ℕ) (state : State) (v : Val)
+    → LawfulIn hooks (cursor_tree (above state)) → IsChecked table
+    → complete column hooks table (cursor_shape table root (above state)) (cursor_tree (above state)) ≡ Some v
+    → IsInOrder table root state → Made table (cursor_shape table root (above state))
+    (λ k. dropped_by_completing column hooks table (cursor_shape table root (above state)) (cursor_tree (above state)) k)
+    (λ k. tree_occurs (cursor_tree (above state)) k) v
+made_above column hooks table root state v lawful checked e order =
+    completing_makes column hooks table (cursor_tree (above state)) (cursor_shape table root (above state)) v lawful checked
+    (suits_at (loosened state.mode) table root (up state.cursor) state.tree
+    (leads_above state.mode state.cursor state.tree order.leads) order.suits) e
+
+pub converted_in_order : (column : Column) (hooks : Meanings) (table : Table) (root : ℕ) (state : State) (v : Val)
+    → LawfulIn hooks (cursor_tree (above state)) → IsChecked table → is_root state.cursor ≡ false
+    → BeganAbove state.mode (up state.cursor)
+    → complete column hooks table (cursor_shape table root (above state)) (cursor_tree (above state)) ≡ Some v
+    → IsInOrder table root state → IsInOrder table root (puts (above state) v)
+converted_in_order column hooks table root state v lawful checked below began e order =
+    let made = made_above column hooks table root state v lawful checked e order in
+    record {
+      suits = suits_changed (loosened state.mode) table root (up state.cursor) state.tree (λ old. whole v)
+          (leads_above state.mode state.cursor state.tree order.leads) order.suits tt made.fit;
+      leads = leads_converted state.mode state.cursor state.tree v below order.leads;
+      began = began;
+    }
+
+pub converted_holds : (state : State) (v : Val) (token : ℕ) → Leads state.mode state.cursor state.tree
+    → tree_occurs (puts (above state) v).tree token + tree_occurs (cursor_tree (above state)) token
+    ≡ tree_occurs state.tree token + occurs v token
+converted_holds state v token leads =
+    change_holds _ _ state.tree (λ old. whole v) token (leads_above state.mode state.cursor state.tree leads)
 
 -- An item of a set
 
@@ -86,23 +130,25 @@ with_holds ts v token = go _
     go false = let last = last_holds ts (whole v) token in omega arith
 
 -- the cursor goes up from it
-leads_took : (mode : Mode) (here : Place) (t : Tree) (v : Val) → is_root here ≡ false → Leads mode here t
+leads_took : (mode : Mode) (here : Place) (t : Tree) (v : Val) → is_root here ≡ false → is_set (tree_at (up here) t) ≡ true
+    → Leads mode here t
     → Leads mode (up here) (change_at (up here) (with_ended_item (number_in here) v) t)
-leads_took mode [] t v root leads = cc
-leads_took mode (i ∷ []) (begun tracker ts) v root leads =
-    with_off mode _ v (without_off mode i (λ child. Leads mode [] child) ts leads)
-leads_took mode (i ∷ []) _ v root leads = absurd leads
-leads_took mode (i ∷ j ∷ here) (begun tracker ts) v root leads =
+leads_took mode [] t v root of_set leads = cc
+leads_took mode (i ∷ []) (begun (as_items ItemsKind.Set) ts) v root of_set leads =
+    (may_work mode _ refl, with_off mode _ v (without_off mode i (λ child. Leads mode [] child) ts leads))
+leads_took mode (i ∷ []) (begun _ ts) v root of_set leads = cc
+leads_took mode (i ∷ []) _ v root of_set leads = absurd leads
+leads_took mode (i ∷ j ∷ here) (begun tracker ts) v root of_set leads =
     off_change mode i (λ child. Leads mode (j ∷ here) child) (λ child. Leads mode _ child)
     (λ child. change_at _ (with_ended_item (number_in (j ∷ here)) v) child) ts
-    (λ child. leads_took mode (j ∷ here) _ v refl child) leads
-leads_took mode (i ∷ j ∷ here) _ v root leads = absurd leads
+    (λ child. leads_took mode (j ∷ here) _ v refl of_set child) leads
+leads_took mode (i ∷ j ∷ here) _ v root of_set leads = absurd leads
 
 pub took_in_order : (column : Column) (hooks : Meanings) (table : Table) (root : ℕ) (state : State) (v : Val)
-    → IsChecked table → is_root state.cursor ≡ false → is_set_item state ≡ true → BeganAbove state.mode (up state.cursor)
+    → LawfulIn hooks (cursor_tree state) → IsChecked table → is_root state.cursor ≡ false → is_set_item state ≡ true → BeganAbove state.mode (up state.cursor)
     → complete column hooks table (cursor_shape table root state) (cursor_tree state) ≡ Some v
     → IsInOrder table root state → IsInOrder table root (takes_item state v)
-took_in_order column hooks table root state v checked below of_set began e order = record {
+took_in_order column hooks table root state v lawful checked below of_set began e order = record {
   suits = suits_changed (loosened state.mode) table root (up state.cursor) state.tree
       (with_ended_item (number_in state.cursor) v) above order.suits
       (subst (λ (u : Tree). IsTouched (with_ended_item (number_in state.cursor) v u)) (sym at.is) tt)
@@ -113,7 +159,7 @@ took_in_order column hooks table root state v checked below of_set began e order
         with_touched (without_nth (number_in state.cursor) at.children) v
             (without_touched (number_in state.cursor) at.children there.2),
       ));
-  leads = leads_took state.mode state.cursor state.tree v below order.leads;
+  leads = leads_took state.mode state.cursor state.tree v below of_set order.leads;
   began = began;
 }
   where
@@ -129,7 +175,7 @@ took_in_order column hooks table root state v checked below of_set began e order
     made : Made table (cursor_shape table root state)
         (λ k. dropped_by_completing column hooks table (cursor_shape table root state) (cursor_tree state) k)
         (λ k. tree_occurs (cursor_tree state) k) v
-    made = made_at column hooks table root state v checked e order
+    made = made_at column hooks table root state v lawful checked e order
 
     there : Suits table set_shape (begun (as_items ItemsKind.Set) at.children)
     there =

@@ -1,7 +1,7 @@
 -- At the end of deferred mode: a place off the way is closed, or something fails in it.
 use Rattle.std.proofs.Common.{◌≡◌, ◌||◌, ◌∷◌, ◌++◌}
-use Rattle.fr_model.proofs.Common.{ℕ, zero, suc, Bool, true, false, not, is_none, is_some, List, [], Option, Some, None, refl, sym, ◌∙◌, ap, ap₂, option_map, option_or, Field, ReflectErrorKind, DeferredRule, filled, marked_without_default, missing, by_deferred_rule, Meanings, is_nil, Table, Val, Vals, PathStep, deferred_column, child_count, one_more, each_child, fill_of_field, fill_at, step_as, Tracker, as_fields, Tree, hole, entered, whole, begun, Trees, no_trees, branch, child_as, holes, complete, complete_all, failing_child, unless_failing, unless_there, valid_child, hole_takes, missing_child, unmet_by, unmet_mark_of, unmet_mark, first_unmet, first_missing, first_invalid, lack_of_begun, own_lack, Failure, failure_at, or_itself, failures, failures_among, closed}
-use Rattle.fr_model.proofs.Basis.{no_made, made_or_lacks}
+use Rattle.fr_model.proofs.Common.{ℕ, zero, suc, Bool, true, false, not, is_none, is_some, List, [], Option, Some, None, refl, sym, ◌∙◌, ap, ap₂, option_map, option_or, Field, ReflectErrorKind, DeferredRule, filled, marked_without_default, missing, by_deferred_rule, Meanings, is_nil, Table, Val, Vals, PathStep, deferred_column, child_count, one_more, each_child, fill_of_field, fill_at, step_as, Tracker, as_fields, Tree, hole, entered, whole, begun, Trees, no_trees, branch, child_as, holes, complete, complete_all, failing_child, unless_there, valid_child, hole_takes, missing_child, unmet_by, unmet_mark_of, unmet_mark, first_unmet, first_missing, first_invalid, lack_of_begun, own_lack, Failure, failing_path, failure_at, or_itself, failures, failures_among, closed}
+use Rattle.fr_model.proofs.Basis.{no_made, made_or_lacks, none_valid, some_or}
 
 -- tests
 
@@ -10,10 +10,6 @@ swap_or true b c d = refl
 swap_or false true true d = refl
 swap_or false true false d = refl
 swap_or false false c d = refl
-
-pub some_or : (a b : Option ReflectErrorKind) → is_some (option_or a b) ≡ (is_some a || is_some b)
-some_or (Some kind) b = refl
-some_or None b = refl
 
 none_more : (value : Option Val) (values : Option Vals) → is_none (one_more value values) ≡ (is_none value || is_none values)
 none_more None values = refl
@@ -32,7 +28,7 @@ failure_there : (path : List PathStep) (lacking : Option ReflectErrorKind) → n
 failure_there path (Some kind) = refl
 failure_there path None = refl
 
-itself_there : (beneath : List Failure) (path : List PathStep) (lacking : Option ReflectErrorKind)
+pub itself_there : (beneath : List Failure) (path : List PathStep) (lacking : Option ReflectErrorKind)
     → not (is_nil (or_itself beneath (failure_at path lacking))) ≡ (not (is_nil beneath) || is_some lacking)
 itself_there [] path lacking = failure_there path lacking
 itself_there (failure ∷ beneath) path lacking = refl
@@ -64,13 +60,6 @@ child_and_rest value values failed u m f fails us ms fs here there =
 
 -- one child
 
-none_valid : (failing : Option ReflectErrorKind) (value : Option Val)
-    → is_none (unless_failing failing value) ≡ (is_none value || is_some failing)
-none_valid (Some kind) (Some v) = refl
-none_valid (Some kind) None = refl
-none_valid None (Some v) = refl
-none_valid None None = refl
-
 -- a hole that is marked and has no default takes nothing
 marked_field_takes_none : (table : Table) (s : ℕ) (selected : Option ℕ) (found : Option Field)
     → (is_some (unmet_mark_of table s found) || is_none (fill_of_field deferred_column table s (is_some selected) found))
@@ -96,10 +85,11 @@ hole_lacks : (hooks : Meanings) (table : Table) (s : ℕ) (tracker : Tracker) (i
     ≡ lacks false (unmet_mark table s tracker i)
     (unless_there (hole_takes deferred_column table s tracker i) (missing_child s tracker i))
     (failing_child hooks table s tracker i (hole_takes deferred_column table s tracker i))
-hole_lacks hooks table s tracker i = go _ _ _ (marked_takes_none table s tracker i)
+hole_lacks hooks table s tracker i =
+    none_valid hooks table s tracker i (hole_takes deferred_column table s tracker i) ∙ go _ _ _ (marked_takes_none table s tracker i)
   where
     go : (takes : Option Val) (unmet failing : Option ReflectErrorKind) → (is_some unmet || is_none takes) ≡ is_none takes
-        → is_none (unless_failing failing takes) ≡ lacks false unmet (unless_there takes (missing_child s tracker i)) failing
+        → (is_none takes || is_some failing) ≡ lacks false unmet (unless_there takes (missing_child s tracker i)) failing
     go (Some v) (Some kind) failing e = cc
     go (Some v) None (Some other) e = refl
     go (Some v) None None e = refl
@@ -112,7 +102,7 @@ child_lacks : (hooks : Meanings) (table : Table) (s : ℕ) (tracker : Tracker) (
     → is_none value ≡ failed → is_none (valid_child hooks table s tracker i value)
     ≡ lacks failed None None (failing_child hooks table s tracker i value)
 child_lacks hooks table s tracker i value failed e =
-    none_valid _ value ∙ ap (λ (b : Bool). b || is_some (failing_child hooks table s tracker i value)) e
+    none_valid hooks table s tracker i value ∙ ap (λ (b : Bool). b || is_some (failing_child hooks table s tracker i value)) e
 
 -- an entered place is as one that is begun with holes alone
 
@@ -168,7 +158,7 @@ mutual
       none_mapped whole (complete deferred_column hooks table s (begun tracker ts))
       ∙ no_made tracker (complete_all deferred_column hooks table s tracker 0 ts)
       ∙ all_complete_or_fail hooks table s tracker 0 path ts
-      ∙ sym (itself_there (failures_among hooks table s tracker 0 path ts) path (lack_of_begun hooks table s tracker ts))
+      ∙ sym (itself_there (failures_among hooks table s tracker 0 path ts) (failing_path tracker path) (lack_of_begun hooks table s tracker ts))
   completes_or_fails hooks table s path _ = refl
 
   pub all_complete_or_fail : (hooks : Meanings) (table : Table) (s : ℕ) (tracker : Tracker) (i : ℕ) (path : List PathStep)

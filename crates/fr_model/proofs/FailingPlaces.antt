@@ -1,8 +1,9 @@
 -- Which places fail at the end of deferred mode: each failure is that of a place, and so is each off the way; and what that end is where
 -- every place off the way is whole or a hole.
-use Rattle.std.proofs.Common.{◌≡◌, ◌+◌, ◌<◌, ◌∷◌, ◌++◌, ◌≢◌, ◌⊎◌}
-use Rattle.fr_model.proofs.Common.{ℕ, zero, suc, List, [], append-nil, append_assoc, Option, Some, None, refl, ◌∙◌, ap, ap₂, subst, arith, Contains, option_map, Contains-append_left, Contains-append_right, ReflectErrorKind, Meanings, Table, PathStep, own_lack, lack_of_begun, Failure, failure_at, or_itself, failures, failures_among, IsHalfDone, LackingFails, NothingFailsOfDone, FinishOfDone, closed, one_more_tree, closed_all, closed_but, finished, failures_but, failures_off, IsOffTheWay, step_as, steps_in, Place, HasPlace, Tracker, strict, Tree, hole, entered, begun, Trees, no_trees, branch, tree_nth, change_nth, tree_at, change_at, child_as, shape_in, count_trees, IsOff, AllOff, AtCursor, OffBut, Leads, inl, inr, ⊎_elim, false, not, is_none, sym, Contains-append_cases, is_nil, FailsAt, FailsOff, FailuresLieThere, EachFailureHasItsPlace, EachFailureOfATreeHasItsPlace}
+use Rattle.std.proofs.Common.{◌≡◌, ◌+◌, ◌<◌, ◌∷◌, ◌++◌, ◌≢◌, ◌⊎◌, if◌then◌else◌}
+use Rattle.fr_model.proofs.Common.{ℕ, zero, suc, List, [], append-nil, append_assoc, Option, Some, None, refl, ◌∙◌, ap, ap₂, subst, arith, Contains, option_map, Contains-append_left, Contains-append_right, ReflectErrorKind, Meanings, Table, PathStep, own_lack, lack_of_begun, Failure, failure_at, or_itself, failures, failures_among, IsHalfDone, turn_of, HasATurn, ChildrenAreOff, failures_beneath, failures_here, failing_path, Bool, true, is_conversion, is_begun_conversion, child_tree, LackingFails, NothingFailsOfDone, FinishOfDone, closed, one_more_tree, closed_all, closed_but, finished, failures_but, failures_off, IsOffTheWay, step_as, steps_in, Place, HasPlace, Tracker, strict, Tree, hole, entered, begun, Trees, no_trees, branch, tree_nth, change_nth, tree_at, change_at, child_as, shape_in, count_trees, IsOff, AllOff, OffBut, Leads, inl, inr, ⊎_elim, false, not, is_none, sym, Contains-append_cases, is_nil, FailsAt, FailsOff, FailuresLieThere, EachFailureHasItsPlace, EachFailureOfATreeHasItsPlace}
 use Rattle.fr_model.proofs.Basis.{leads_child}
+use Rattle.fr_model.proofs.Closing.{turn_beneath}
 use Rattle.fr_model.proofs.Failing.{completes_or_fails}
 
 -- one of no failures, and of those of a place
@@ -45,7 +46,8 @@ module _ (hooks : Meanings) (table : Table) where
 
 pub nothing_fails_of_done : NothingFailsOfDone
 nothing_fails_of_done hooks table s path cursor hole leads = refl
-nothing_fails_of_done hooks table s path [] (begun tracker ts) leads = all_done_fail_not hooks table s tracker 0 path ts leads
+nothing_fails_of_done hooks table s path [] (begun tracker ts) leads =
+    rw leads.0 (all_done_fail_not hooks table s tracker 0 path ts leads.1)
 nothing_fails_of_done hooks table s path (i ∷ cursor) (begun tracker ts) leads =
     but_done_fail_not hooks table s tracker i
     (λ (shape : ℕ) (to : List PathStep) (t : Tree). failures_off hooks table shape to cursor t)
@@ -53,15 +55,59 @@ nothing_fails_of_done hooks table s path (i ∷ cursor) (begun tracker ts) leads
     (λ shape to t below. nothing_fails_of_done hooks table shape to cursor t below) leads
 nothing_fails_of_done hooks table s path cursor _ leads = refl
 
+-- Where a place has its turn
+
+pub turn_below : (i : ℕ) (here : Place) (tree : Tree) → turn_of (i ∷ here) tree ≡ i ∷ turn_of here (child_tree i tree)
+turn_below i here tree = go (is_begun_conversion (tree_at here (child_tree i tree)))
+  where
+    go : (b : Bool) → (if b then i ∷ (here ++ 0 ∷ []) else i ∷ here) ≡ i ∷ (if b then here ++ 0 ∷ [] else here)
+    go true = refl
+    go false = refl
+
+-- the path to the turn of a place that is begun
+turn_path : (path : List PathStep) (tracker : Tracker) (ts : Trees)
+    → failing_path tracker path ≡ path ++ steps_in (turn_of [] (begun tracker ts)) (begun tracker ts)
+turn_path path tracker ts = go (is_conversion tracker)
+  where
+    go : (b : Bool) → (if b then path ++ step_as tracker 0 ∷ [] else path)
+        ≡ path ++ steps_in (if b then 0 ∷ [] else []) (begun tracker ts)
+    go true = refl
+    go false = sym (append-nil path)
+
+-- and from the place above another
+path_below : (path : List PathStep) (tracker : Tracker) (i : ℕ) (here : Place) (ts : Trees)
+    → (path ++ step_as tracker i ∷ []) ++ steps_in (turn_of here (tree_nth i ts)) (tree_nth i ts)
+    ≡ path ++ steps_in (turn_of (i ∷ here) (begun tracker ts)) (begun tracker ts)
+path_below path tracker i here ts =
+    append_assoc path (step_as tracker i ∷ []) (steps_in (turn_of here (tree_nth i ts)) (tree_nth i ts))
+    ∙ ap (λ (way : Place). path ++ steps_in way (begun tracker ts)) (sym (turn_below i here (begun tracker ts)))
+
+-- seen from a conversion at which the builder works each place in it has a turn
+turn_within : (here : Place) (t : Tree) → is_begun_conversion t ≡ true → HasATurn [] here t
+turn_within [] t conversion = inr (refl, conversion)
+turn_within (i ∷ here) t conversion = inl (λ way e. cc)
+
+-- what fails in a conversion, or else among the children of a place
+in_either : (hooks : Meanings) (table : Table) (s : ℕ) (path : List PathStep) (tracker : Tracker) (ts : Trees) (f : Failure)
+    → Contains (failures hooks table s path (begun tracker ts)) f → Contains (failures_among hooks table s tracker 0 path ts) f
+    → Contains (failures_here hooks table s path tracker ts) f
+in_either hooks table s path tracker ts f all beneath = go (is_conversion tracker)
+  where
+    go : (b : Bool) → Contains
+        (if b then failures hooks table s path (begun tracker ts) else failures_among hooks table s tracker 0 path ts) f
+    go true = all
+    go false = beneath
+
 -- A place that lacks something
 
 module _ (hooks : Meanings) (table : Table) where
-  fails_itself : (s : ℕ) (path : List PathStep) (t : Tree) (kind : ReflectErrorKind) → IsHalfDone t → AtCursor strict t
-      → own_lack hooks table s t ≡ Some kind → Contains (failures hooks table s path t) (record { path = path; kind = kind })
-  fails_itself s path entered kind half at lacks = rw lacks (0, omega arith, refl)
-  fails_itself s path (begun tracker ts) kind half at lacks =
-      rw (all_done_fail_not hooks table s tracker 0 path ts at, lacks) (0, omega arith, refl)
-  fails_itself s path _ kind half at lacks = absurd half
+  fails_itself : (s : ℕ) (path : List PathStep) (t : Tree) (kind : ReflectErrorKind) → IsHalfDone t → ChildrenAreOff t
+      → own_lack hooks table s t ≡ Some kind
+      → Contains (failures hooks table s path t) (record { path = path ++ steps_in (turn_of [] t) t; kind = kind })
+  fails_itself s path entered kind half off lacks = rw (append-nil path, lacks) (0, omega arith, refl)
+  fails_itself s path (begun tracker ts) kind half off lacks =
+      rw (← turn_path path tracker ts) (rw (all_done_fail_not hooks table s tracker 0 path ts off, lacks) (0, omega arith, refl))
+  fails_itself s path _ kind half off lacks = absurd half
 
   -- one of the children from number k on fails
   nth_fails : (s : ℕ) (tracker : Tracker) (further k : ℕ) (path : List PathStep) (ts : Trees) (i : ℕ) (f : Failure)
@@ -99,21 +145,20 @@ module _ (hooks : Meanings) (table : Table) where
 
 -- the failure of a place that lacks this
 abbrev failing : (path : List PathStep) (here : Place) (tree : Tree) (kind : ReflectErrorKind) → Failure
-failing path here tree kind = record { path = path ++ steps_in here tree; kind = kind }
+failing path here tree kind = record { path = path ++ steps_in (turn_of here tree) tree; kind = kind }
 
 -- a child's failure is that of its place in the parent
 in_parent : (path : List PathStep) (tracker : Tracker) (i : ℕ) (here : Place) (ts : Trees) (kind : ReflectErrorKind)
     (fs : List Failure) → Contains fs (failing (path ++ step_as tracker i ∷ []) here (tree_nth i ts) kind)
     → Contains fs (failing path (i ∷ here) (begun tracker ts) kind)
 in_parent path tracker i here ts kind fs has =
-    subst (λ (to : List PathStep). Contains fs (record { path = to; kind = kind }))
-    (append_assoc path (step_as tracker i ∷ []) (steps_in here (tree_nth i ts))) has
+    subst (λ (to : List PathStep). Contains fs (record { path = to; kind = kind })) (path_below path tracker i here ts) has
 
 -- a place lacks something by itself, its children being whole or holes
 record Lacks (hooks : Meanings) (table : Table) (s : ℕ) (here : Place) (tree : Tree) (kind : ReflectErrorKind) : Type 0 where
   pub place : HasPlace here tree
   pub half : IsHalfDone (tree_at here tree)
-  pub done : AtCursor strict (tree_at here tree)
+  pub done : ChildrenAreOff (tree_at here tree)
   pub lacks : own_lack hooks table (shape_in table s here tree) (tree_at here tree) ≡ Some kind
 
 lacks_beneath : (hooks : Meanings) (table : Table) (s i : ℕ) (here : Place) (tracker : Tracker) (ts : Trees) (kind : ReflectErrorKind)
@@ -125,9 +170,9 @@ module _ (hooks : Meanings) (table : Table) (kind : ReflectErrorKind) where
   fails_beneath : (s : ℕ) (path : List PathStep) (here : Place) (tree : Tree) → Lacks hooks table s here tree kind
       → Contains (failures hooks table s path tree) (failing path here tree kind)
   fails_beneath s path [] tree those =
-      rw (append-nil path) (fails_itself hooks table s path tree kind those.half those.done those.lacks)
+      fails_itself hooks table s path tree kind those.half those.done those.lacks
   fails_beneath s path (i ∷ here) (begun tracker ts) those =
-      keeps_beneath (failures_among hooks table s tracker 0 path ts) (failure_at path (lack_of_begun hooks table s tracker ts))
+      keeps_beneath (failures_among hooks table s tracker 0 path ts) (failure_at (failing_path tracker path) (lack_of_begun hooks table s tracker ts))
       (failing path (i ∷ here) (begun tracker ts) kind)
       (nth_fails hooks table s tracker i 0 path ts i (failing path (i ∷ here) (begun tracker ts) kind) (omega arith) those.place.0
       (in_parent path tracker i here ts kind
@@ -145,16 +190,27 @@ module _ (hooks : Meanings) (table : Table) (kind : ReflectErrorKind) where
       (fails_beneath (child_as table s tracker i) (path ++ step_as tracker i ∷ []) here (tree_nth i ts)
       (lacks_beneath hooks table s i here tracker ts kind those))
 
-  lacks_off : (s : ℕ) (path : List PathStep) (cursor here : Place) (tree : Tree) → IsOffTheWay cursor here
+  lacks_off : (s : ℕ) (path : List PathStep) (cursor here : Place) (tree : Tree) → HasATurn cursor here tree
       → Lacks hooks table s here tree kind → Contains (failures_off hooks table s path cursor tree) (failing path here tree kind)
-  lacks_off s path cursor [] tree off those = absurd (off cursor refl)
+  lacks_off s path cursor [] tree (inl off) those = absurd (off cursor refl)
+  lacks_off s path cursor [] tree (inr (at, conversion)) those =
+      subst (λ (place : Place). Contains (failures_off hooks table s path place tree) (failing path [] tree kind)) (sym at)
+      (within tree conversion (fails_beneath s path [] tree those))
+    where
+      within : (t : Tree) → is_begun_conversion t ≡ true → {f : Failure} → Contains (failures hooks table s path t) f
+          → Contains (failures_off hooks table s path [] t) f
+      within (begun tracker ts) conversion {f} has = subst (λ (b : Bool). Contains
+          (if b then failures hooks table s path (begun tracker ts) else failures_among hooks table s tracker 0 path ts) f)
+          (sym conversion) has
+      within _ conversion {f} has = cc
   lacks_off s path [] (i ∷ here) (begun tracker ts) off those =
-      nth_fails hooks table s tracker i 0 path ts i _ (omega arith) those.place.0 (child_fails s path i here tracker ts those)
+      in_either hooks table s path tracker ts _ (fails_beneath s path (i ∷ here) (begun tracker ts) those)
+      (nth_fails hooks table s tracker i 0 path ts i _ (omega arith) those.place.0 (child_fails s path i here tracker ts those))
   lacks_off s path (c ∷ cursor) (i ∷ here) (begun tracker ts) off those =
       nth_fails_but hooks table s tracker c
       (λ (shape : ℕ) (to : List PathStep) (t : Tree). failures_off hooks table shape to cursor t) i 0 path ts i
       _ (omega arith) those.place.0 (child_fails s path i here tracker ts those) (λ same. in_parent path tracker i here ts kind _
-      (lacks_off (child_as table s tracker i) _ cursor here _ (λ way e. off way (ap₂ (λ (k : ℕ) (rest : Place). k ∷ rest) same e))
+      (lacks_off (child_as table s tracker i) _ cursor here _ (turn_beneath c i cursor here tracker ts same off)
       (lacks_beneath hooks table s i here tracker ts kind those)))
   lacks_off s path cursor (i ∷ here) _ off those = absurd those.place
 
@@ -253,13 +309,18 @@ others_none : (some others : List Failure) → some ++ others ≡ [] → others 
 others_none [] others e = e
 others_none (f ∷ some) others e = cc
 
+-- a place has a turn that lies so in the child of this number, which is this tree
+abbrev TurnIn : (cursor : Place) → (i : ℕ) → (here : Place) → Tree → Type 0
+TurnIn cursor i here child = IsOffTheWay cursor (i ∷ here) ⊎ ((cursor ≡ i ∷ here) × (is_begun_conversion (tree_at here child) ≡ true))
+
 -- beneath another child than the one on the way
 beside : (c i : ℕ) (cursor here : Place) → c ≢ i → IsOffTheWay (c ∷ cursor) (i ∷ here)
 beside c i cursor here other way e = other cc
 
--- off the way in the child on the way
-within_child : (c i : ℕ) (cursor here : Place) → c ≡ i → IsOffTheWay cursor here → IsOffTheWay (c ∷ cursor) (i ∷ here)
-within_child c i cursor here same off way e = off way cc
+-- a turn in the child on the way
+within_child : (c i : ℕ) (cursor here : Place) (t : Tree) → c ≡ i → HasATurn cursor here t → TurnIn (c ∷ cursor) i here t
+within_child c i cursor here t same (inl off) = inl (λ way e. off way cc)
+within_child c i cursor here t same (inr (at, conversion)) = inr (ap₂ (λ (k : ℕ) (rest : Place). k ∷ rest) same at, conversion)
 
 module _ (hooks : Meanings) (table : Table) where
   -- where nothing fails, everything closes
@@ -293,15 +354,17 @@ module _ (hooks : Meanings) (table : Table) (f : Failure) where
     here = i ∷ fails.here;
     place = (within, fails.place);
     half = fails.half;
-    at = fails.at ∙ append_assoc path _ _;
+    at = fails.at ∙ path_below path tracker i fails.here ts;
     lacks = fails.lacks;
     children = fails.children;
-    beneath = fails.beneath;
+    beneath = subst (λ (to : List PathStep). failures_beneath hooks table
+        (shape_in table (child_as table s tracker i) fails.here (tree_nth i ts)) to (tree_at fails.here (tree_nth i ts)) ≡ [])
+        (append_assoc path (step_as tracker i ∷ []) (steps_in fails.here (tree_nth i ts))) fails.beneath;
   }
 
   off_child : (s : ℕ) (tracker : Tracker) (path : List PathStep) (ts : Trees) (cursor : Place) (i : ℕ) → i < count_trees ts
       → (fails : FailsAt hooks table (child_as table s tracker i) (path ++ step_as tracker i ∷ []) (tree_nth i ts) f)
-      → IsOffTheWay cursor (i ∷ fails.here) → FailsOff hooks table s path cursor (begun tracker ts) f
+      → TurnIn cursor i fails.here (tree_nth i ts) → FailsOff hooks table s path cursor (begun tracker ts) f
   unfolding at_child
   off_child s tracker path ts cursor i within fails off = record { fails = at_child s tracker path ts i within fails; off = off }
 
@@ -318,14 +381,14 @@ module _ (hooks : Meanings) (table : Table) (f : Failure) where
 
   record OffAmong (s : ℕ) (tracker : Tracker) (k : ℕ) (path : List PathStep) (ts : Trees) (cursor : Place) : Type 0 where
     pub child : FailsAmong s tracker k path ts
-    pub off : IsOffTheWay cursor (child.i ∷ child.fails.here)
+    pub off : TurnIn cursor child.i child.fails.here (tree_nth child.further ts)
 
   off_of_child : (s : ℕ) (tracker : Tracker) (path : List PathStep) (ts : Trees) (cursor : Place)
       → OffAmong s tracker 0 path ts cursor → FailsOff hooks table s path cursor (begun tracker ts) f
   off_of_child s tracker path ts cursor among =
       subst (λ (m : ℕ). m < count_trees ts
       → (fails : FailsAt hooks table (child_as table s tracker among.child.i) (path ++ step_as tracker among.child.i ∷ [])
-      (tree_nth m ts) f) → IsOffTheWay cursor (among.child.i ∷ fails.here) → FailsOff hooks table s path cursor _ f) same
+      (tree_nth m ts) f) → TurnIn cursor among.child.i fails.here (tree_nth m ts) → FailsOff hooks table s path cursor _ f) same
       (off_child s tracker path ts cursor among.child.i) among.child.within among.child.fails among.off
     where
       same : among.child.i ≡ among.child.further
@@ -344,16 +407,17 @@ module _ (hooks : Meanings) (table : Table) (f : Failure) where
   }
 
   begun_fails : (s : ℕ) (path : List PathStep) (tracker : Tracker) (ts : Trees)
-      → failures_among hooks table s tracker 0 path ts ≡ [] → IsItself path (lack_of_begun hooks table s tracker ts) f
+      → failures_among hooks table s tracker 0 path ts ≡ []
+      → IsItself (failing_path tracker path) (lack_of_begun hooks table s tracker ts) f
       → FailsAt hooks table s path (begun tracker ts) f
   begun_fails s path tracker ts none itself = record {
     here = [];
     place = tt;
     half = tt;
-    at = itself.at ∙ sym (append-nil path);
+    at = itself.at ∙ turn_path path tracker ts;
     lacks = itself.lacks;
     children = λ i. all_close hooks table s tracker 0 path ts none i i (omega arith);
-    beneath = subst (λ (to : List PathStep). failures_among hooks table s tracker 0 to ts ≡ []) (sym itself.at) none;
+    beneath = subst (λ (to : List PathStep). failures_among hooks table s tracker 0 to ts ≡ []) (sym (append-nil path)) none;
   }
 
   first_among : (s : ℕ) (tracker : Tracker) (k : ℕ) (path : List PathStep) (t : Tree) (ts : Trees)
@@ -375,7 +439,7 @@ module _ (hooks : Meanings) (table : Table) (f : Failure) where
     fails_at s path entered has = entered_fails s path (of_itself path (own_lack hooks table s entered) f has)
     fails_at s path (begun tracker ts) has =
         ⊎_elim (λ beneath. of_child s tracker path ts (fails_among s tracker 0 path ts beneath))
-        (λ itself. begun_fails s path tracker ts itself.0 (of_itself path (lack_of_begun hooks table s tracker ts) f itself.1))
+        (λ itself. begun_fails s path tracker ts itself.0 (of_itself (failing_path tracker path) (lack_of_begun hooks table s tracker ts) f itself.1))
         (beneath_or_itself _ _ f has)
     fails_at s path _ has = absurd (of_none f has)
 
@@ -399,17 +463,17 @@ module _ (hooks : Meanings) (table : Table) (f : Failure) where
       ⊎_elim
       (λ first. let there = step (child_as table s tracker k) (path ++ step_as tracker k ∷ []) t first in record {
         child = first_among s tracker k path t ts there.fails;
-        off = within_child c k cursor there.fails.here (omega arith) there.off;
+        off = within_child c k cursor there.fails.here t (omega arith) there.off;
       })
       (λ later. let rest = fails_among s tracker (suc k) path ts later in record {
         child = later_among s tracker k path t ts rest;
-        off = beside c rest.i cursor rest.fails.here (omega (arith, rest.number));
+        off = inl (beside c rest.i cursor rest.fails.here (omega (arith, rest.number)));
       }) (Contains-append_cases _ (failures_among hooks table s tracker (suc k) path ts) f has)
   fails_but s tracker (suc on_way) below k path (branch t ts) c cursor is step has =
       ⊎_elim
       (λ first. let there = fails_at (child_as table s tracker k) (path ++ step_as tracker k ∷ []) t first in record {
         child = first_among s tracker k path t ts there;
-        off = beside c k cursor there.here (omega arith);
+        off = inl (beside c k cursor there.here (omega arith));
       })
       (λ later. let rest = fails_but s tracker on_way below (suc k) path ts c cursor (omega arith) step later in record {
         child = later_among s tracker k path t ts rest.child;
@@ -419,9 +483,17 @@ module _ (hooks : Meanings) (table : Table) (f : Failure) where
   fails_off : (s : ℕ) (path : List PathStep) (cursor : Place) (t : Tree)
       → Contains (failures_off hooks table s path cursor t) f → FailsOff hooks table s path cursor t f
   fails_off s path cursor hole has = absurd (of_none f has)
-  fails_off s path [] (begun tracker ts) has =
-      let child = fails_among s tracker 0 path ts has in
-      off_of_child s tracker path ts [] (record { child = child; off = λ way e. cc })
+  fails_off s path [] (begun tracker ts) has = go (is_conversion tracker) refl has
+    where
+      go : (b : Bool) → is_conversion tracker ≡ b → Contains
+          (if b then failures hooks table s path (begun tracker ts) else failures_among hooks table s tracker 0 path ts) f
+          → FailsOff hooks table s path [] (begun tracker ts) f
+      go true conversion has =
+          let fails = fails_at s path (begun tracker ts) has in
+          record { fails = fails; off = turn_within fails.here (begun tracker ts) conversion }
+      go false apart has =
+          let child = fails_among s tracker 0 path ts has in
+          off_of_child s tracker path ts [] (record { child = child; off = inl (λ way e. cc) })
   fails_off s path (c ∷ cursor) (begun tracker ts) has =
       off_of_child s tracker path ts (c ∷ cursor)
       (fails_but s tracker c (λ (shape : ℕ) (to : List PathStep) (t : Tree). failures_off hooks table shape to cursor t) 0 path ts c

@@ -150,7 +150,7 @@ finish_rests hooks table s [] (whole v) next rests e = let same : whole v ≡ ne
 finish_rests hooks table s [] (begun tracker ts) next rests e =
     let to = mapped_is (begun_with tracker) (complete_all deferred_column hooks table s tracker 0 ts) next e in
     rw to.same (begun_with_is (RestsAround []) tracker to.from tt
-    (done_here hooks table s tracker ts to.from rests.0 to.is, wholes_rest to.from))
+    (λ apart. (done_here hooks table s tracker ts to.from rests.0 to.is, wholes_rest to.from)))
 finish_rests hooks table s (i ∷ place) (begun tracker ts) next rests e =
     let to = mapped_is _
     (closed_but hooks table s tracker i (λ (shape : ℕ) (t : Tree). finished hooks table shape place t) 0 ts) next e in

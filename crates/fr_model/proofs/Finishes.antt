@@ -1,9 +1,10 @@
 -- The end of deferred mode on the tree: what it makes suits its shape, keeps its tokens and is a tree of strict mode, the path
 -- stays, and it makes none exactly where there is something to refuse.
 use Rattle.std.proofs.Common.{◌≡◌, ◌+◌, ◌||◌, if◌then◌else◌, ◌∷◌, ◌++◌}
-use Rattle.fr_model.proofs.Common.{ℕ, zero, suc, Bool, true, false, not, is_none, is_some, List, [], Option, Some, None, refl, sym, ◌∙◌, ap, ap₂, subst, arith, option_map, option_or, IsChecked, count_vals, Meanings, is_nil, Table, def_of, Vals, no_vals, first, PathStep, Place, deferred_column, step_as, steps_in, Tracker, as_items, ItemsKind, Tree, hole, entered, whole, begun, Trees, no_trees, branch, tree_nth, tree_at, child_as, shape_in, wholes, count_trees, tree_occurs, trees_occur, Mode, strict, complete, complete_all, value_as, dropped_by_completing, dropped_among, dropped_but, dropped_by_finishing, own_lack, Failure, failures, failures_among, first_by_walk, closed, one_more_tree, closed_all, closed_but, is_closed_slice, begun_with, finished_here, finished, failures_but, failures_off, kind_of, left_out, IsFullAs, IsBegunAs, IsTouched, IsContent, AreTouched, AreEntries, IsBegunRightly, Suits, IsOff, AllOff, AtCursor, OffBut, Leads}
-use Rattle.fr_model.proofs.Basis.{completing_makes, Children, all_completing_make, right_kept, ChildrenFit, SuitFrom, sound_as, value_fits, value_holds, wholes_hold, wholes_off, wholes_touched}
-use Rattle.fr_model.proofs.Failing.{none_mapped, joined_there, some_or, completes_or_fails, all_complete_or_fail, entered_lacks}
+use Rattle.fr_model.proofs.Common.{Field, ConversionsSuit, AllConversionsSuit, ℕ, zero, suc, Bool, true, false, not, is_none, is_some, List, [], Option, Some, None, refl, sym, ◌∙◌, ap, ap₂, subst, arith, option_map, option_or, IsChecked, count_vals, Meanings, is_nil, Table, def_of, Vals, no_vals, first, PathStep, Place, deferred_column, step_as, steps_in, Tracker, as_items, ItemsKind, Tree, hole, entered, whole, begun, Trees, no_trees, branch, tree_nth, tree_at, child_as, shape_in, wholes, count_trees, tree_occurs, trees_occur, Mode, strict, complete, complete_all, value_as, dropped_by_completing, dropped_among, dropped_but, dropped_by_finishing, own_lack, Failure, failures, failures_among, first_by_walk, closed, one_more_tree, closed_all, closed_but, is_closed_slice, is_made_whole, is_conversion, as_content, ContentKind, failing_path, lack_of_begun, begun_with, finished_here, finished, failures_but, failures_off, kind_of, left_out, IsFullAs, IsBegunAs, IsTouched, IsContent, AreTouched, AreEntries, IsBegunRightly, Suits, IsOff, AllOff, AtCursor, OffBut, Leads}
+use Rattle.fr_model.proofs.Converts.{wholes_convert}
+use Rattle.fr_model.proofs.Basis.{LawfulIn, AllLawfulIn, some_or, dropped_below, taken_as, completing_makes, Children, all_completing_make, right_kept, ChildrenFit, SuitFrom, sound_as, value_fits, value_holds, wholes_hold, wholes_off, wholes_touched}
+use Rattle.fr_model.proofs.Failing.{none_mapped, joined_there, itself_there, completes_or_fails, all_complete_or_fail, entered_lacks}
 use Rattle.fr_model.proofs.Templates.{some_is}
 
 -- what is made is made of something
@@ -35,6 +36,7 @@ one_more_tree_is None os us e = cc
 pub record Kept (table : Table) (s : ℕ) (dropped : ℕ → ℕ) (tree next : Tree) : Type 0 where
   pub suits : Suits table s next
   pub touched : IsTouched tree → IsTouched next
+  pub converts : (field : Option Field) → ConversionsSuit table s field tree → ConversionsSuit table s field next
   pub hold : (t : ℕ) → tree_occurs next t + dropped t ≡ tree_occurs tree t
 
 -- each of the trees is there where the one of the other trees is
@@ -62,13 +64,14 @@ pub record AllKept (table : Table) (s : ℕ) (tracker : Tracker) (i : ℕ) (drop
   pub content : IsContent ts → IsContent us
   pub touched : AreTouched ts → AreTouched us
   pub there : EachThere ts us
+  pub convert : AllConversionsSuit table s tracker i ts → AllConversionsSuit table s tracker i us
   pub counted : count_trees us ≡ count_trees ts
   pub hold : (t : ℕ) → trees_occur us t + dropped t ≡ trees_occur ts t
 
 none_kept : (table : Table) (s : ℕ) (tracker : Tracker) (i : ℕ) (us : Trees)
     → ◌≡◌ {A = Option Trees} (Some no_trees) (Some us) → AllKept table s tracker i (λ t. 0) no_trees us
 none_kept table s tracker i no_trees e =
-    record { suit = tt; content = λ has. has; touched = λ has. has; there = tt; counted = refl; hold = λ t. refl }
+    record { suit = tt; content = λ has. has; touched = λ has. has; there = tt; convert = λ all. tt; counted = refl; hold = λ t. refl }
 none_kept table s tracker i (branch u us) e = cc
 
 -- a child and the ones after it
@@ -82,6 +85,7 @@ more_kept table s tracker i by_child by_rest tree ts o os us child others e =
       content = here.touched;
       touched = λ has. (here.touched has.0, more.touched has.1);
       there = (here.touched, more.there);
+      convert = λ all. (here.converts _ all.0, more.convert all.1);
       counted = ap suc more.counted;
       hold = λ t. omega (arith, here.hold t, more.hold t);
     })
@@ -95,43 +99,43 @@ more_kept table s tracker i by_child by_rest tree ts o os us child others e =
     more : AllKept table s tracker (suc i) by_rest ts parts.tail
     more = others parts.tail parts.tail_is
 
-closed_keeps : (hooks : Meanings) (table : Table) (s : ℕ) (tree u : Tree) → IsChecked table → Suits table s tree
+closed_keeps : (hooks : Meanings) (table : Table) (s : ℕ) (tree u : Tree) → LawfulIn hooks tree → IsChecked table → Suits table s tree
     → closed hooks table s tree ≡ Some u → Kept table s (λ t. dropped_by_completing deferred_column hooks table s tree t) tree u
-closed_keeps hooks table s hole u checked suits e =
-    let same : hole ≡ u = cc in rw (← same) (record { suits = tt; touched = λ there. there; hold = λ t. refl })
-closed_keeps hooks table s tree u checked suits e =
+closed_keeps hooks table s hole u lawful checked suits e =
+    let same : hole ≡ u = cc in rw (← same) (record { suits = tt; touched = λ there. there; converts = λ field old. tt; hold = λ t. refl })
+closed_keeps hooks table s tree u lawful checked suits e =
     let to = mapped_is whole (complete deferred_column hooks table s tree) u e in
-    let made = completing_makes deferred_column hooks table tree s to.from checked suits to.is in
-    rw to.same (record { suits = made.fit; touched = λ there. tt; hold = made.hold })
+    let made = completing_makes deferred_column hooks table tree s to.from lawful checked suits to.is in
+    rw to.same (record { suits = made.fit; touched = λ there. tt; converts = λ field old. tt; hold = made.hold })
 
-closed_all_keep : (hooks : Meanings) (table : Table) (s : ℕ) (tracker : Tracker) (i : ℕ) (ts us : Trees) → IsChecked table
+closed_all_keep : (hooks : Meanings) (table : Table) (s : ℕ) (tracker : Tracker) (i : ℕ) (ts us : Trees) → AllLawfulIn hooks ts → IsChecked table
     → SuitFrom table s tracker i ts → closed_all hooks table s tracker i ts ≡ Some us
     → AllKept table s tracker i (λ t. dropped_among deferred_column hooks table s tracker i ts t) ts us
-closed_all_keep hooks table s tracker i no_trees us checked suit e = none_kept table s tracker i us e
-closed_all_keep hooks table s tracker i (branch t ts) us checked suit e =
+closed_all_keep hooks table s tracker i no_trees us lawful checked suit e = none_kept table s tracker i us e
+closed_all_keep hooks table s tracker i (branch t ts) us lawful checked suit e =
     more_kept table s tracker i (λ k. dropped_by_completing deferred_column hooks table (child_as table s tracker i) t k)
     (λ k. dropped_among deferred_column hooks table s tracker (suc i) ts k) t ts
     (closed hooks table (child_as table s tracker i) t) (closed_all hooks table s tracker (suc i) ts) us
-    (λ u. closed_keeps hooks table (child_as table s tracker i) t u checked suit.0)
-    (λ rest. closed_all_keep hooks table s tracker (suc i) ts rest checked suit.1) e
+    (λ u. closed_keeps hooks table (child_as table s tracker i) t u lawful.0 checked suit.0)
+    (λ rest. closed_all_keep hooks table s tracker (suc i) ts rest lawful.1 checked suit.1) e
 
 closed_but_keep : (hooks : Meanings) (table : Table) (s : ℕ) (tracker : Tracker) (on_way : ℕ)
-    (becomes : ℕ → Tree → Option Tree) (drops : ℕ → Tree → ℕ → ℕ) (i : ℕ) (ts us : Trees) → IsChecked table
-    → ((shape : ℕ) (t u : Tree) → Suits table shape t → becomes shape t ≡ Some u → Kept table shape (λ k. drops shape t k) t u)
+    (becomes : ℕ → Tree → Option Tree) (drops : ℕ → Tree → ℕ → ℕ) (i : ℕ) (ts us : Trees) → AllLawfulIn hooks ts → IsChecked table
+    → ((shape : ℕ) (t u : Tree) → LawfulIn hooks t → Suits table shape t → becomes shape t ≡ Some u → Kept table shape (λ k. drops shape t k) t u)
     → SuitFrom table s tracker i ts → closed_but hooks table s tracker on_way becomes i ts ≡ Some us
     → AllKept table s tracker i (λ t. dropped_but hooks table s tracker on_way drops i ts t) ts us
-closed_but_keep hooks table s tracker on_way becomes drops i no_trees us checked keeps suit e = none_kept table s tracker i us e
-closed_but_keep hooks table s tracker zero becomes drops i (branch t ts) us checked keeps suit e =
+closed_but_keep hooks table s tracker on_way becomes drops i no_trees us lawful checked keeps suit e = none_kept table s tracker i us e
+closed_but_keep hooks table s tracker zero becomes drops i (branch t ts) us lawful checked keeps suit e =
     more_kept table s tracker i (λ k. drops (child_as table s tracker i) t k)
     (λ k. dropped_among deferred_column hooks table s tracker (suc i) ts k) t ts (becomes (child_as table s tracker i) t)
-    (closed_all hooks table s tracker (suc i) ts) us (λ u. keeps (child_as table s tracker i) t u suit.0)
-    (λ rest. closed_all_keep hooks table s tracker (suc i) ts rest checked suit.1) e
-closed_but_keep hooks table s tracker (suc on_way) becomes drops i (branch t ts) us checked keeps suit e =
+    (closed_all hooks table s tracker (suc i) ts) us (λ u. keeps (child_as table s tracker i) t u lawful.0 suit.0)
+    (λ rest. closed_all_keep hooks table s tracker (suc i) ts rest lawful.1 checked suit.1) e
+closed_but_keep hooks table s tracker (suc on_way) becomes drops i (branch t ts) us lawful checked keeps suit e =
     more_kept table s tracker i (λ k. dropped_by_completing deferred_column hooks table (child_as table s tracker i) t k)
     (λ k. dropped_but hooks table s tracker on_way drops (suc i) ts k) t ts (closed hooks table (child_as table s tracker i) t)
     (closed_but hooks table s tracker on_way becomes (suc i) ts) us
-    (λ u. closed_keeps hooks table (child_as table s tracker i) t u checked suit.0)
-    (λ rest. closed_but_keep hooks table s tracker on_way becomes drops (suc i) ts rest checked keeps suit.1) e
+    (λ u. closed_keeps hooks table (child_as table s tracker i) t u lawful.0 checked suit.0)
+    (λ rest. closed_but_keep hooks table s tracker on_way becomes drops (suc i) ts rest lawful.1 checked keeps suit.1) e
 
 -- the begun place at the cursor, whose children are now whole
 
@@ -139,10 +143,17 @@ count_wholes : (vs : Vals) → count_trees (wholes vs) ≡ count_vals vs
 count_wholes no_vals = refl
 count_wholes (first v vs) = ap suc (count_wholes vs)
 
-fitting_suit : (table : Table) (s : ℕ) (tracker : Tracker) (i : ℕ) (vs : Vals) → ChildrenFit table s tracker i vs
-    → SuitFrom table s tracker i (wholes vs)
-fitting_suit table s tracker i no_vals fit = tt
-fitting_suit table s tracker i (first v vs) fit = (fit.0, fitting_suit table s tracker (suc i) vs fit.1)
+-- but of a source a place takes its child's value
+taken_child : (table : Table) (s : ℕ) (tracker : Tracker) (i : ℕ) → is_conversion tracker ≡ false
+    → taken_as table s tracker i ≡ child_as table s tracker i
+taken_child table s (as_content (ContentKind.Source conversion)) i apart = cc
+taken_child table s _ i apart = refl
+
+fitting_suit : (table : Table) (s : ℕ) (tracker : Tracker) (i : ℕ) (vs : Vals) → is_conversion tracker ≡ false
+    → ChildrenFit table s tracker i vs → SuitFrom table s tracker i (wholes vs)
+fitting_suit table s tracker i no_vals apart fit = tt
+fitting_suit table s tracker i (first v vs) apart fit =
+    (rw (taken_child table s tracker i apart) at fit.0, fitting_suit table s tracker (suc i) vs apart fit.1)
 
 content_wholes : (ts : Trees) (vs : Vals) → count_vals vs ≡ count_trees ts → IsContent ts → IsContent (wholes vs)
 content_wholes no_trees vs e has = absurd has
@@ -164,65 +175,73 @@ right_wholes : (table : Table) (s : ℕ) (tracker : Tracker) (ts : Trees) (vs : 
 right_wholes table s tracker ts vs e =
     right_kept table s tracker ts _ (content_wholes ts vs e) (λ all. wholes_touched vs) (entries_wholes ts vs e)
 
--- nothing is left out of a pointer to a slice
-slice_leaves_none : (tracker : Tracker) (vs : Vals) (t : ℕ) → is_closed_slice tracker ≡ true → left_out tracker vs t ≡ 0
-slice_leaves_none (as_items ItemsKind.ClosedSlice) vs t is = refl
-slice_leaves_none _ vs t is = cc
+-- what isn't made whole is no conversion
+apart_from : (a b : Bool) → (a || b) ≡ false → b ≡ false
+apart_from true b e = cc
+apart_from false b e = e
 
-begun_keeps : (hooks : Meanings) (table : Table) (s : ℕ) (tracker : Tracker) (ts : Trees) (u : Tree) → IsChecked table
+-- nothing is left out of a pointer to a slice, or of a conversion
+whole_leaves_none : (tracker : Tracker) (vs : Vals) (t : ℕ) → is_made_whole tracker ≡ true → left_out tracker vs t ≡ 0
+whole_leaves_none (as_items ItemsKind.ClosedSlice) vs t is = refl
+whole_leaves_none (as_content kind) vs t is = refl
+whole_leaves_none _ vs t is = cc
+
+begun_keeps : (hooks : Meanings) (table : Table) (s : ℕ) (tracker : Tracker) (ts : Trees) (u : Tree) → LawfulIn hooks (begun tracker ts) → IsChecked table
     → Suits table s (begun tracker ts) → finished_here hooks table s (begun tracker ts) ≡ Some u
-    → Kept table s (λ t. dropped_among deferred_column hooks table s tracker 0 ts t) (begun tracker ts) u
-begun_keeps hooks table s tracker ts u checked suits e = rw to.same (go (is_closed_slice tracker) refl)
+    → Kept table s (λ t. dropped_below deferred_column hooks table s tracker 0 ts t) (begun tracker ts) u
+begun_keeps hooks table s tracker ts u lawful checked suits e = rw to.same (go (is_made_whole tracker) refl)
   where
     to : Mapped (begun_with tracker) (complete_all deferred_column hooks table s tracker 0 ts) u
     to = mapped_is (begun_with tracker) (complete_all deferred_column hooks table s tracker 0 ts) u e
 
-    those : Children table s tracker 0 (count_trees ts) (λ t. dropped_among deferred_column hooks table s tracker 0 ts t)
+    those : Children table s tracker 0 (count_trees ts) (λ t. dropped_below deferred_column hooks table s tracker 0 ts t)
         (λ t. trees_occur ts t) to.from
-    those = all_completing_make deferred_column hooks table ts s tracker 0 to.from checked suits.1 to.is
+    those = all_completing_make deferred_column hooks table ts s tracker 0 to.from lawful.0 lawful.1 checked (sound_as table s tracker ts suits.2) suits.1 to.is
 
     full_as : IsFullAs (def_of table s) tracker (count_vals to.from)
     full_as = subst (IsFullAs (def_of table s) tracker) (sym those.counted) suits.0.0
 
-    go : (b : Bool) → is_closed_slice tracker ≡ b
-        → Kept table s (λ t. dropped_among deferred_column hooks table s tracker 0 ts t) (begun tracker ts)
+    go : (b : Bool) → is_made_whole tracker ≡ b
+        → Kept table s (λ t. dropped_below deferred_column hooks table s tracker 0 ts t) (begun tracker ts)
         (if b then whole (value_as tracker to.from) else begun tracker (wholes to.from))
     go true is = record {
       suits = value_fits table s tracker to.from full_as (sound_as table s tracker ts suits.2) those.fit;
       touched = λ there. tt;
+      converts = λ field old. tt;
       hold = λ t. omega (
         arith,
         value_holds table s tracker to.from full_as those.fit t,
-        slice_leaves_none tracker to.from t is,
+        whole_leaves_none tracker to.from t is,
         those.hold t,
       );
     }
     go false is = record {
       suits = (
         subst (IsBegunAs (def_of table s) tracker) (sym (count_wholes to.from ∙ those.counted)) suits.0,
-        fitting_suit table s tracker 0 to.from those.fit,
+        fitting_suit table s tracker 0 to.from (apart_from (is_closed_slice tracker) (is_conversion tracker) is) those.fit,
         right_wholes table s tracker ts to.from those.counted suits.2,
       );
       touched = λ there. tt;
+      converts = λ field old. (old.0, wholes_convert table s tracker 0 to.from);
       hold = λ t. omega (arith, wholes_hold to.from t, those.hold t);
     }
 
-here_keeps : (hooks : Meanings) (table : Table) (s : ℕ) (tree u : Tree) → IsChecked table → Suits table s tree
+here_keeps : (hooks : Meanings) (table : Table) (s : ℕ) (tree u : Tree) → LawfulIn hooks tree → IsChecked table → Suits table s tree
     → finished_here hooks table s tree ≡ Some u → Kept table s (λ t. dropped_by_finishing hooks table s [] tree t) tree u
-here_keeps hooks table s hole u checked suits e =
-    let same : hole ≡ u = cc in rw (← same) (record { suits = tt; touched = λ there. there; hold = λ t. refl })
-here_keeps hooks table s entered u checked suits e = closed_keeps hooks table s entered u checked suits e
-here_keeps hooks table s (whole v) u checked suits e =
-    let same : whole v ≡ u = cc in rw (← same) (record { suits = suits; touched = λ there. there; hold = λ t. omega arith })
-here_keeps hooks table s (begun tracker ts) u checked suits e = begun_keeps hooks table s tracker ts u checked suits e
+here_keeps hooks table s hole u lawful checked suits e =
+    let same : hole ≡ u = cc in rw (← same) (record { suits = tt; touched = λ there. there; converts = λ field old. tt; hold = λ t. refl })
+here_keeps hooks table s entered u lawful checked suits e = closed_keeps hooks table s entered u lawful checked suits e
+here_keeps hooks table s (whole v) u lawful checked suits e =
+    let same : whole v ≡ u = cc in rw (← same) (record { suits = suits; touched = λ there. there; converts = λ field old. old; hold = λ t. omega arith })
+here_keeps hooks table s (begun tracker ts) u lawful checked suits e = begun_keeps hooks table s tracker ts u lawful checked suits e
 
 -- a begun place above the cursor
 above_keeps : (hooks : Meanings) (table : Table) (s : ℕ) (tracker : Tracker) (on_way : ℕ) (becomes : ℕ → Tree → Option Tree)
-    (drops : ℕ → Tree → ℕ → ℕ) (ts : Trees) (next : Tree) → IsChecked table
-    → ((shape : ℕ) (t u : Tree) → Suits table shape t → becomes shape t ≡ Some u → Kept table shape (λ k. drops shape t k) t u)
+    (drops : ℕ → Tree → ℕ → ℕ) (ts : Trees) (next : Tree) → AllLawfulIn hooks ts → IsChecked table
+    → ((shape : ℕ) (t u : Tree) → LawfulIn hooks t → Suits table shape t → becomes shape t ≡ Some u → Kept table shape (λ k. drops shape t k) t u)
     → Suits table s (begun tracker ts) → option_map (begun tracker) (closed_but hooks table s tracker on_way becomes 0 ts) ≡ Some next
     → Kept table s (λ t. dropped_but hooks table s tracker on_way drops 0 ts t) (begun tracker ts) next
-above_keeps hooks table s tracker on_way becomes drops ts next checked keeps suits e =
+above_keeps hooks table s tracker on_way becomes drops ts next lawful checked keeps suits e =
     rw to.same (record {
       suits = (
         subst (IsBegunAs (def_of table s) tracker) (sym those.counted) suits.0,
@@ -230,6 +249,7 @@ above_keeps hooks table s tracker on_way becomes drops ts next checked keeps sui
         right_kept table s tracker ts to.from those.content those.touched (entries_there ts to.from those.there) suits.2,
       );
       touched = λ there. tt;
+      converts = λ field old. (old.0, those.convert old.1);
       hold = those.hold;
     })
   where
@@ -237,19 +257,19 @@ above_keeps hooks table s tracker on_way becomes drops ts next checked keeps sui
     to = mapped_is (begun tracker) (closed_but hooks table s tracker on_way becomes 0 ts) next e
 
     those : AllKept table s tracker 0 (λ t. dropped_but hooks table s tracker on_way drops 0 ts t) ts to.from
-    those = closed_but_keep hooks table s tracker on_way becomes drops 0 ts to.from checked keeps suits.1 to.is
+    those = closed_but_keep hooks table s tracker on_way becomes drops 0 ts to.from lawful checked keeps suits.1 to.is
 
 -- over a checked table the tree at the end suits the shape, and holds each token as often as before, but for what is dropped
-pub finish_keeps : (hooks : Meanings) (table : Table) (s : ℕ) (cursor : Place) (tree next : Tree) → IsChecked table
+pub finish_keeps : (hooks : Meanings) (table : Table) (s : ℕ) (cursor : Place) (tree next : Tree) → LawfulIn hooks tree → IsChecked table
     → Suits table s tree → finished hooks table s cursor tree ≡ Some next
     → Kept table s (λ t. dropped_by_finishing hooks table s cursor tree t) tree next
-finish_keeps hooks table s [] tree next checked suits e = here_keeps hooks table s tree next checked suits e
-finish_keeps hooks table s (i ∷ place) (begun tracker ts) next checked suits e =
+finish_keeps hooks table s [] tree next lawful checked suits e = here_keeps hooks table s tree next lawful checked suits e
+finish_keeps hooks table s (i ∷ place) (begun tracker ts) next lawful checked suits e =
     above_keeps hooks table s tracker i (λ (shape : ℕ) (t : Tree). finished hooks table shape place t)
-    (λ (shape : ℕ) (t : Tree) (k : ℕ). dropped_by_finishing hooks table shape place t k) ts next checked
-    (λ shape t u fits is. finish_keeps hooks table shape place t u checked fits is) suits e
-finish_keeps hooks table s (i ∷ place) tree next checked suits e =
-    rw (← some_is tree next e) (record { suits = suits; touched = λ there. there; hold = λ t. omega arith })
+    (λ (shape : ℕ) (t : Tree) (k : ℕ). dropped_by_finishing hooks table shape place t k) ts next lawful.1 checked
+    (λ shape t u by fits is. finish_keeps hooks table shape place t u by checked fits is) suits e
+finish_keeps hooks table s (i ∷ place) tree next lawful checked suits e =
+    rw (← some_is tree next e) (record { suits = suits; touched = λ there. there; converts = λ field old. old; hold = λ t. omega arith })
 
 -- The tree at the end is one of strict mode
 
@@ -284,12 +304,12 @@ closed_but_off hooks table s tracker (suc on_way) becomes mode Below After i (br
 
 -- what holds of the value that a begun place makes, and of that place with whole children, holds of what it becomes
 pub begun_with_is : (Is : Tree → Type 0) (tracker : Tracker) (vs : Vals) → Is (whole (value_as tracker vs))
-    → Is (begun tracker (wholes vs)) → Is (begun_with tracker vs)
-begun_with_is Is tracker vs made more = go (is_closed_slice tracker)
+    → (is_conversion tracker ≡ false → Is (begun tracker (wholes vs))) → Is (begun_with tracker vs)
+begun_with_is Is tracker vs made more = go (is_made_whole tracker) refl
   where
-    go : (b : Bool) → Is (if b then whole (value_as tracker vs) else begun tracker (wholes vs))
-    go true = made
-    go false = more
+    go : (b : Bool) → is_made_whole tracker ≡ b → Is (if b then whole (value_as tracker vs) else begun tracker (wholes vs))
+    go true is = made
+    go false is = more (apart_from (is_closed_slice tracker) (is_conversion tracker) is)
 
 here_leads : (hooks : Meanings) (table : Table) (s : ℕ) (mode : Mode) (tree u : Tree) → AtCursor mode tree
     → finished_here hooks table s tree ≡ Some u → AtCursor strict u
@@ -297,7 +317,7 @@ here_leads hooks table s mode hole u at e = absurd at
 here_leads hooks table s mode entered u at e = let to = mapped_is whole _ u e in rw to.same tt
 here_leads hooks table s mode (whole v) u at e = let same : whole v ≡ u = cc in rw (← same) tt
 here_leads hooks table s mode (begun tracker ts) u at e =
-    let to = mapped_is _ _ u e in rw to.same (begun_with_is (AtCursor strict) tracker to.from tt (wholes_off strict to.from))
+    let to = mapped_is _ _ u e in rw to.same (begun_with_is (AtCursor strict) tracker to.from tt (λ apart. (apart, wholes_off strict to.from)))
 
 -- where the cursor leads to a place, in whichever mode, it leads to it in strict mode
 pub finish_leads : (hooks : Meanings) (table : Table) (s : ℕ) (mode : Mode) (cursor : Place) (tree next : Tree)
@@ -420,7 +440,21 @@ finished_or_refused hooks table s path mode [] entered leads =
 finished_or_refused hooks table s path mode [] (whole v) leads = refl
 finished_or_refused hooks table s path mode [] (begun tracker ts) leads =
     none_mapped (begun_with tracker) (complete_all deferred_column hooks table s tracker 0 ts)
-    ∙ all_complete_or_fail hooks table s tracker 0 path ts
+    ∙ all_complete_or_fail hooks table s tracker 0 path ts ∙ go (is_conversion tracker)
+  where
+    twice : (a b : Bool) → (a || b) ≡ ((a || b) || b)
+    twice true b = refl
+    twice false true = refl
+    twice false false = refl
+
+    go : (b : Bool) → (not (is_nil (failures_among hooks table s tracker 0 path ts)) || is_some (lack_of_begun hooks table s tracker ts))
+        ≡ (not (is_nil (if b then failures hooks table s path (begun tracker ts) else failures_among hooks table s tracker 0 path ts))
+        || is_some (lack_of_begun hooks table s tracker ts))
+    go true =
+        twice (not (is_nil (failures_among hooks table s tracker 0 path ts))) (is_some (lack_of_begun hooks table s tracker ts))
+        ∙ ap (λ (b : Bool). b || is_some (lack_of_begun hooks table s tracker ts))
+        (sym (itself_there (failures_among hooks table s tracker 0 path ts) (failing_path tracker path) (lack_of_begun hooks table s tracker ts)))
+    go false = refl
 finished_or_refused hooks table s path mode (i ∷ place) (begun tracker ts) leads =
     none_mapped (begun tracker)
     (closed_but hooks table s tracker i (λ (shape : ℕ) (t : Tree). finished hooks table shape place t) 0 ts)

@@ -2,7 +2,7 @@
 use Rattle.std.proofs.Common.{◌≡◌, ◌+◌, if◌then◌else◌, ◌∷◌}
 use Rattle.fr_model.proofs.Common.{IsBegunAs, IsBegunRightly, ℕ, suc, leb-true, nat_le, Bool, true, false, [], Option, Some, None, refl, sym, subst, arith, option_or, Def, KnownPointer, ShapeId, Operation, fits, all_fit, points_at, Table, def_of, is_dynamic, Val, Vals, unit, list_of, ptr, no_vals, first, set_item_refusal, is_slice, init_array_refusal, whole_array_refusal, begun_item_refusal, item_refusal, with_item, is_open_slice, closed_slice, shared_slice_by, shared_slice_refusal, array_limit, opened, at_shape, init_list_refusal, Tracker, as_elements, as_items, ItemsKind, Tree, hole, entered, whole, begun, Trees, no_trees, branch, and_last, child_as, count_trees, count_below, wholes, fresh, tree_occurs, trees_occur, Mode, IsTouched, AreTouched, Suits, AllOff, AtCursor, OffBut}
 use Rattle.fr_model.proofs.Becoming.{Placed, closed_suits}
-use Rattle.fr_model.proofs.Basis.{enter_touched, fresh_suits, fresh_at_cursor, holes_off, wholes_off, SuitFrom, count_holes, holes_suit, settled_as, both_true, fresh_holds, wholes_touched}
+use Rattle.fr_model.proofs.Basis.{may_work, enter_touched, fresh_suits, fresh_at_cursor, holes_off, wholes_off, SuitFrom, count_holes, holes_suit, settled_as, both_true, fresh_holds, wholes_touched}
 
 -- A list or an array is begun
 
@@ -17,7 +17,7 @@ whole_list : (mode : Mode) (table : Table) (s : ℕ) (item : ShapeId) (v : Val) 
     → fits table s v ≡ true → Placed mode table s [] (opened (Def.List item) (whole v))
 whole_list mode table s item (list_of vs) is fit =
     let items : all_fit table item.0 vs ≡ true = rw (settled_as table s is refl) at fit in
-    record { suits = ((rw is tt, tt), items_suit table s (as_items ItemsKind.List) item.0 (λ i. rw is refl) 0 vs items, wholes_touched vs); leads = wholes_off mode vs }
+    record { suits = ((rw is tt, tt), items_suit table s (as_items ItemsKind.List) item.0 (λ i. rw is refl) 0 vs items, wholes_touched vs); leads = (may_work mode _ refl, wholes_off mode vs) }
 whole_list mode table s item unit is fit = cc
 whole_list mode table s item _ is fit = let none = rw (settled_as table s is refl) at fit in cc
 
@@ -29,7 +29,7 @@ list_opens mode table s t other e there = go (def_of table s) t refl other e the
         → Placed mode table s [] t → Placed mode table s [] (opened def t)
     go def (begun tracker ts) is other e there = there
     go def hole is other e there = absurd there.leads
-    go (Def.List item) entered is other e there = record { suits = ((rw is tt, tt), tt, tt); leads = tt }
+    go (Def.List item) entered is other e there = record { suits = ((rw is tt, tt), tt, tt); leads = (may_work mode _ refl, tt) }
     go (Def.List item) (whole v) is other e there = whole_list mode table s item v is there.suits
     go _ _ is other e there = cc
 
@@ -45,7 +45,7 @@ array_opens mode table s t e there = go (def_of table s) t refl e there
     few item n entered true small is e there =
         let count = count_holes n in
         let limit = leb-true n array_limit small in
-        record { suits = ((rw is count, omega (arith, count, limit)), holes_suit table s as_elements 0 n, tt); leads = holes_off mode n }
+        record { suits = ((rw is count, omega (arith, count, limit)), holes_suit table s as_elements 0 n, tt); leads = (may_work mode _ refl, holes_off mode n) }
     few item n (whole v) true small is e there = cc
     few item n _ false small is e there = cc
 
@@ -140,7 +140,7 @@ item_placed mode table s t takes there =
             last_suits table s tracker (count_trees ts) 0 ts item (omega arith) there.suits.1 (fresh_suits table shape),
             last_rightly table s tracker ts item takes there.suits.2 (enter_touched (def_of table shape) hole),
           );
-          leads = last_leads mode ts item there.leads (fresh_at_cursor mode (def_of table shape));
+          leads = last_leads mode ts item there.leads.1 (fresh_at_cursor mode (def_of table shape));
         }
 
 pub item_holds : (table : Table) (s : ℕ) (t : Tree) (token : ℕ) → tree_occurs (with_item table s t) token ≡ tree_occurs t token
@@ -155,7 +155,7 @@ item_holds table s _ token = refl
 pub slice_closes : (mode : Mode) (table : Table) (s : ℕ) (t : Tree) → is_open_slice t ≡ true → Placed mode table s [] t
     → Placed mode table s [] (closed_slice t)
 slice_closes mode table s (begun (as_items ItemsKind.Slice) ts) e there =
-    record { suits = closed_suits table s ts there.suits; leads = there.leads }
+    record { suits = closed_suits table s ts there.suits; leads = (may_work mode _ refl, there.leads.1) }
 slice_closes mode table s _ e there = cc
 
 pub closed_holds : (t : Tree) (token : ℕ) → tree_occurs (closed_slice t) token ≡ tree_occurs t token

@@ -7,6 +7,8 @@ pub mod Closing
 pub mod Collections
 pub mod Common
 pub mod Completing
+pub mod Conversions
+pub mod Converts
 pub mod Covering
 pub mod Cursor
 pub mod Defaulting
@@ -22,6 +24,7 @@ pub mod FirstFailure
 pub mod GatheredParts
 pub mod Items
 pub mod Keys
+pub mod Move
 pub mod Moves
 pub mod Moving
 pub mod NotesApart

@@ -1,11 +1,13 @@
 -- What an admitted command keeps.
 use Rattle.std.proofs.Common.{◌≡◌, ◌+◌, ◌≤◌, if◌then◌else◌, ◌∷◌}
-use Rattle.fr_model.proofs.Common.{ℕ, zero, suc, Bool, true, false, [], append-nil, Option, Some, None, Result, Ok, Err, refl, ◌∙◌, ap, subst, arith, ReflectErrorKind, Invariant, IsChecked, Meanings, Table, def_of, Val, Call, complete, Place, strict_column, is_root, removed, removed_by, replaced, removed_at_build, removed_by_build, IsFitting, brings, violates, step, cause, built, build_in, build, fresh, Tree, whole, change_at, Mode, strict, deferred, State, cursor_shape, cursor_tree, initial, tree_occurs, Suits, RestsAround, IsInOrder, AreDistinct, IsWell}
+use Rattle.fr_model.proofs.Common.{ℕ, zero, suc, Bool, true, false, [], append-nil, Option, Some, None, Result, Ok, Err, refl, ◌∙◌, ap, subst, arith, ReflectErrorKind, Invariant, IsChecked, Meanings, Table, def_of, Val, Call, complete, above, up, number_in, ConversionsSuit, Place, strict_column, is_root, removed, removed_by, replaced, removed_at_build, removed_by_build, IsFitting, brings, violates, step, cause, built, build_in, build, fresh, Tree, whole, change_at, Mode, strict, deferred, State, cursor_shape, cursor_tree, initial, tree_occurs, Suits, RestsAround, IsInOrder, AreDistinct, IsWell}
 use Rattle.fr_model.specs.Laws.{held_after, built_occurs, IsFresh}
-use Rattle.fr_model.proofs.Moving.{Move, stays, goes_on, goes_up, is_taken, stays_behind, is_parsed, is_deferred, is_over, moves}
+use Rattle.fr_model.proofs.Move.{Move, stays, goes_on, goes_up, is_taken, is_same, is_converted, stays_behind, is_parsed, is_deferred, is_over}
+use Rattle.fr_model.proofs.Moving.{moves}
 use Rattle.fr_shape.specs.Hooks.{IsLawful}
-use Rattle.fr_model.proofs.Basis.{template_holds, put_in_order, completing_makes, completed_in_order, changed_in_order, moved_in_order, made_at, start_in_order, left_in_order, deferred_in_order, rests_here, fresh_rests, rest_on, rest_up, rest_put_up, rest_took, fresh_holds, change_holds}
-use Rattle.fr_model.proofs.Ending.{took_in_order, took_holds}
+use Rattle.fr_model.proofs.Basis.{lawful_in, rest_converted, began_strict, template_holds, put_in_order, completing_makes, completed_in_order, changed_in_order, moved_in_order, made_at, start_in_order, left_in_order, deferred_in_order, rests_here, fresh_rests, rest_on, rest_up, rest_put_up, rest_took, fresh_holds, change_holds}
+use Rattle.fr_model.proofs.Ending.{took_in_order, took_holds, made_above, converted_in_order, converted_holds}
+use Rattle.fr_model.proofs.Converts.{fresh_converts, converts_changed, took_converts}
 use Rattle.fr_model.proofs.FinishRests.{finish_rests}
 use Rattle.fr_model.proofs.Finishes.{finish_keeps}
 use Rattle.fr_model.proofs.Steps.{finished_in_order}
@@ -16,17 +18,22 @@ moves_tokens : (hooks : Meanings) (table : Table) (root : ℕ) (state next : Sta
     → IsLawful hooks → IsChecked table → IsInOrder table root state → Move hooks table root state command next
     → tree_occurs state.tree t + brings command t
     ≡ tree_occurs next.tree t + replaced hooks table root (cursor_shape table root state) state command t
-moves_tokens hooks table root state next command t lawful checked order (stays same change placed hold rest) =
+moves_tokens hooks table root state next command t lawful checked order (stays same change placed hold rest converts) =
+    omega (arith, change_holds state.mode state.cursor state.tree change t order.leads, hold lawful t)
+moves_tokens hooks table root state next command t lawful checked order (goes_on same i change placed hold rest converts) =
     omega (arith, change_holds state.mode state.cursor state.tree change t order.leads, hold t)
-moves_tokens hooks table root state next command t lawful checked order (goes_on same i change placed hold rest) =
-    omega (arith, change_holds state.mode state.cursor state.tree change t order.leads, hold t)
-moves_tokens hooks table root state next command t lawful checked order (goes_up column v began no_set is drops) =
+moves_tokens hooks table root state next command t lawful checked order (goes_up column v began may no_set is drops) =
     let there = change_holds state.mode state.cursor state.tree (λ old. whole v) t order.leads in
-    let made = made_at column hooks table root state v checked is order in
+    let made = made_at column hooks table root state v (lawful_in hooks (cursor_tree state) lawful) checked is order in
     omega (arith, made.hold t, drops t)
 moves_tokens hooks table root state next command t lawful checked order (is_taken column v began below of_set is drops) =
     let there = took_holds table root state v t below of_set order.leads in
-    let made = made_at column hooks table root state v checked is order in
+    let made = made_at column hooks table root state v (lawful_in hooks (cursor_tree state) lawful) checked is order in
+    omega (arith, made.hold t, drops t)
+moves_tokens hooks table root state next command t lawful checked order (is_same same drops none) = omega (arith, drops t, none t)
+moves_tokens hooks table root state next command t lawful checked order (is_converted v strictly below is drops) =
+    let there = converted_holds state v t order.leads in
+    let made = made_above strict_column hooks table root state v (lawful_in hooks (cursor_tree (above state)) lawful) checked is order in
     omega (arith, made.hold t, drops t)
 moves_tokens hooks table root state next command t lawful checked order (stays_behind start mode deeper shut no_set no_part drops) =
     omega (arith, drops t)
@@ -35,7 +42,7 @@ moves_tokens hooks table root state next command t lawful checked order (is_pars
     omega (arith, there, template_holds table _ v t (template lawful), drops t, none t)
 moves_tokens hooks table root state next command t lawful checked order (is_deferred is) = refl
 moves_tokens hooks table root state next command t lawful checked order (is_over tree is) =
-    let kept = finish_keeps hooks table root state.cursor state.tree tree checked order.suits is in
+    let kept = finish_keeps hooks table root state.cursor state.tree tree (lawful_in hooks state.tree lawful) checked order.suits is in
     omega (arith, kept.hold t)
 
 -- whatever comes of a command: nothing is lost and nothing doubled
@@ -51,10 +58,10 @@ step_keeps_tokens hooks table root state command lawful checked order t = go (st
         moves_tokens hooks table root state next command t lawful checked order (moves hooks table checked root state next order command e)
     go (Err kind) e = omega arith
 
-pub build_keeps_tokens : (hooks : Meanings) (table : Table) (root : ℕ) (state : State) → IsChecked table
+pub build_keeps_tokens : (hooks : Meanings) (table : Table) (root : ℕ) (state : State) → IsLawful hooks → IsChecked table
     → Suits table root state.tree → (t : ℕ) → tree_occurs state.tree t
     ≡ built_occurs (build hooks table root state) t + removed_at_build hooks table root state t
-build_keeps_tokens hooks table root state checked suits t = by_mode state.mode
+build_keeps_tokens hooks table root state lawful checked suits t = by_mode state.mode
   where
     built_is : (b : Bool) (v u : Val) → (if b then Ok v else Err (violates Invariant.TypeInvariant)) ≡ Ok u → Some v ≡ Some u
     built_is true v u e = ap Some cc
@@ -64,7 +71,7 @@ build_keeps_tokens hooks table root state checked suits t = by_mode state.mode
         → ((v : Val) → outcome ≡ Ok v → complete strict_column hooks table root state.tree ≡ Some v)
         → tree_occurs state.tree t ≡ built_occurs outcome t + removed_by_build hooks table root state outcome t
     kept (Ok v) is =
-        let made = completing_makes strict_column hooks table state.tree root v checked suits (is v refl) in
+        let made = completing_makes strict_column hooks table state.tree root v (lawful_in hooks state.tree lawful) checked suits (is v refl) in
         omega (arith, made.hold t)
     kept (Err kind) is = omega arith
 
@@ -92,21 +99,26 @@ rest_there state change step rests =
 
 moves_in_order : (hooks : Meanings) (table : Table) (root : ℕ) (state next : State) (command : Call) → IsLawful hooks → IsChecked table
     → IsFitting table command → IsInOrder table root state → Move hooks table root state command next → IsInOrder table root next
-moves_in_order hooks table root state next command lawful checked fit order (stays same change placed hold rest) =
-    changed_in_order table root state change (placed fit).suits (placed fit).leads order
-moves_in_order hooks table root state next command lawful checked fit order (goes_on same i change placed hold rest) =
+moves_in_order hooks table root state next command lawful checked fit order (stays same change placed hold rest converts) =
+    changed_in_order table root state change (placed lawful fit).suits (placed lawful fit).leads order
+moves_in_order hooks table root state next command lawful checked fit order (goes_on same i change placed hold rest converts) =
     moved_in_order table root state i change placed.suits placed.leads order
-moves_in_order hooks table root state next command lawful checked fit order (goes_up column v began no_set is drops) =
-    completed_in_order column hooks table root state v checked began is order
+moves_in_order hooks table root state next command lawful checked fit order (goes_up column v began may no_set is drops) =
+    completed_in_order column hooks table root state v (lawful_in hooks (cursor_tree state) lawful) checked began may is order
 moves_in_order hooks table root state next command lawful checked fit order (is_taken column v began below of_set is drops) =
-    took_in_order column hooks table root state v checked below of_set began is order
+    took_in_order column hooks table root state v (lawful_in hooks (cursor_tree state) lawful) checked below of_set began is order
+moves_in_order hooks table root state next command lawful checked fit order (is_same same drops none) =
+    record { suits = order.suits; leads = order.leads; began = order.began }
+moves_in_order hooks table root state next command lawful checked fit order (is_converted v strictly below is drops) =
+    converted_in_order strict_column hooks table root state v (lawful_in hooks (cursor_tree (above state)) lawful) checked below
+    (began_strict state.mode (up state.cursor) strictly) is order
 moves_in_order hooks table root state next command lawful checked fit order (stays_behind start mode deeper shut no_set no_part drops) =
     left_in_order table root start state mode deeper order
 moves_in_order hooks table root state next command lawful checked fit order (is_parsed same v template drops none) =
     put_in_order table root state v (template lawful).fit order
 moves_in_order hooks table root state next command lawful checked fit order (is_deferred is) = deferred_in_order table root state is order
 moves_in_order hooks table root state next command lawful checked fit order (is_over tree is) =
-    finished_in_order hooks table root state tree checked order is
+    finished_in_order hooks table root state tree (lawful_in hooks state.tree lawful) checked order is
 
 pub step_keeps_order : (hooks : Meanings) (table : Table) (root : ℕ) (state next : State) (command : Call)
     → IsLawful hooks → IsChecked table → IsInOrder table root state → IsFitting table command
@@ -116,13 +128,16 @@ step_keeps_order hooks table root state next command lawful checked order fit e 
 
 moves_rest : (hooks : Meanings) (table : Table) (root : ℕ) (state next : State) (command : Call)
     → RestsAround state.cursor state.tree → Move hooks table root state command next → RestsAround next.cursor next.tree
-moves_rest hooks table root state next command rests (stays same change placed hold rest) = rest_there state change rest rests
-moves_rest hooks table root state next command rests (goes_on same i change placed hold rest) =
+moves_rest hooks table root state next command rests (stays same change placed hold rest converts) = rest_there state change rest rests
+moves_rest hooks table root state next command rests (goes_on same i change placed hold rest converts) =
     rest_on state.cursor (i ∷ []) state.tree change rest rests
-moves_rest hooks table root state next command rests (goes_up column v began no_set is drops) =
+moves_rest hooks table root state next command rests (goes_up column v began may no_set is drops) =
     rest_put_up state.cursor state.tree v no_set rests
 moves_rest hooks table root state next command rests (is_taken column v began below of_set is drops) =
     rest_took state.cursor state.tree v below rests
+moves_rest hooks table root state next command rests (is_same same drops none) = rests
+moves_rest hooks table root state next command rests (is_converted v strictly below is drops) =
+    rest_converted state.cursor state.tree v rests
 moves_rest hooks table root state next command rests (stays_behind start mode deeper shut no_set no_part drops) =
     rest_up state.cursor state.tree shut no_set no_part rests
 moves_rest hooks table root state next command rests (is_parsed same v template drops none) =
@@ -137,6 +152,32 @@ pub step_keeps_rest : (hooks : Meanings) (table : Table) (root : ℕ) (state nex
     → step hooks table root state command ≡ Ok next → RestsAround next.cursor next.tree
 step_keeps_rest hooks table root state next command checked order rests fit e =
     moves_rest hooks table root state next command rests (moves hooks table checked root state next order command e)
+
+moves_convert : (hooks : Meanings) (table : Table) (root : ℕ) (state next : State) (command : Call) → IsLawful hooks → IsChecked table
+    → IsInOrder table root state → ConversionsSuit table root None state.tree → Move hooks table root state command next
+    → ConversionsSuit table root None next.tree
+moves_convert hooks table root state next command lawful checked order old (stays same change placed hold rest converts) =
+    converts_changed table root None state.cursor state.tree change old converts
+moves_convert hooks table root state next command lawful checked order old (goes_on same i change placed hold rest converts) =
+    converts_changed table root None state.cursor state.tree change old converts
+moves_convert hooks table root state next command lawful checked order old (goes_up column v began may no_set is drops) =
+    converts_changed table root None state.cursor state.tree (λ there. whole v) old (λ there. tt)
+moves_convert hooks table root state next command lawful checked order old (is_taken column v began below of_set is drops) =
+    converts_changed table root None (up state.cursor) state.tree _ old (took_converts table _ _ (number_in state.cursor) v _ of_set)
+moves_convert hooks table root state next command lawful checked order old (is_converted v strictly below is drops) =
+    converts_changed table root None (up state.cursor) state.tree (λ there. whole v) old (λ there. tt)
+moves_convert hooks table root state next command lawful checked order old (is_parsed same v template drops none) =
+    converts_changed table root None state.cursor state.tree (λ there. whole v) old (λ there. tt)
+moves_convert hooks table root state next command lawful checked order old (is_over tree is) =
+    (finish_keeps hooks table root state.cursor state.tree tree (lawful_in hooks state.tree lawful) checked order.suits is).converts None old
+moves_convert hooks table root state next command lawful checked order old _ = old
+
+-- each conversion is one of its place's
+pub step_keeps_conversions : (hooks : Meanings) (table : Table) (root : ℕ) (state next : State) (command : Call) → IsLawful hooks
+    → IsChecked table → IsInOrder table root state → ConversionsSuit table root None state.tree → step hooks table root state command ≡ Ok next
+    → ConversionsSuit table root None next.tree
+step_keeps_conversions hooks table root state next command lawful checked order old e =
+    moves_convert hooks table root state next command lawful checked order old (moves hooks table checked root state next order command e)
 
 pub step_keeps_distinct : (hooks : Meanings) (table : Table) (root : ℕ) (state next : State) (command : Call)
     → IsLawful hooks → IsChecked table → IsWell table root state → IsFresh state command
@@ -157,5 +198,6 @@ pub start_is_well : (table : Table) (root : ℕ) → IsWell table root (initial 
 start_is_well table root = record {
   in_order = start_in_order table root;
   rests = rests_here _ (fresh_rests (def_of table root));
+  conversions = fresh_converts table root None (def_of table root);
   distinct = λ t. omega (arith, fresh_holds (def_of table root) t);
 }

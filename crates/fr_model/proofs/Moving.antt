@@ -1,81 +1,23 @@
--- The moves: what an admitted command does to the place at the cursor. What becomes of it suits its shape, rests, and holds what it held
--- and what the command brought, but for what is dropped. Each command that goes on makes one of them.
-use Rattle.std.proofs.Common.{◌≡◌, ◌+◌, ◌<◌, ◌∷◌, ◌++◌, ◌==◌, ◌&&◌, ◌||◌, if◌then◌else◌}
-use Rattle.fr_model.proofs.Common.{ℕ, true, false, [], length, Option, Some, None, Result, Ok, refl, ReflectErrorKind, Meanings, Table, Val, Call, Place, Column, is_root, Tree, change_at, Mode, strict, deferred, State, cursor_shape, cursor_tree, one_more_call, tree_occurs, complete, finished, puts, puts_and_leaves, leaves, is_set_item, takes_item, is_dynamic_part, brings, replaced, dropped_unless, is_open_slice, RestsAround, number_in, dropped_by_completing, up, dropped_with_item, IsFitting, tree_at, BeganAbove, List, preset_of, def_of, is_dynamic, Dynamic, dyn, variant_anew, content_anew, converted, key_refusal, value_refusal, last_of, set_item_refusal, array_anew, object_anew, kept_array, kept_object, entry_refusal, strict_column, deferred_column, Tracker, count_below, Way, enters, at_shape, takes_shape, opens, becomes, init_list_refusal, init_map_refusal, init_set_refusal, variant_kept, selects, column_at_end, init_array_refusal, eqb-true, Bool, unwrap_or, sym, ◌∙◌, ap, subst, arith, Def, ScalarKind, IsChecked, fits, settled, unit, text, with_key, entry_number, with_entry, with_item, child_count, dropped_if, dropped_by_column, opened, enter_child, is_str, is_owned_string_kind, is_owned_string, put_child, tracker_of, tracker_at, whole, count_trees, Suits, AtCursor, IsInOrder, ltb-true, nat_lt, Err, Invariant, Operation, Field, VariantDef, is_option, field_in, variants_of, list_of, ptr, no_vals, is_result, pointer_refusal, points_to_slice, slice_anew, is_enum, variant_numbered, variant_named, variant_told_by, selection_refusal, as_content, ContentKind, selected, unless_refused, named_refusal, field_default, puts_child_default, defaults_field, option_kept, content_kept, begin_side, pointer_kept, begins_pointer, begins_list, init_list, begins_map, set_refusal, puts_dynamic, set_dynamic, puts_made, closes_slice, leaves_place, select_found, select, violates, puts_default, ended, item_ended, part_ended, leaves_deferred, end_in, begins_deferred, finishes, finish_in, step, dropped_by_selecting, dropped_at_end, item_refusal, closed_slice, shared_slice_refusal}
-use Rattle.fr_model.proofs.Becoming.{Placed, lost, Becoming, content_becomes, option_becomes, IsSide, side_holds, pointer_holds, slice_becomes, variant_becomes}
-use Rattle.fr_model.proofs.Basis.{defers, at_cursor, suits_at, up_long, began_strict, entry_at, Enterable, enterable_apart, opening, opened_rests, enter_child_rests, item_rests, key_rests, closed_rests, settled_as, preset_template, template_holds, field_default_template, opened_holds, enter_child_holds, completing_makes, began_up}
-use Rattle.fr_model.proofs.Steps.{finishes_as}
-use Rattle.fr_model.proofs.Templates.{IsTemplate, text_template, bytes_template}
+-- Each command that goes on makes one of the moves.
+use Rattle.std.proofs.Common.{◌≡◌, ◌+◌, ◌<◌, ◌==◌, ◌&&◌, ◌||◌, if◌then◌else◌}
+use Rattle.fr_model.proofs.Common.{ConversionSuits, as_fields, begins_array, above, inner_option_kept, begins_converted, begins_inner, begins_by_proxy, is_source_place, ends_source, dropped_by_proxy, leaves_source, by_proxy, by_wrapper, convert_in, source_in, proxy_of_field, cursor_field, is_begun_conversion, ShapeId, slice_get, field_refusal, fresh, begun, is_set, not, ℕ, true, false, [], length, Option, Some, None, Result, Ok, refl, ReflectErrorKind, Meanings, Table, Val, Call, Place, Column, is_root, Tree, Mode, strict, deferred, State, cursor_shape, cursor_tree, tree_occurs, complete, finished, puts, is_set_item, is_dynamic_part, brings, replaced, dropped_unless, is_open_slice, number_in, dropped_by_completing, up, dropped_with_item, tree_at, BeganAbove, List, preset_of, def_of, is_dynamic, Dynamic, dyn, variant_anew, converted, key_refusal, value_refusal, last_of, set_item_refusal, array_anew, object_anew, kept_array, kept_object, entry_refusal, strict_column, deferred_column, Tracker, count_below, Way, enters, at_shape, takes_shape, opens, init_list_refusal, init_map_refusal, init_set_refusal, variant_kept, selects, column_at_end, init_array_refusal, eqb-true, Bool, ◌∙◌, ap, subst, arith, Def, ScalarKind, IsChecked, fits, settled, unit, text, dropped_if, dropped_by_column, is_str, is_owned_string_kind, is_owned_string, whole, Suits, AtCursor, IsInOrder, ltb-true, nat_lt, Err, Invariant, Operation, Field, VariantDef, is_option, field_in, variants_of, list_of, ptr, no_vals, is_result, pointer_refusal, points_to_slice, slice_anew, is_enum, variant_numbered, variant_named, variant_told_by, selection_refusal, as_content, ContentKind, selected, unless_refused, named_refusal, field_default, puts_child_default, defaults_field, option_kept, content_kept, begin_side, pointer_kept, begins_pointer, begins_list, init_list, begins_map, set_refusal, puts_dynamic, set_dynamic, puts_made, closes_slice, leaves_place, select_found, select, violates, puts_default, ended, item_ended, part_ended, leaves_deferred, end_in, begins_deferred, finishes, finish_in, step, dropped_by_selecting, dropped_at_end, item_refusal, closed_slice, shared_slice_refusal}
+use Rattle.fr_model.proofs.Becoming.{Placed, content_becomes, option_becomes, IsSide, side_holds, pointer_holds, slice_becomes, variant_becomes, option_anew}
+use Rattle.fr_model.proofs.Basis.{may_go_up, may_go_deferred, Made, lawful_in, at_cursor, suits_at, up_long, began_strict, closed_rests, settled_as, preset_template, template_holds, field_default_template, completing_makes, began_up}
+use Rattle.fr_model.proofs.Templates.{text_template, bytes_template}
 use Rattle.fr_shape.specs.Hooks.{IsLawful, Meaning, gives, refuses, unsupported}
-use Rattle.fr_model.proofs.Items.{TakesAnItem, list_opens, array_opens, takes_a_set_item, item_placed, item_holds, takes_an_item, slice_closes, closed_holds, shared_fits}
-use Rattle.fr_model.proofs.Defaulting.{putting, field_there}
-use Rattle.fr_model.proofs.Collections.{set_opens, map_opens, IsMap, takes_a_key, takes_a_value, key_placed, key_holds, value_enterable}
-use Rattle.fr_model.proofs.Dynamics.{converted_is, dynamic_def, array_becomes, object_becomes, IsObject, takes_an_entry, entry_placed, entry_holds, entry_rests}
+use Rattle.fr_model.proofs.Items.{list_opens, takes_a_set_item, takes_an_item, slice_closes, closed_holds, shared_fits}
+use Rattle.fr_model.proofs.Converts.{shut_converts, holes_convert}
+use Rattle.fr_model.proofs.Conversions.{wrapper_may, field_proxy_may}
+use Rattle.fr_model.specs.Contents.{is_deferred as is_deferred_mode}
+use Rattle.fr_shape.specs.declared.shape.HookId.{HookId}
+use Rattle.fr_shape.specs.declared.shape.ProxyDef.{ProxyDef}
+use Rattle.std.specs.Result.{result_ok}
+use Rattle.fr_model.proofs.Collections.{set_opens, map_opens, takes_a_key, takes_a_value, value_enterable}
+use Rattle.fr_model.proofs.Dynamics.{converted_is, dynamic_def, array_becomes, object_becomes, takes_an_entry}
 use Rattle.fr_model.specs.Parses.{text_meant, bytes_meant}
 use Rattle.fr_model.specs.Step.{puts_parsed, ends_item as end_of_item}
-use Rattle.fr_model.proofs.Children.{enterable, ChildCase, a_child, a_variant_child, no_child, child_case, only_of_enum, NamedCase, a_named, a_variant_named, no_such_name, no_names, named_case}
-
--- the state in which the place at the cursor has become another
-abbrev pub changed : State → (Tree → Tree) → State
-changed state change = record state { tree = change_at state.cursor change state.tree; calls = one_more_call state.calls }
-
--- a place may end where deferred mode began above it
-abbrev pub EndsBelow : Mode → Place → Type 0
-EndsBelow strict cursor = Unit {0}
-EndsBelow (deferred start) cursor = start < length cursor
-
--- the state in which the place at the cursor has become another, to whose child i the cursor went
-abbrev pub moved : State → ℕ → (Tree → Tree) → State
-moved state i change = record state {
-  tree = change_at state.cursor change state.tree;
-  cursor = state.cursor ++ i ∷ [];
-  calls = one_more_call state.calls;
-}
-
--- what becomes of the place at the cursor holds what it held and what the command brings, but for what that drops
-abbrev pub HoldsAll : Meanings → Table → (root : ℕ) → State → Call → Tree → Type 0
-HoldsAll hooks table root state command after =
-    (t : ℕ) → tree_occurs after t + replaced hooks table root (cursor_shape table root state) state command t
-    ≡ tree_occurs (cursor_tree state) t + brings command t
-
--- The moves: the place at the cursor becomes another, and the cursor stays, or goes to a child of it; the place is completed and the
--- cursor goes up, or its set takes it; it is left as it is; a value that was parsed is put there; or deferred mode begins or ends.
-pub data Move (hooks : Meanings) (table : Table) (root : ℕ) (state : State) : Call → State → Type 0 where
-  stays : (command : Call) (change : Tree → Tree)
-      → (IsFitting table command → Placed state.mode table (cursor_shape table root state) [] (change (cursor_tree state)))
-      → HoldsAll hooks table root state command (change (cursor_tree state))
-      → (RestsAround [] (cursor_tree state) → RestsAround [] (change (cursor_tree state)))
-      → Move hooks table root state command (changed state change)
-  goes_on : (command : Call) (i : ℕ) (change : Tree → Tree)
-      → Placed state.mode table (cursor_shape table root state) (i ∷ []) (change (cursor_tree state))
-      → HoldsAll hooks table root state command (change (cursor_tree state))
-      → (RestsAround [] (cursor_tree state) → RestsAround (i ∷ []) (change (cursor_tree state)))
-      → Move hooks table root state command (moved state i change)
-  goes_up : (column : Column) (v : Val) → BeganAbove state.mode (up state.cursor) → is_set_item state ≡ false
-      → complete column hooks table (cursor_shape table root state) (cursor_tree state) ≡ Some v
-      → ((t : ℕ) → replaced hooks table root (cursor_shape table root state) state Call.End t
-      ≡ dropped_by_completing column hooks table (cursor_shape table root state) (cursor_tree state) t)
-      → Move hooks table root state Call.End (puts_and_leaves state v)
-  is_taken : (column : Column) (v : Val) → BeganAbove state.mode (up state.cursor) → is_root state.cursor ≡ false
-      → is_set_item state ≡ true → complete column hooks table (cursor_shape table root state) (cursor_tree state) ≡ Some v
-      → ((t : ℕ) → replaced hooks table root (cursor_shape table root state) state Call.End t
-      ≡ dropped_by_completing column hooks table (cursor_shape table root state) (cursor_tree state) t
-      + dropped_with_item (number_in state.cursor) (tree_at (up state.cursor) state.tree) (Some v) t)
-      → Move hooks table root state Call.End (takes_item state v)
-  stays_behind : (start : ℕ) → state.mode ≡ deferred start → start < length state.cursor
-      → is_open_slice (cursor_tree state) ≡ false → is_set_item state ≡ false → is_dynamic_part state ≡ false
-      → ((t : ℕ) → replaced hooks table root (cursor_shape table root state) state Call.End t ≡ 0)
-      → Move hooks table root state Call.End (leaves state)
-  is_parsed : (command : Call) (v : Val) → (IsLawful hooks → IsTemplate table (cursor_shape table root state) v)
-      → ((t : ℕ) → replaced hooks table root (cursor_shape table root state) state command t ≡ tree_occurs (cursor_tree state) t)
-      → ((t : ℕ) → brings command t ≡ 0) → Move hooks table root state command (puts state v)
-  is_deferred : state.mode ≡ strict → Move hooks table root state Call.BeginDeferred (defers state)
-  is_over : (tree : Tree) → finished hooks table root state.cursor state.tree ≡ Some tree
-      → Move hooks table root state Call.FinishDeferred (finishes_as state tree)
-
-pub lost_is : (kept : Option Tree) (state : State) (t : ℕ) → dropped_unless kept state t ≡ lost kept (cursor_tree state) t
-lost_is (Some tree) state t = refl
-lost_is None state t = refl
+use Rattle.fr_model.proofs.Children.{ChildCase, a_child, a_variant_child, no_child, child_case, only_of_enum, NamedCase, a_named, a_variant_named, no_such_name, no_names, named_case}
+use Rattle.fr_model.proofs.Move.{Move, EndsBelow, stays, goes_up, is_taken, is_converted, stays_behind, is_parsed, is_deferred, is_over, stays_at, enters_value, enters_anew, enters_so, opens_it, array_so, becomes_it, takes_new_item, takes_new_key, takes_new_entry, holds_it, source_so, from_shape_so, puts_so}
 
 pub ok_is : (a b : State) → ◌≡◌ {A = Result State ReflectErrorKind} (Ok a) (Ok b) → a ≡ b
 ok_is a b e = cc
@@ -112,6 +54,20 @@ taken_fits table s given v taken fit = go _ _ _ refl refl refl taken
     go false true false same is from e = cc
     go false false string same is from e = cc
 
+last_false : (a b : Bool) → (a && b && false) ≡ false
+last_false true true = refl
+last_false true false = refl
+last_false false b = refl
+
+middle_false : (a c : Bool) → (a && false && c) ≡ false
+middle_false true c = refl
+middle_false false c = refl
+
+-- a set is no conversion
+set_apart : (t : Tree) → is_set t ≡ true → is_begun_conversion t ≡ false
+set_apart (begun (as_content kind) ts) of_set = cc
+set_apart _ of_set = refl
+
 began_above : (mode : Mode) (here : Place) → EndsBelow mode here → BeganAbove mode (up here)
 began_above strict here below = tt
 began_above (deferred start) here below = omega (arith, below, up_long here)
@@ -126,6 +82,9 @@ module _ (hooks : Meanings) (table : Table) (checked : IsChecked table) (root : 
 
   abbrev tree : Tree
   tree = cursor_tree state
+
+  abbrev field : Option Field
+  field = cursor_field table root state
 
   suits_here : Suits table here tree
   suits_here = suits_at state.mode table root state.cursor state.tree order.leads order.suits
@@ -161,73 +120,23 @@ module _ (hooks : Meanings) (table : Table) (checked : IsChecked table) (root : 
   only_if true kind result so e = so refl e
   only_if false kind result so e = cc
 
-  -- The moves that commands make.
-
-  enters_child : (command : Call) (i : ℕ) → Enterable table here i tree
-      → ((t : ℕ) → replaced hooks table root here state command t ≡ 0) → ((t : ℕ) → brings command t ≡ 0)
-      → Move hooks table root state command (enters table here state (Way.Child i))
-  enters_child command i enterable drops none =
-      let child = entry_at table root state i enterable order in
-      let tracker = tracker_at (def_of table here) tree in
-      let place = opening state.mode table here i tree enterable at_here suits_here in
-      goes_on command i (enter_child table here i) (record { suits = child.suits; leads = child.leads })
-      (λ t. let same = enter_child_holds table here i tree t in omega (arith, drops t, none t))
-      (λ rested. enter_child_rests table here i tree suits_here
-      ((enterable_apart table here i tree tracker (count_trees place.children) enterable place.begun_as.0).1 refl rested) rested)
-
-  opens_it : (command : Call) → Placed state.mode table here [] (opened (def_of table here) tree)
-      → ((t : ℕ) → replaced hooks table root here state command t ≡ 0) → ((t : ℕ) → brings command t ≡ 0)
-      → Move hooks table root state command (opens table here state)
-  opens_it command placed drops none =
-      stays command (opened (def_of table here)) (λ fit. placed)
-      (λ t. let same = opened_holds (tracker_of (def_of table here)) (child_count table here) tree t in
-      omega (arith, drops t, none t)) (opened_rests table here tree suits_here)
-
-  becomes_it : (command : Call) (kept : Option Tree) (anew : Tree) → Becoming state.mode table here [] tree kept anew
-      → ((t : ℕ) → replaced hooks table root here state command t ≡ dropped_unless kept state t)
-      → ((t : ℕ) → brings command t ≡ 0) → Move hooks table root state command (becomes state kept anew)
-  becomes_it command kept anew there drops none =
-      stays command (λ (u : Tree). unwrap_or kept anew) (λ fit. there.placed)
-      (λ t. omega (arith, there.hold t, lost_is kept state t, drops t, none t)) there.rest
-
-  takes_new_item : (command : Call) → TakesAnItem tree
-      → ((t : ℕ) → replaced hooks table root here state command t ≡ 0) → ((t : ℕ) → brings command t ≡ 0)
-      → Move hooks table root state command (moved state (count_below tree) (with_item table here))
-  takes_new_item command takes drops none =
-      goes_on command (count_below tree) (with_item table here) (item_placed state.mode table here tree takes placed_here)
-      (λ t. omega (arith, item_holds table here tree t, drops t, none t)) (item_rests table here tree)
-
-  takes_new_key : IsMap tree false → Move hooks table root state Call.BeginKey (moved state (count_below tree) (with_key table here))
-  takes_new_key map =
-      goes_on Call.BeginKey (count_below tree) (with_key table here)
-      (subst (λ (u : Tree). Placed state.mode table here (count_below u ∷ []) (with_key table here u)) (sym map.is)
-      (key_placed state.mode table here map.base map.children map.ends
-      (subst (λ (u : Tree). Placed state.mode table here [] u) map.is placed_here)))
-      (λ t. let same : tree_occurs (with_key table here tree) t ≡ tree_occurs tree t
-      = subst (λ (u : Tree). tree_occurs (with_key table here u) t ≡ tree_occurs u t) (sym map.is)
-      (key_holds table here map.base map.children t) in omega arith)
-      (subst (λ (u : Tree). RestsAround [] u → RestsAround (count_below u ∷ []) (with_key table here u)) (sym map.is)
-      (key_rests table here map.base map.children))
-
-  takes_new_entry : (key : List ℕ) → IsObject tree → Move hooks table root state (Call.BeginObjectEntry key)
-      (moved state (entry_number key tree) (with_entry table here key))
-  takes_new_entry key object =
-      goes_on (Call.BeginObjectEntry key) (entry_number key tree) (with_entry table here key)
-      (subst (λ (u : Tree). Placed state.mode table here (entry_number key u ∷ []) (with_entry table here key u)) (sym object.is)
-      (entry_placed state.mode table here key object.keys object.children
-      (subst (λ (u : Tree). Placed state.mode table here [] u) object.is placed_here)))
-      (λ t. let same : tree_occurs (with_entry table here key tree) t ≡ tree_occurs tree t
-      = subst (λ (u : Tree). tree_occurs (with_entry table here key u) t ≡ tree_occurs u t) (sym object.is)
-      (entry_holds table here key object.keys object.children t) in omega arith)
-      (subst (λ (u : Tree). Suits table here u → RestsAround [] u
-      → RestsAround (entry_number key u ∷ []) (with_entry table here key u)) (sym object.is)
-      (entry_rests table here key object.keys object.children) suits_here)
-
   -- what a place that isn't open drops as it ends
-  replaced_end : (set part : Bool) (mode : Mode) → is_open_slice tree ≡ false → is_set_item state ≡ set
+  replaced_end : (set part : Bool) (mode : Mode) → is_open_slice tree ≡ false → leaves_source state ≡ false → is_set_item state ≡ set
       → is_dynamic_part state ≡ part → state.mode ≡ mode → (t : ℕ) → replaced hooks table root here state Call.End t
       ≡ dropped_by_column (column_at_end mode (set || part)) hooks table here state set t
-  replaced_end set part mode shut of_set of_part is t = rw (shut, of_set, of_part, is) refl
+  replaced_end set part mode shut apart of_set of_part is t = rw (apart, shut, of_set, of_part, is) refl
+
+  -- no conversion is made by the end of what is no source, nor in deferred mode
+
+  apart_strict : is_source_place state ≡ false → leaves_source state ≡ false
+  apart_strict apart =
+      ap (λ (b : Bool). not (is_open_slice tree) && not (is_deferred_mode state.mode) && b) apart
+      ∙ last_false (not (is_open_slice tree)) (not (is_deferred_mode state.mode))
+
+  apart_deferred : (start : ℕ) → state.mode ≡ deferred start → leaves_source state ≡ false
+  apart_deferred start is =
+      ap (λ (mode : Mode). not (is_open_slice tree) && not (is_deferred_mode mode) && is_source_place state) is
+      ∙ middle_false (not (is_open_slice tree)) (is_source_place state)
 
   -- a child is entered
 
@@ -235,8 +144,9 @@ module _ (hooks : Meanings) (table : Table) (checked : IsChecked table) (root : 
   begins_so i e = go (child_case def i tree)
     where
       go : ChildCase def i tree → Goes (Call.BeginNthField i)
-      go (a_child child admitted may) = goes (rw admitted at e) (enters_child (Call.BeginNthField i) i (enterable table here i tree child) (λ t. refl) (λ t. refl))
-      go (a_variant_child k child admitted chosen) = goes (rw admitted at e) (enters_child (Call.BeginNthField i) i (enterable table here i tree child) (λ t. refl) (λ t. refl))
+      go (a_child child admitted may) = goes (rw admitted at e) (enters_so hooks table root state order (Call.BeginNthField i) i child (λ t. refl) (λ t. refl))
+      go (a_variant_child k child admitted chosen) =
+          goes (rw admitted at e) (enters_so hooks table root state order (Call.BeginNthField i) i child (λ t. refl) (λ t. refl))
       go (no_child operation refused may) = let none = rw refused at e in cc
 
   names_so : (name : List ℕ) → step hooks table root state (Call.BeginField name) ≡ Ok next → Goes (Call.BeginField name)
@@ -244,8 +154,9 @@ module _ (hooks : Meanings) (table : Table) (checked : IsChecked table) (root : 
     where
       go : NamedCase name def tree → Goes (Call.BeginField name)
       go (a_variant_named i k child admitted is chosen) =
-          goes (rw (admitted, is) at e) (enters_child (Call.BeginField name) i (enterable table here i tree child) (λ t. refl) (λ t. refl))
-      go (a_named i child admitted is named may) = goes (rw (admitted, is) at e) (enters_child (Call.BeginField name) i (enterable table here i tree child) (λ t. refl) (λ t. refl))
+          goes (rw (admitted, is) at e) (enters_so hooks table root state order (Call.BeginField name) i child (λ t. refl) (λ t. refl))
+      go (a_named i child admitted is named may) =
+          goes (rw (admitted, is) at e) (enters_so hooks table root state order (Call.BeginField name) i child (λ t. refl) (λ t. refl))
       go (no_such_name admitted is named) = let none = rw (admitted, is) at e in cc
       go (no_names operation refused is) = let none = rw refused at e in cc
 
@@ -253,8 +164,8 @@ module _ (hooks : Meanings) (table : Table) (checked : IsChecked table) (root : 
 
   sets : (given : ℕ) (v : Val) → takes_shape table here given ≡ true → Move hooks table root state (Call.Set given v) (puts state v)
   sets given v taken =
-      stays (Call.Set given v) (λ (u : Tree). whole v)
-      (λ fit. record { suits = taken_fits table here given v taken fit.1; leads = tt }) (λ t. omega arith) (λ rested. tt)
+      stays_at (Call.Set given v) (λ (u : Tree). whole v)
+      (λ fit. record { suits = taken_fits table here given v taken fit.1; leads = tt }) (λ t. omega arith) (λ rested. tt) (λ old. tt)
 
   sets_so : (given : ℕ) (v : Val) → step hooks table root state (Call.Set given v) ≡ Ok next → Goes (Call.Set given v)
   sets_so given v e = by_place (is_dynamic def) refl e
@@ -269,9 +180,9 @@ module _ (hooks : Meanings) (table : Table) (checked : IsChecked table) (root : 
           → converted table here (def_of table given) v ≡ made → puts_dynamic state given made ≡ Ok next → Goes (Call.Set given v)
       converts_so (Ok d) dynamic is h =
           let taken = converted_is table here (def_of table given) v d is in
-          goes h (stays (Call.Set given v) (λ (u : Tree). whole (dyn d))
+          goes h (stays_at (Call.Set given v) (λ (u : Tree). whole (dyn d))
           (λ fit. record { suits = rw (settled_as table here (dynamic_def def dynamic) refl) taken.once; leads = tt })
-          (λ t. omega (arith, taken.holds t)) (λ rested. tt))
+          (λ t. omega (arith, taken.holds t)) (λ rested. tt) (λ old. tt))
       converts_so (Err operation) dynamic is h = cc
 
       by_shape : (b : Bool) → (here == given) ≡ b → is_dynamic def ≡ true
@@ -288,8 +199,8 @@ module _ (hooks : Meanings) (table : Table) (checked : IsChecked table) (root : 
   defaults_so : (preset : Option Val) → preset_of table here ≡ preset → puts_default here state preset ≡ Ok next → Goes Call.SetDefault
   defaults_so (Some v) is e =
       let template = preset_template table here v checked is in
-      goes e (stays Call.SetDefault (λ (u : Tree). whole v) (λ fit. record { suits = template.fit; leads = tt })
-      (λ t. omega (arith, template_holds table here v t template)) (λ rested. tt))
+      goes e (stays_at Call.SetDefault (λ (u : Tree). whole v) (λ fit. record { suits = template.fit; leads = tt })
+      (λ t. omega (arith, template_holds table here v t template)) (λ rested. tt) (λ old. tt))
   defaults_so None is e = cc
 
   parses_so : {command : Call} (meaning : Meaning) (refusal : ReflectErrorKind) (operation : Operation)
@@ -303,13 +214,10 @@ module _ (hooks : Meanings) (table : Table) (checked : IsChecked table) (root : 
   child_so i e = go (at_shape here (named_refusal def tree)) (field_in def (selected tree) i) refl e
     where
       set_so : (field : Field) (value : Result Val ReflectErrorKind) → field_in def (selected tree) i ≡ Some field
-          → field_default table field ≡ value → puts_child_default table here state i value ≡ Ok next → Goes (Call.SetNthFieldToDefault i)
+          → field_default table field ≡ value → puts_child_default table here state i value ≡ Ok next
+          → Goes (Call.SetNthFieldToDefault i)
       set_so field (Ok v) is value h =
-          let there = field_there table here i tree field suits_here is in
-          let template = field_default_template table here (selected tree) i field v checked is value in
-          let put = putting state.mode table here i v tree there.enterable at_here suits_here (rw there.shape template.fit) in
-          goes h (stays (Call.SetNthFieldToDefault i) (put_child def i v) (λ fit. record { suits = put.suits; leads = put.at })
-          (λ t. omega (arith, put.hold t, template_holds table field.shape.0 v t template)) put.rest)
+          goes h (puts_so hooks table root state order i field v is (field_default_template table here (selected tree) i field v checked is value))
       set_so field (Err kind) is value h = cc
 
       go : (refusal : Option ReflectErrorKind) (found : Option Field) → field_in def (selected tree) i ≡ found
@@ -321,30 +229,22 @@ module _ (hooks : Meanings) (table : Table) (checked : IsChecked table) (root : 
   shared_so : step hooks table root state Call.SetEmptySharedSlice ≡ Ok next → Goes Call.SetEmptySharedSlice
   shared_so e =
       unless_at (shared_slice_refusal table def) (puts state (ptr (list_of no_vals)))
-      (λ is. stays Call.SetEmptySharedSlice (λ (u : Tree). whole (ptr (list_of no_vals)))
-      (λ fit. record { suits = shared_fits table here is; leads = tt }) (λ t. omega arith) (λ rested. tt)) e
+      (λ is. stays_at Call.SetEmptySharedSlice (λ (u : Tree). whole (ptr (list_of no_vals)))
+      (λ fit. record { suits = shared_fits table here is; leads = tt }) (λ t. omega arith) (λ rested. tt) (λ old. tt)) e
 
   -- a content, a side or a pointee is begun
 
-  holds_it : (command : Call) (tracker : Tracker) (kept : Option Tree)
-      → Becoming state.mode table here (0 ∷ []) tree kept (content_anew table here tracker)
-      → ((t : ℕ) → replaced hooks table root here state command t ≡ dropped_unless kept state t) → ((t : ℕ) → brings command t ≡ 0)
-      → Move hooks table root state command (enters table here state (Way.Content tracker kept))
-  holds_it command tracker kept there drops none =
-      goes_on command 0 (λ (u : Tree). unwrap_or kept (content_anew table here tracker)) there.placed
-      (λ t. omega (arith, there.hold t, lost_is kept state t, drops t, none t)) there.rest
-
   some_so : step hooks table root state Call.BeginSome ≡ Ok next → Goes Call.BeginSome
   some_so e =
-      only_if (is_option def) _ _ (λ is h. goes h (holds_it Call.BeginSome (as_content ContentKind.Some)
-      (option_kept table here state) (option_becomes state.mode table here tree is suits_here) (λ t. refl) (λ t. refl))) e
+      only_if (is_option def) _ _ (λ is h. goes h (holds_it hooks table root state order Call.BeginSome (as_content ContentKind.Some)
+      (option_kept table here state) (option_becomes state.mode table here tree is suits_here) (λ t. refl) (λ t. refl) tt)) e
 
-  side_so : (command : Call) (side : Tracker) → IsSide side → begin_side table here state side ≡ Ok next
+  side_so : (command : Call) (side : Tracker) → IsSide side → ConversionSuits table here field side → begin_side table here state side ≡ Ok next
       → ((t : ℕ) → replaced hooks table root here state command t ≡ dropped_unless (content_kept state side) state t)
       → ((t : ℕ) → brings command t ≡ 0) → Goes command
-  side_so command side of_result e drops none =
-      only_if (is_result def) _ _ (λ is h. goes h (holds_it command side (content_kept state side)
-      (content_becomes state.mode table here side tree (side_holds table here side of_result is) suits_here) drops none)) e
+  side_so command side of_result may e drops none =
+      only_if (is_result def) _ _ (λ is h. goes h (holds_it hooks table root state order command side (content_kept state side)
+      (content_becomes state.mode table here side tree (side_holds table here side of_result is) suits_here) drops none may)) e
 
   pointer_so : step hooks table root state Call.BeginSmartPtr ≡ Ok next → Goes Call.BeginSmartPtr
   pointer_so e =
@@ -354,13 +254,66 @@ module _ (hooks : Meanings) (table : Table) (checked : IsChecked table) (root : 
       go : (to_slice : Bool) → points_to_slice table def ≡ to_slice → pointer_refusal table def ≡ None
           → Move hooks table root state Call.BeginSmartPtr (begins_pointer table here state to_slice)
       go false to is =
-          holds_it Call.BeginSmartPtr (as_content ContentKind.Pointer) (pointer_kept state false)
+          holds_it hooks table root state order Call.BeginSmartPtr (as_content ContentKind.Pointer) (pointer_kept state false)
           (content_becomes state.mode table here (as_content ContentKind.Pointer) tree (pointer_holds table here (is, to)) suits_here)
-          (λ t. ap (λ (b : Bool). dropped_unless (pointer_kept state b) state t) to) (λ t. refl)
+          (λ t. ap (λ (b : Bool). dropped_unless (pointer_kept state b) state t) to) (λ t. refl) tt
       go true to is =
           let becomes = slice_becomes state.mode table here tree (is, to) suits_here in
-          becomes_it Call.BeginSmartPtr (pointer_kept state true) slice_anew becomes
-          (λ t. ap (λ (b : Bool). dropped_unless (pointer_kept state b) state t) to) (λ t. refl)
+          becomes_it hooks table root state order Call.BeginSmartPtr (pointer_kept state true) slice_anew becomes
+          (λ t. ap (λ (b : Bool). dropped_unless (pointer_kept state b) state t) to) (λ t. refl) (tt, tt)
+
+  -- a source is begun
+
+  inner_so : step hooks table root state Call.BeginInner ≡ Ok next → Goes Call.BeginInner
+  inner_so e = by_source (source_in (slice_get table here)) (convert_in (slice_get table here)) refl refl e
+    where
+      -- the place is an option
+      option_so : (mode : Mode) → state.mode ≡ mode → is_option def ≡ true
+          → ((t : ℕ) → replaced hooks table root here state Call.BeginInner t ≡ dropped_unless (inner_option_kept table here state mode) state t)
+          → Move hooks table root state Call.BeginInner
+          (enters table here state (Way.Content (as_content ContentKind.Some) (inner_option_kept table here state mode)))
+      option_so strict is of_option drops =
+          holds_it hooks table root state order Call.BeginInner (as_content ContentKind.Some) None
+          (option_anew state.mode table here tree of_option) drops (λ t. refl) tt
+      option_so (deferred start) is of_option drops =
+          holds_it hooks table root state order Call.BeginInner (as_content ContentKind.Some) (option_kept table here state)
+          (option_becomes state.mode table here tree of_option suits_here) drops (λ t. refl) tt
+
+      converted_so : (b : Bool) → is_option def ≡ b → (hook : HookId) (source : ShapeId)
+          → source_in (slice_get table here) ≡ Some source → convert_in (slice_get table here) ≡ Some hook
+          → Move hooks table root state Call.BeginInner (begins_converted table here state b (by_wrapper hook source))
+      converted_so true of_option hook source from by =
+          option_so state.mode refl of_option (λ t. rw (from, by, of_option) refl)
+      converted_so false other hook source from by =
+          source_so hooks table root state order Call.BeginInner (by_wrapper hook source)
+          (wrapper_may table here field hook source from by other) (λ t. rw (from, by, other) refl) (λ t. refl)
+
+      -- the field or element 0 of what has started anew
+      first_so : (source : ShapeId) → source_in (slice_get table here) ≡ Some source → convert_in (slice_get table here) ≡ None
+          → ChildCase def 0 (fresh def)
+          → unless_refused (at_shape here (field_refusal def (fresh def) 0)) (enters table here state (Way.Anew 0)) ≡ Ok next
+          → Goes Call.BeginInner
+      first_so source from by (a_child child admitted may) h =
+          goes (rw admitted at h) (enters_anew hooks table root state order Call.BeginInner 0 child (λ t. rw (from, by) refl) (λ t. refl))
+      first_so source from by (a_variant_child k child admitted chosen) h =
+          goes (rw admitted at h) (enters_anew hooks table root state order Call.BeginInner 0 child (λ t. rw (from, by) refl) (λ t. refl))
+      first_so source from by (no_child operation refused may) h = let none = rw refused at h in cc
+
+      by_source : (source : Option ShapeId) (convert : Option HookId) → source_in (slice_get table here) ≡ source
+          → convert_in (slice_get table here) ≡ convert → begins_inner table here state source convert ≡ Ok next → Goes Call.BeginInner
+      by_source None convert from by h = cc
+      by_source (Some source) None from by h = first_so source from by (child_case def 0 (fresh def)) h
+      by_source (Some source) (Some hook) from by h = goes h (converted_so (is_option def) refl hook source from by)
+
+  proxy_so : (command : Call) (found : Result ProxyDef Operation) → (format : Option (List ℕ))
+      → proxy_of_field format (cursor_field table root state) ≡ found → begins_by_proxy table here state found ≡ Ok next
+      → ((t : ℕ) → replaced hooks table root here state command t
+      ≡ dropped_by_proxy (result_ok (proxy_of_field format (cursor_field table root state))) state t)
+      → ((t : ℕ) → brings command t ≡ 0) → Goes command
+  proxy_so command (Ok proxy) format is h drops none =
+      goes h (source_so hooks table root state order command (by_proxy proxy) (field_proxy_may table root state format proxy checked is)
+      (λ t. drops t ∙ ap (λ (known : Result ProxyDef Operation). dropped_by_proxy (result_ok known) state t) is) none)
+  proxy_so command (Err operation) format is h drops none = cc
 
   -- a list or a map is begun
 
@@ -373,12 +326,12 @@ module _ (hooks : Meanings) (table : Table) (checked : IsChecked table) (root : 
       go : (of_dynamic : Bool) → is_dynamic def ≡ of_dynamic → init_list_refusal here def tree ≡ None
           → Move hooks table root state command (begins_list table here state of_dynamic)
       go false other is =
-          opens_it command (list_opens state.mode table here tree other is placed_here)
+          opens_it hooks table root state order command (list_opens state.mode table here tree other is placed_here)
           (λ t. drops t ∙ ap (λ (b : Bool). dropped_if b (kept_array tree) state t) other) none
       go true dynamic is =
-          becomes_it command (kept_array tree) array_anew
+          becomes_it hooks table root state order command (kept_array tree) array_anew
           (array_becomes state.mode table here tree (dynamic_def def dynamic) at_here suits_here)
-          (λ t. drops t ∙ ap (λ (b : Bool). dropped_if b (kept_array tree) state t) dynamic) none
+          (λ t. drops t ∙ ap (λ (b : Bool). dropped_if b (kept_array tree) state t) dynamic) none (tt, tt)
 
   map_so : step hooks table root state Call.InitMap ≡ Ok next → Goes Call.InitMap
   map_so e = unless (init_map_refusal here def tree) (begins_map table here state (is_dynamic def)) (go (is_dynamic def) refl) e
@@ -386,12 +339,12 @@ module _ (hooks : Meanings) (table : Table) (checked : IsChecked table) (root : 
       go : (of_dynamic : Bool) → is_dynamic def ≡ of_dynamic → init_map_refusal here def tree ≡ None
           → Move hooks table root state Call.InitMap (begins_map table here state of_dynamic)
       go false other is =
-          opens_it Call.InitMap (map_opens state.mode table here tree other is placed_here)
+          opens_it hooks table root state order Call.InitMap (map_opens state.mode table here tree other is placed_here)
           (λ t. ap (λ (b : Bool). dropped_if b (kept_object tree) state t) other) (λ t. refl)
       go true dynamic is =
-          becomes_it Call.InitMap (kept_object tree) object_anew
+          becomes_it hooks table root state order Call.InitMap (kept_object tree) object_anew
           (object_becomes state.mode table here tree (dynamic_def def dynamic) at_here suits_here)
-          (λ t. ap (λ (b : Bool). dropped_if b (kept_object tree) state t) dynamic) (λ t. refl)
+          (λ t. ap (λ (b : Bool). dropped_if b (kept_object tree) state t) dynamic) (λ t. refl) (tt, tt)
 
   -- a variant is selected
   select_so : (command : Call) (find : List VariantDef → Option ℕ) (unknown : Operation)
@@ -404,9 +357,10 @@ module _ (hooks : Meanings) (table : Table) (checked : IsChecked table) (root : 
       found_so : (found : Option ℕ) → is_enum def ≡ true → find (variants_of def) ≡ found
           → select_found table here state found unknown ≡ Ok next → Goes command
       found_so (Some k) of_enum is h =
-          unless_at (selection_refusal def k) (selects table here state k) (λ admitted. becomes_it command (variant_kept state k) (variant_anew def k)
+          unless_at (selection_refusal def k) (selects table here state k) (λ admitted. becomes_it hooks table root state order command (variant_kept state k) (variant_anew def k)
           (variant_becomes state.mode table here k tree of_enum admitted at_here suits_here)
-          (λ t. drops t ∙ ap (λ (found : Option ℕ). dropped_by_selecting found state t) is) none) h
+          (λ t. drops t ∙ ap (λ (found : Option ℕ). dropped_by_selecting found state t) is) none
+          (tt, holes_convert table here (as_fields (Some k)) 0 _)) h
       found_so None of_enum is h = cc
 
   -- the end of a place, or of the items of a slice
@@ -416,50 +370,70 @@ module _ (hooks : Meanings) (table : Table) (checked : IsChecked table) (root : 
     where
       -- an open pointer to a slice isn't left yet
       drops : (mode : Mode) → state.mode ≡ mode → (t : ℕ)
-          → dropped_at_end hooks table here state t ≡ dropped_by_column (column_at_end mode false) hooks table here state false t
+          → dropped_at_end hooks table root here state t ≡ dropped_by_column (column_at_end mode false) hooks table here state false t
       drops mode is t = rw (is_slice, is) refl
 
       made_so : (value : Option Val) → state.mode ≡ strict → complete strict_column hooks table here tree ≡ value
           → puts_made hooks table here state value ≡ Ok next → Goes Call.End
       made_so (Some v) is_strict is h =
-          let made = completing_makes strict_column hooks table tree here v checked suits_here is in
-          goes h (stays Call.End (λ old. whole v) (λ fit. record { suits = made.fit; leads = tt })
-          (λ t. omega (arith, made.hold t, drops strict is_strict t)) (λ rested. tt))
+          goes h (stays Call.End (λ old. whole v)
+          (λ lawful fit. record { suits = (made lawful).fit; leads = tt })
+          (λ lawful t. omega (arith, (made lawful).hold t, drops strict is_strict t)) (λ rested. tt) (λ old. tt))
+        where
+          made : IsLawful hooks → Made table here (λ t. dropped_by_completing strict_column hooks table here tree t)
+              (λ t. tree_occurs tree t) v
+          made lawful = completing_makes strict_column hooks table tree here v (lawful_in hooks tree lawful) checked suits_here is
       made_so None is_strict is h = cc
 
       go : (mode : Mode) → state.mode ≡ mode → closes_slice hooks table here state mode ≡ Ok next → Goes Call.End
       go strict is h = made_so (complete strict_column hooks table here tree) is refl h
       go (deferred start) is h =
-          goes h (stays Call.End closed_slice (λ fit. slice_closes state.mode table here tree is_slice placed_here)
-          (λ t. let same = closed_holds tree t in omega (arith, drops (deferred start) is t)) (closed_rests tree))
+          goes h (stays_at Call.End closed_slice (λ fit. slice_closes state.mode table here tree is_slice placed_here)
+          (λ t. let same = closed_holds tree t in omega (arith, drops (deferred start) is t)) (closed_rests tree)
+          (shut_converts table here field tree is_slice))
 
-  leaves_so : is_open_slice tree ≡ false → leaves_place hooks table here state ≡ Ok next → Goes Call.End
+  leaves_so : is_open_slice tree ≡ false → leaves_place hooks table root here state ≡ Ok next → Goes Call.End
   leaves_so shut e = go (is_root state.cursor) state.mode refl refl e
     where
-      ended_so : (value : Option Val) → state.mode ≡ strict → is_set_item state ≡ false
+      ended_so : (value : Option Val) → state.mode ≡ strict → is_set_item state ≡ false → is_source_place state ≡ false
           → complete strict_column hooks table here tree ≡ value → ended hooks table here state value ≡ Ok next → Goes Call.End
-      ended_so (Some v) is_strict no_item is h =
-          goes h (goes_up strict_column v (began_strict state.mode (up state.cursor) is_strict) no_item is
-          (λ t. let all = replaced_end false (is_dynamic_part state) strict shut no_item refl is_strict t in omega arith))
-      ended_so None is_strict no_item is h = cc
+      ended_so (Some v) is_strict no_item apart is h =
+          goes h (goes_up strict_column v (began_strict state.mode (up state.cursor) is_strict)
+          (may_go_up state.mode state.cursor state.tree apart) no_item is
+          (λ t. let all = replaced_end false (is_dynamic_part state) strict shut (apart_strict apart) no_item refl is_strict t in
+          omega arith))
+      ended_so None is_strict no_item apart is h = cc
+
+      converted_so : (value : Option Val) → state.mode ≡ strict → is_root state.cursor ≡ false → is_source_place state ≡ true
+          → complete strict_column hooks table (cursor_shape table root (above state)) (cursor_tree (above state)) ≡ value
+          → puts_made hooks table (cursor_shape table root (above state)) (above state) value ≡ Ok next → Goes Call.End
+      converted_so (Some v) is_strict below source is h =
+          let leaves : leaves_source state ≡ true
+          = ap (λ (b : Bool). not b && not (is_deferred_mode state.mode) && is_source_place state) shut
+          ∙ ap (λ (b : Bool). true && not (is_deferred_mode state.mode) && b) source
+          ∙ ap (λ (mode : Mode). true && not (is_deferred_mode mode) && true) is_strict in
+          goes h (is_converted v is_strict below is (λ t. rw leaves refl))
+      converted_so None is_strict below source is h = cc
 
       item_so : (column : Column) (value : Option Val) → is_root state.cursor ≡ false → EndsBelow state.mode state.cursor
-          → column_at_end state.mode true ≡ Some column → is_set_item state ≡ true → complete column hooks table here tree ≡ value
+          → column_at_end state.mode true ≡ Some column → leaves_source state ≡ false → is_set_item state ≡ true → complete column hooks table here tree ≡ value
           → item_ended column hooks table here state value ≡ Ok next → Goes Call.End
-      item_so column (Some v) below deeper by_column of_set is h =
+      item_so column (Some v) below deeper by_column apart of_set is h =
           goes h (is_taken column v (began_above state.mode state.cursor deeper) below of_set is
-          (λ t. replaced_end true (is_dynamic_part state) state.mode shut of_set refl refl t
+          (λ t. replaced_end true (is_dynamic_part state) state.mode shut apart of_set refl refl t
           ∙ ap (λ (known : Option Column). dropped_by_column known hooks table here state true t) by_column
           ∙ ap (λ (made : Option Val). dropped_by_completing column hooks table here tree t
           + dropped_with_item (number_in state.cursor) (tree_at (up state.cursor) state.tree) made t) is))
-      item_so column None below deeper by_column of_set is h = cc
+      item_so column None below deeper by_column apart of_set is h = cc
 
       part_so : (start : ℕ) (value : Option Val) → state.mode ≡ deferred start → start < length state.cursor
           → is_set_item state ≡ false → is_dynamic_part state ≡ true → complete deferred_column hooks table here tree ≡ value
           → part_ended hooks table here state value ≡ Ok next → Goes Call.End
       part_so start (Some v) by_mode deeper no_item of_part is h =
-          goes h (goes_up deferred_column v (began_up state.mode start state.cursor by_mode deeper) no_item is
-          (λ t. let all = replaced_end false true (deferred start) shut no_item of_part by_mode t in omega arith))
+          goes h (goes_up deferred_column v (began_up state.mode start state.cursor by_mode deeper)
+          (may_go_deferred state.mode start state.cursor state.tree by_mode) no_item is
+          (λ t. let all = replaced_end false true (deferred start) shut (apart_deferred start by_mode) no_item of_part by_mode t in
+          omega arith))
       part_so start None by_mode deeper no_item of_part is h = cc
 
       below_so : (mode : Mode) → state.mode ≡ mode → EndsBelow mode state.cursor → EndsBelow state.mode state.cursor
@@ -471,22 +445,33 @@ module _ (hooks : Meanings) (table : Table) (checked : IsChecked table) (root : 
           else leaves_deferred hooks table here state of_part) ≡ Ok next → Goes Call.End
       left_so start true of_part is below deeper item part h =
           item_so deferred_column (complete deferred_column hooks table here tree) below
-          (below_so (deferred start) is deeper) (ap (λ (mode : Mode). column_at_end mode true) is) item refl h
+          (below_so (deferred start) is deeper) (ap (λ (mode : Mode). column_at_end mode true) is)
+          (apart_deferred start is) item refl h
       left_so start false true is below deeper item part h =
           part_so start (complete deferred_column hooks table here tree) is deeper item part refl h
       left_so start false false is below deeper item part h =
-          goes h (stays_behind start is deeper shut item part (λ t. replaced_end false false (deferred start) shut item part is t))
+          goes h (stays_behind start is deeper shut item part (λ t. replaced_end false false (deferred start) shut (apart_deferred start is) item part is t))
 
       strict_so : (of_set : Bool) → state.mode ≡ strict → is_root state.cursor ≡ false → is_set_item state ≡ of_set
           → (if of_set then end_of_item strict_column hooks table here state
+          else if is_source_place state then ends_source hooks table root state
           else ended hooks table here state (complete strict_column hooks table here tree)) ≡ Ok next → Goes Call.End
       strict_so true is below item h =
           item_so strict_column (complete strict_column hooks table here tree) below
-          (below_so strict is tt) (ap (λ (mode : Mode). column_at_end mode true) is) item refl h
-      strict_so false is below item h = ended_so (complete strict_column hooks table here tree) is item refl h
+          (below_so strict is tt) (ap (λ (mode : Mode). column_at_end mode true) is)
+          (apart_strict (set_apart (tree_at (up state.cursor) state.tree) item)) item refl h
+      strict_so false is below item h = by_source (is_source_place state) refl h
+        where
+          by_source : (source : Bool) → is_source_place state ≡ source
+              → (if source then ends_source hooks table root state
+              else ended hooks table here state (complete strict_column hooks table here tree)) ≡ Ok next → Goes Call.End
+          by_source true source h =
+              converted_so (complete strict_column hooks table (cursor_shape table root (above state)) (cursor_tree (above state)))
+              is below source refl h
+          by_source false apart h = ended_so (complete strict_column hooks table here tree) is item apart refl h
 
       go : (b : Bool) (mode : Mode) → is_root state.cursor ≡ b → state.mode ≡ mode
-          → (if b then Err (violates Invariant.EndAtRoot) else end_in hooks table here state mode) ≡ Ok next → Goes Call.End
+          → (if b then Err (violates Invariant.EndAtRoot) else end_in hooks table root here state mode) ≡ Ok next → Goes Call.End
       go true mode below is h = cc
       go false strict below is h = strict_so (is_set_item state) is below refl h
       go false (deferred start) below is h =
@@ -494,7 +479,7 @@ module _ (hooks : Meanings) (table : Table) (checked : IsChecked table) (root : 
           below (ltb-true start (length state.cursor) deeper) refl refl) h
 
   ends_so : (b : Bool) → is_open_slice tree ≡ b
-      → (if b then closes_slice hooks table here state state.mode else leaves_place hooks table here state) ≡ Ok next → Goes Call.End
+      → (if b then closes_slice hooks table here state state.mode else leaves_place hooks table root here state) ≡ Ok next → Goes Call.End
   ends_so true is e = closes_so is e
   ends_so false is e = leaves_so is e
 
@@ -524,28 +509,35 @@ module _ (hooks : Meanings) (table : Table) (checked : IsChecked table) (root : 
   moves Call.SetEmptySharedSlice e = shared_so e
   moves Call.InitList e = list_so Call.InitList (λ t. refl) (λ t. refl) e
   moves (Call.InitListWithCapacity n) e = list_so (Call.InitListWithCapacity n) (λ t. refl) (λ t. refl) e
-  moves Call.InitArray e = unless (at_shape here (init_array_refusal def tree)) (opens table here state)
-      (λ is. opens_it Call.InitArray (array_opens state.mode table here tree is placed_here) (λ t. refl) (λ t. refl)) e
+  moves Call.InitArray e =
+      unless (at_shape here (init_array_refusal def tree)) (begins_array table here state) (array_so hooks table root state order) e
   moves Call.InitMap e = map_so e
-  moves Call.BeginKey e = unless_at (key_refusal tree) (enters table here state Way.Key) (λ is. takes_new_key (takes_a_key tree is)) e
+  moves Call.BeginKey e = unless_at (key_refusal tree) (enters table here state Way.Key) (λ is. takes_new_key hooks table root state order (takes_a_key tree is)) e
   moves Call.BeginValue e =
       unless_at (value_refusal tree) (enters table here state (Way.Value (last_of (count_below tree))))
-      (λ is. enters_child Call.BeginValue (last_of (count_below tree))
-      (value_enterable table here tree (takes_a_value tree is) suits_here) (λ t. refl) (λ t. refl)) e
+      (λ is. enters_value hooks table root state order (last_of (count_below tree)) (value_enterable table here tree (takes_a_value tree is) suits_here)) e
   moves Call.InitSet e = unless (init_set_refusal here def tree) (opens table here state)
-      (λ is. opens_it Call.InitSet (set_opens state.mode table here tree is placed_here) (λ t. refl) (λ t. refl)) e
+      (λ is. opens_it hooks table root state order Call.InitSet (set_opens state.mode table here tree is placed_here) (λ t. refl) (λ t. refl)) e
   moves Call.BeginSetItem e = unless_at (set_item_refusal def tree) (enters table here state Way.Item)
-      (λ is. takes_new_item Call.BeginSetItem (takes_a_set_item def tree is) (λ t. refl) (λ t. refl)) e
+      (λ is. takes_new_item hooks table root state order Call.BeginSetItem (takes_a_set_item def tree is) (λ t. refl) (λ t. refl)) e
   moves (Call.BeginObjectEntry key) e =
       unless_at (entry_refusal def tree) (enters table here state (Way.Entry key))
-      (λ is. takes_new_entry key (takes_an_entry def tree is)) e
+      (λ is. takes_new_entry hooks table root state order key (takes_an_entry def tree is)) e
   moves Call.BeginListItem e =
       unless_at (item_refusal def tree) (enters table here state Way.Item)
-      (λ is. takes_new_item Call.BeginListItem (takes_an_item def tree is) (λ t. refl) (λ t. refl)) e
+      (λ is. takes_new_item hooks table root state order Call.BeginListItem (takes_an_item def tree is) (λ t. refl) (λ t. refl)) e
   moves Call.BeginSome e = some_so e
-  moves Call.BeginOk e = side_so Call.BeginOk (as_content ContentKind.Ok) tt e (λ t. refl) (λ t. refl)
-  moves Call.BeginErr e = side_so Call.BeginErr (as_content ContentKind.Err) tt e (λ t. refl) (λ t. refl)
+  moves Call.BeginOk e = side_so Call.BeginOk (as_content ContentKind.Ok) tt tt e (λ t. refl) (λ t. refl)
+  moves Call.BeginErr e = side_so Call.BeginErr (as_content ContentKind.Err) tt tt e (λ t. refl) (λ t. refl)
   moves Call.BeginSmartPtr e = pointer_so e
+  moves Call.BeginInner e = inner_so e
+  moves Call.BeginCustomDeserialization e = proxy_so Call.BeginCustomDeserialization _ None refl e (λ t. refl) (λ t. refl)
+  moves (Call.BeginCustomDeserializationWithFormat format) e =
+      proxy_so (Call.BeginCustomDeserializationWithFormat format) _ format refl e (λ t. refl) (λ t. refl)
+  moves Call.BeginCustomDeserializationFromShape e =
+      goes e (from_shape_so hooks table root state order Call.BeginCustomDeserializationFromShape _ None refl (λ t. refl) (λ t. refl))
+  moves (Call.BeginCustomDeserializationFromShapeWithFormat format) e =
+      goes e (from_shape_so hooks table root state order (Call.BeginCustomDeserializationFromShapeWithFormat format) _ format refl (λ t. refl) (λ t. refl))
   moves (Call.SelectNthVariant i) e =
       select_so (Call.SelectNthVariant i) (variant_numbered i) Operation.VariantIndexOutOfBounds e (λ t. refl) (λ t. refl)
   moves (Call.SelectVariantNamed name) e =

@@ -1,6 +1,6 @@
 -- A place at the cursor as its children see it, and the entry of one of them.
-use Rattle.std.proofs.Common.{◌≡◌, ◌+◌, ◌<◌, ◌≤◌, ◌∷◌}
-use Rattle.fr_model.proofs.Common.{ℕ, zero, suc, true, false, List, [], length, Option, Some, None, refl, sym, ◌∙◌, ap, subst, arith, Def, ShapeId, StructDef, EnumDef, VariantDef, Field, is_empty_struct, is_nil, Table, def_of, Val, Vals, unit, product, no_vals, first, fits, fields_fit, is_set_tracker, ends_in_hole, array_limit, vals_nth, entered_at, Journal, Held, written, just_entered, untouched, at_least_entered, held, Tracker, as_fields, as_elements, as_entries, EntriesKind, tracker_of, tracker_at, over_base, selected, Tree, hole, entered, whole, begun, Trees, no_trees, branch, tree_nth, change_nth, change_child, child_as, count_trees, holes, wholes, fresh, Mode, strict, deferred, HasParts, opened, enter, enter_child, fields_or_none, variant_fields, HasFieldsOf, IsFullAs, IsBegunAs, IsTouched, IsContent, AreTouched, AreEntries, IsBehindBase, IsBegunRightly, Suits, IsOff, AllOff, AtCursor, OffBut, Leads, RestsAround}
+use Rattle.std.proofs.Common.{◌≡◌, ◌+◌, ◌<◌, ◌≤◌, ◌∷◌, if◌then◌else◌}
+use Rattle.fr_model.proofs.Common.{ℕ, zero, suc, true, false, List, [], length, Option, Some, None, refl, sym, ◌∙◌, ap, subst, arith, Def, ShapeId, StructDef, EnumDef, VariantDef, Field, is_empty_struct, is_nil, Table, def_of, Val, Vals, unit, product, no_vals, first, fits, fields_fit, is_set_tracker, ends_in_hole, array_limit, vals_nth, entered_at, Journal, Held, written, just_entered, untouched, at_least_entered, held, Tracker, as_fields, as_elements, as_content, ContentKind, is_conversion, is_begun_conversion, without_source, Bool, as_entries, EntriesKind, tracker_of, tracker_at, over_base, selected, Tree, hole, entered, whole, begun, Trees, no_trees, branch, tree_nth, change_nth, change_child, child_as, count_trees, holes, wholes, fresh, Mode, strict, deferred, HasParts, opened, enter, enter_child, fields_or_none, variant_fields, HasFieldsOf, IsFullAs, IsBegunAs, IsTouched, IsContent, AreTouched, AreEntries, IsBehindBase, IsBegunRightly, Suits, IsOff, AllOff, MayWorkAt, AtCursor, OffBut, Leads, RestsAround}
 use Rattle.fr_model.proofs.Beneath.{down, held_down, IsLow, untouched_below, written_below}
 use Rattle.fr_model.proofs.Agreement.{IsWhole, by_value, by_entry, Agrees, AgreeAll, agree_change, down_same, down_other}
 use Rattle.fr_model.proofs.Wholes.{base_hole}
@@ -13,22 +13,28 @@ IsOpen (whole v) = ⊥
 IsOpen _ = Unit {0}
 
 -- child i of the place of shape s may be entered: a field of a struct, an element of an array that isn't whole and not too large, a
--- field of the variant that is selected, or the value of a map's last entry
+-- field of the variant that is selected, or the value of a map's last entry; of a conversion it is none
 pub data Enterable (table : Table) (s i : ℕ) (t : Tree) : Type 0 where
-  a_field : (struct : StructDef) → def_of table s ≡ Def.Struct struct → i < length struct.fields → Enterable table s i t
-  an_element : (item : ShapeId) (n : ℕ) → def_of table s ≡ Def.Array item n → i < n → n ≤ array_limit → IsOpen t → Enterable table s i t
+  a_field : (struct : StructDef) → def_of table s ≡ Def.Struct struct → i < length struct.fields → is_begun_conversion t ≡ false
+      → Enterable table s i t
+  an_element : (item : ShapeId) (n : ℕ) → def_of table s ≡ Def.Array item n → i < n → n ≤ array_limit → IsOpen t
+      → is_begun_conversion t ≡ false → Enterable table s i t
   a_variant_field : (k : ℕ) (enumeration : EnumDef) → def_of table s ≡ Def.Enum enumeration → selected t ≡ Some k
       → i < length (variant_fields (def_of table s) k) → Enterable table s i t
   a_value : (key item : ShapeId) → def_of table s ≡ Def.Map key item → (base : ℕ) (children : Trees) → t ≡ begun (as_entries (EntriesKind.Map base)) children
       → suc i ≡ count_trees children → ends_in_hole children ≡ true → Enterable table s i t
 
-begun_fields : (struct : StructDef) (tracker : Tracker) (n : ℕ) → IsFullAs (Def.Struct struct) tracker n → n ≡ length struct.fields
-begun_fields struct (as_fields None) n full_as = full_as
-begun_fields struct _ n full_as = absurd full_as
+begun_fields : (struct : StructDef) (tracker : Tracker) (n : ℕ) → is_conversion tracker ≡ false → IsFullAs (Def.Struct struct) tracker n
+    → n ≡ length struct.fields
+begun_fields struct (as_fields None) n apart full_as = full_as
+begun_fields struct (as_content (ContentKind.Source conversion)) n apart full_as = cc
+begun_fields struct _ n apart full_as = absurd full_as
 
-begun_elements : (item : ShapeId) (m : ℕ) (tracker : Tracker) (n : ℕ) → IsFullAs (Def.Array item m) tracker n → n ≡ m
-begun_elements item m as_elements n full_as = full_as
-begun_elements item m _ n full_as = absurd full_as
+begun_elements : (item : ShapeId) (m : ℕ) (tracker : Tracker) (n : ℕ) → is_conversion tracker ≡ false
+    → IsFullAs (Def.Array item m) tracker n → n ≡ m
+begun_elements item m as_elements n apart full_as = full_as
+begun_elements item m (as_content (ContentKind.Source conversion)) n apart full_as = cc
+begun_elements item m _ n apart full_as = absurd full_as
 
 begun_variant : (def : Def) (k n : ℕ) → IsFullAs def (as_fields (Some k)) n → n ≡ length (variant_fields def k)
 begun_variant (Def.Enum enumeration) k n full_as = go _ full_as
@@ -41,10 +47,10 @@ begun_variant _ k n full_as = absurd full_as
 -- a begun place has the child
 begun_within : (table : Table) (s i : ℕ) (tracker : Tracker) (ts : Trees) → Enterable table s i (begun tracker ts)
     → IsFullAs (def_of table s) tracker (count_trees ts) → i < count_trees ts
-begun_within table s i tracker ts (a_field struct is below) full_as =
-    omega (arith, below, begun_fields struct tracker _ (rw is at full_as))
-begun_within table s i tracker ts (an_element item n is below few not_whole) full_as =
-    omega (arith, below, begun_elements item n tracker _ (rw is at full_as))
+begun_within table s i tracker ts (a_field struct is below apart) full_as =
+    omega (arith, below, begun_fields struct tracker _ apart (rw is at full_as))
+begun_within table s i tracker ts (an_element item n is below few not_whole apart) full_as =
+    omega (arith, below, begun_elements item n tracker _ apart (rw is at full_as))
 begun_within table s i (as_fields (Some j)) ts (a_variant_field k enumeration is chosen below) full_as =
     let same : j ≡ k = cc in
     let count : count_trees ts ≡ length _ = subst (λ (n : ℕ). count_trees ts ≡ length (variant_fields (def_of table s) n)) same
@@ -56,34 +62,48 @@ begun_within table s i tracker ts (a_value key item is base children there last 
     let count : count_trees ts ≡ count_trees children = ap count_trees same in
     omega arith
 
+-- and is no conversion
+enterable_begun : (table : Table) (s i : ℕ) (tracker : Tracker) (ts : Trees) → Enterable table s i (begun tracker ts)
+    → is_conversion tracker ≡ false
+enterable_begun table s i tracker ts (a_field struct is below apart) = apart
+enterable_begun table s i tracker ts (an_element item n is below few not_whole apart) = apart
+enterable_begun table s i (as_fields (Some j)) ts (a_variant_field k enumeration is chosen below) = refl
+enterable_begun table s i _ ts (a_variant_field k enumeration is chosen below) = cc
+enterable_begun table s i tracker ts (a_value key item is base children there last lacking) =
+    let same : tracker ≡ as_entries (EntriesKind.Map base) = cc in ap is_conversion same
+
 -- a place begun so is no set and has no base
 abbrev IsApart : Tracker → Type 0
 IsApart tracker = (is_set_tracker tracker ≡ false) × ((i : ℕ) → IsBehindBase tracker i)
 
 fields_apart : (struct : StructDef) (tracker : Tracker) (n : ℕ) → IsFullAs (Def.Struct struct) tracker n → IsApart tracker
 fields_apart struct (as_fields None) n full_as = (refl, λ i. tt)
+fields_apart struct (as_content kind) n full_as = (refl, λ i. tt)
 fields_apart struct _ n full_as = absurd full_as
 
 elements_apart : (item : ShapeId) (m : ℕ) (tracker : Tracker) (n : ℕ) → IsFullAs (Def.Array item m) tracker n → IsApart tracker
 elements_apart item m as_elements n full_as = (refl, λ i. tt)
+elements_apart item m (as_content kind) n full_as = (refl, λ i. tt)
 elements_apart item m _ n full_as = absurd full_as
 
 variant_apart : (enumeration : EnumDef) (tracker : Tracker) (n : ℕ) → IsFullAs (Def.Enum enumeration) tracker n → IsApart tracker
 variant_apart enumeration (as_fields (Some k)) n full_as = (refl, λ i. tt)
+variant_apart enumeration (as_content kind) n full_as = (refl, λ i. tt)
 variant_apart enumeration _ n full_as = absurd full_as
 
 map_no_set : (key item : ShapeId) (tracker : Tracker) (n : ℕ) → IsFullAs (Def.Map key item) tracker n → is_set_tracker tracker ≡ false
 map_no_set key item (as_entries (EntriesKind.Map base)) n full_as = refl
+map_no_set key item (as_content kind) n full_as = refl
 map_no_set key item _ n full_as = absurd full_as
 
 -- a place of which a child is entered so is no set, and the child isn't in its base, for that has all its values
 pub enterable_apart : (table : Table) (s i : ℕ) (t : Tree) (tracker : Tracker) (n : ℕ) → Enterable table s i t
     → IsFullAs (def_of table s) tracker n → (is_set_tracker tracker ≡ false)
     × (tracker_at (def_of table s) t ≡ tracker → RestsAround [] t → IsBehindBase tracker i)
-enterable_apart table s i t tracker n (a_field struct is below) full_as =
-    let apart = fields_apart struct tracker n (rw is at full_as) in (apart.0, λ formed rested. apart.1 i)
-enterable_apart table s i t tracker n (an_element item m is below few not_whole) full_as =
-    let apart = elements_apart item m tracker n (rw is at full_as) in (apart.0, λ formed rested. apart.1 i)
+enterable_apart table s i t tracker n (a_field struct is below apart) full_as =
+    let by = fields_apart struct tracker n (rw is at full_as) in (by.0, λ formed rested. by.1 i)
+enterable_apart table s i t tracker n (an_element item m is below few not_whole apart) full_as =
+    let by = elements_apart item m tracker n (rw is at full_as) in (by.0, λ formed rested. by.1 i)
 enterable_apart table s i t tracker n (a_variant_field k enumeration is chosen below) full_as =
     let apart = variant_apart enumeration tracker n (rw is at full_as) in (apart.0, λ formed rested. apart.1 i)
 enterable_apart table s i t tracker n (a_value key item is base children there last lacking) full_as = (
@@ -139,6 +159,7 @@ pub record Opening (mode : Mode) (table : Table) (s i : ℕ) (tracker : Tracker)
   pub suit : SuitFrom table s tracker 0 children
   pub rightly : IsBegunRightly table s tracker children
   pub within : i < count_trees children
+  pub apart : is_conversion tracker ≡ false
   pub off : AllOff mode children
   pub agree : (notes : Journal) → Agrees table s notes t → AgreeAll table s tracker notes 0 children × HasParts tracker
 
@@ -181,16 +202,22 @@ wholes_agree table s tracker (first v vs) i notes each = (
 
 -- all that may stand at the cursor
 
-opening_holes : (mode : Mode) (table : Table) (s i n : ℕ) (tracker : Tracker) → HasParts tracker
+-- the builder may work at what is no conversion
+pub may_work : (mode : Mode) (tracker : Tracker) → is_conversion tracker ≡ false → MayWorkAt mode tracker
+may_work strict tracker apart = apart
+may_work (deferred start) tracker apart = tt
+
+opening_holes : (mode : Mode) (table : Table) (s i n : ℕ) (tracker : Tracker) → HasParts tracker → is_conversion tracker ≡ false
     → opened (def_of table s) entered ≡ begun tracker (holes n) → IsBegunAs (def_of table s) tracker n
     → IsBegunRightly table s tracker (holes n) → i < n → Opening mode table s i tracker entered
-opening_holes mode table s i n tracker parts is begun_as rightly below = record {
+opening_holes mode table s i n tracker parts apart is begun_as rightly below = record {
   children = holes n;
   is = is;
   begun_as = subst (λ (m : ℕ). IsBegunAs (def_of table s) tracker m) (sym (count_holes n)) begun_as;
   suit = holes_suit table s tracker 0 n;
   rightly = rightly;
   within = omega (arith, below, count_holes n);
+  apart = apart;
   off = holes_off mode n;
   agree = λ notes agrees. (
     holes_agree table s tracker n 0 notes (λ j. sym (held_down j notes []) ∙ untouched_below j notes [] (subst IsLow (sym agrees) tt)),
@@ -200,12 +227,12 @@ opening_holes mode table s i n tracker parts is begun_as rightly below = record 
 
 opening_entered : (mode : Mode) (table : Table) (s i : ℕ) → Enterable table s i entered
     → Opening mode table s i (tracker_at (def_of table s) entered) entered
-opening_entered mode table s i (a_field struct is below) =
+opening_entered mode table s i (a_field struct is below apart) =
     subst (λ (tracker : Tracker). Opening mode table s i tracker entered) (sym (ap tracker_of is))
-    (opening_holes mode table s i _ _ tt (rw is refl) (rw is (refl, omega arith)) tt below)
-opening_entered mode table s i (an_element item n is below few not_whole) =
+    (opening_holes mode table s i _ _ tt refl (rw is refl) (rw is (refl, omega arith)) tt below)
+opening_entered mode table s i (an_element item n is below few not_whole apart) =
     subst (λ (tracker : Tracker). Opening mode table s i tracker entered) (sym (ap tracker_of is))
-    (opening_holes mode table s i n as_elements tt (rw is refl) (rw is (refl, few)) tt below)
+    (opening_holes mode table s i n as_elements tt refl (rw is refl) (rw is (refl, few)) tt below)
 opening_entered mode table s i (a_variant_field k enumeration is chosen below) = cc
 opening_entered mode table s i (a_value key item is base children there last lacking) = cc
 
@@ -228,6 +255,7 @@ opening_product mode table s i struct vs is below fit =
       suit = suits.suit;
       rightly = tt;
       within = omega (arith, suits.count, below);
+      apart = refl;
       off = wholes_off mode vs;
       agree = λ notes agrees. (product_agrees table s vs notes agrees, tt);
     }
@@ -248,6 +276,7 @@ opening_begun mode table s i tracker ts enterable off suits = record {
   suit = suits.1;
   rightly = suits.2;
   within = begun_within table s i tracker ts enterable suits.0.0;
+  apart = enterable_begun table s i tracker ts enterable;
   off = off;
   agree = λ notes agrees. (agrees.1, agrees.2);
 }
@@ -256,13 +285,13 @@ pub opening : (mode : Mode) (table : Table) (s i : ℕ) (t : Tree) → Enterable
     → Opening mode table s i (tracker_at (def_of table s) t) t
 opening mode table s i hole enterable at suits = absurd at
 opening mode table s i entered enterable at suits = opening_entered mode table s i enterable
-opening mode table s i (whole v) (a_field struct is below) at suits =
+opening mode table s i (whole v) (a_field struct is below apart) at suits =
     subst (λ (tracker : Tracker). Opening mode table s i tracker (whole v)) (sym (ap (λ (def : Def). over_base (tracker_of def) v) is))
     (opening_whole mode table s i struct v is below suits)
-opening mode table s i (whole v) (an_element item n is below few not_whole) at suits = absurd not_whole
+opening mode table s i (whole v) (an_element item n is below few not_whole apart) at suits = absurd not_whole
 opening mode table s i (whole v) (a_variant_field k enumeration is chosen below) at suits = cc
 opening mode table s i (whole v) (a_value key item is base children there last lacking) at suits = cc
-opening mode table s i (begun tracker ts) enterable at suits = opening_begun mode table s i tracker ts enterable at suits
+opening mode table s i (begun tracker ts) enterable at suits = opening_begun mode table s i tracker ts enterable at.1 suits
 
 -- a fresh place
 
@@ -284,6 +313,28 @@ fresh_suits table s = fresh_is (Suits table s) _ (of_def _ refl) (λ e. e)
 pub fresh_at_cursor : (mode : Mode) (def : Def) → AtCursor mode (fresh def)
 fresh_at_cursor mode def = fresh_is (AtCursor mode) def (λ e. tt) (λ e. tt)
 
+-- a place that starts anew where it is a conversion
+
+pub without_source_is : (Is : Tree → Type 0) (def : Def) (t : Tree) → (is_begun_conversion t ≡ true → Is (fresh def))
+    → (is_begun_conversion t ≡ false → Is t) → Is (without_source def t)
+without_source_is Is def t anew same = go (is_begun_conversion t) refl
+  where
+    go : (b : Bool) → is_begun_conversion t ≡ b → Is (if b then fresh def else t)
+    go true conversion = anew conversion
+    go false apart = same apart
+
+pub without_source_suits : (table : Table) (s : ℕ) (t : Tree) → Suits table s t → Suits table s (without_source (def_of table s) t)
+without_source_suits table s t suits = without_source_is (Suits table s) _ t (λ anew. fresh_suits table s) (λ apart. suits)
+
+pub without_source_at : (mode : Mode) (def : Def) (t : Tree) → AtCursor mode t → AtCursor mode (without_source def t)
+without_source_at mode def t at = without_source_is (AtCursor mode) def t (λ anew. fresh_at_cursor mode def) (λ apart. at)
+
+pub fresh_apart : (def : Def) → is_begun_conversion (fresh def) ≡ false
+fresh_apart def = fresh_is (λ t. is_begun_conversion t ≡ false) def (λ e. refl) (λ e. refl)
+
+pub without_source_apart : (def : Def) (t : Tree) → is_begun_conversion (without_source def t) ≡ false
+without_source_apart def t = without_source_is (λ u. is_begun_conversion u ≡ false) def t (λ anew. fresh_apart def) (λ apart. apart)
+
 pub fresh_agrees : (table : Table) (s : ℕ) (notes : Journal) → held notes [] ≡ just_entered → Agrees table s notes (fresh (def_of table s))
 fresh_agrees table s notes agrees = fresh_is (Agrees table s notes) _ (λ empty. by_entry agrees empty refl) (λ e. agrees)
 
@@ -301,7 +352,7 @@ all_deferred start (branch t ts) = (tt, all_deferred start ts)
 enter_at_cursor : (mode : Mode) (def : Def) (t : Tree) → IsOff mode t → AtCursor mode (enter def t)
 enter_at_cursor mode def hole off = fresh_at_cursor mode def
 enter_at_cursor strict def (begun tracker ts) off = absurd off
-enter_at_cursor (deferred start) def (begun tracker ts) off = all_deferred start ts
+enter_at_cursor (deferred start) def (begun tracker ts) off = (tt, all_deferred start ts)
 enter_at_cursor mode def _ off = tt
 
 enter_leads : (mode : Mode) (def : Def) (i : ℕ) (ts : Trees) → AllOff mode ts → i < count_trees ts

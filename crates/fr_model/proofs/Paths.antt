@@ -3,7 +3,7 @@ use Rattle.std.proofs.Common.{◌≡◌, ◌<◌, ◌∷◌, ◌++◌, if◌then
 use Rattle.fr_model.proofs.Common.{ℕ, zero, suc, List, [], length, refl, ◌∙◌, ap, arith, PathStep, LeadAbove, step_as, step_below, steps_in, path_of, Place, up, Tree, hole, begun, Trees, no_trees, branch, tree_nth, child_tree, change_nth, tree_at, change_at, count_trees, Mode, State, cursor_tree, Leads, Bool, true, false, Option, Some, None, unwrap_or, option_map, Def, fits, Table, def_of, Val, Vals, unit, product, list_of, set_of, map_of, around, content_anew, kept_in, kept_option, kept_so, and_entry, entry_found, is_begun_object, number_or_last, Way, enter_child, entered_on, number_on, opened, opened_value, parts_as, EnteringAddsItsStep, HasBegun, HasBegunAs, IsAdmittedOn, IsKeptAs, KeptIsAdmitted, step_on, Tracker, as_content, ContentKind, as_entries, EntriesKind, tracker_of, tracker_at, over_base, entered, whole, change_child, strict, deferred, cursor_shape, Suits, AtCursor}
 use Rattle.fr_model.proofs.Agreement.{leads_within, leads_child}
 use Rattle.fr_model.proofs.Becoming.{kept_so_is}
-use Rattle.fr_model.proofs.Basis.{at_cursor, suits_at, settled_as, found_at, key_last}
+use Rattle.fr_model.proofs.Basis.{without_source_at, without_source_suits, fresh_at_cursor, fresh_suits, at_cursor, suits_at, settled_as, found_at, key_last}
 
 pub as_deep : (here : Place) (t : Tree) → length (steps_in here t) ≡ length here
 as_deep [] t = refl
@@ -154,7 +154,10 @@ content_below table s tracker None has = refl
 
 way_below : (mode : Mode) (table : Table) (s : ℕ) (t : Tree) (way : Way) → AtCursor mode t → Suits table s t
     → IsAdmittedOn t way → step_below (number_on way t) (entered_on table s way t) ≡ step_on (def_of table s) t way
-way_below mode table s t (Way.Child i) at suits admitted = child_below mode table s i t at suits
+way_below mode table s t (Way.Child i) at suits admitted =
+    child_below mode table s i _ (without_source_at mode (def_of table s) t at) (without_source_suits table s t suits)
+way_below mode table s t (Way.Anew i) at suits admitted =
+    child_below mode table s i _ (fresh_at_cursor mode (def_of table s)) (fresh_suits table s)
 way_below mode table s t Way.Item at suits admitted = item_below table s t admitted
 way_below mode table s t Way.Key at suits admitted = key_below table s t admitted
 way_below mode table s t (Way.Value i) at suits admitted = child_below mode table s i t at suits

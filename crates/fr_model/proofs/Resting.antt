@@ -138,6 +138,18 @@ rest_took (i ∷ j ∷ here) (begun tracker ts) v below rests = (
 )
 rest_took (i ∷ j ∷ here) _ v below rests = tt
 
+-- and that was a source: the place above it is whole
+pub rest_converted : (here : Place) (t : Tree) (v : Val) → RestsAround here t → RestsAround (up here) (change_at (up here) (λ old. whole v) t)
+rest_converted [] t v rests = tt
+rest_converted (i ∷ []) t v rests = tt
+rest_converted (i ∷ j ∷ here) (begun tracker ts) v rests = (
+  done_beside tracker i (λ child. change_at _ (λ old. whole v) child) ts rests.0,
+  rest_changed i (λ child. RestsAround (j ∷ here) child) (λ child. RestsAround _ child)
+      (λ child. change_at _ (λ old. whole v) child) ts (λ there. rest_converted (j ∷ here) _ v there) rests.1,
+  rests.2,
+)
+rest_converted (i ∷ j ∷ here) _ v rests = tt
+
 -- What the commands make of the place at the cursor
 
 value_rests : (tracker : Tracker) (v : Val) (parts : Option Vals) → ((ts : Trees) → AreDone (over_base tracker v) ts)

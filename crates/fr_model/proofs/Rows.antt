@@ -1,6 +1,6 @@
 -- Worked scripts over two small tables, by the machine and by the journal.
 use Rattle.std.proofs.Common.{rules, ◌≡◌, ◌∷◌}
-use Rattle.fr_model.proofs.Common.{plain_shape, plain_field, ℕ, true, List, [], None, Some, Ok, codes, Def, ScalarKind, PlanFault, ReflectErrorKind, Operation, Invariant, no_hooks, Table, IsServed, fits, Val, nat, text, token, product, no_vals, first, PathStep, Call, journal_run, full_run, whole, strict, removed}
+use Rattle.fr_model.proofs.Common.{plain_shape, plain_field, ℕ, true, List, [], None, Some, Ok, codes, Def, ScalarKind, PlanFault, ReflectErrorKind, Operation, Invariant, no_hooks, Table, fits, Val, nat, text, token, product, no_vals, first, PathStep, Call, journal_run, full_run, whole, strict, removed}
 use Rattle.fr_model.specs.ContentExamples.{id, refused, struct_of}
 
 -- to write tables and scripts
@@ -92,7 +92,6 @@ no_plan s fault = ReflectErrorKind.Alloc (record { shape = id s; operation = fau
 
 -- what the machine and the journal make of scripts, computed from the definitions
 record ModelRows : Type 0 where
-  nested_is_served : IsServed nested
   builds : Makes nested 3 whole_script whole_value
   -- what is refused, at which command and why
 
@@ -111,7 +110,6 @@ record ModelRows : Type 0 where
   none_by_journal : journal_run nested 3 [] ≡ None
   none_without_second_field : journal_run nested 3 (begin 1 ∷ begin 0 ∷ set 0 (nat 42) ∷ end ∷ end ∷ []) ≡ None
   none_of_wrong_shape : journal_run nested 3 (begin 0 ∷ set 0 (nat 42) ∷ []) ≡ None
-  opaque_is_served : IsServed opaque
   machine_refuses_open : full_run no_hooks opaque 3 left_open ≡ refused 7 (violated Invariant.BuildOpenFrames) (field_at 0 ∷ [])
   journal_refuses_open : journal_run opaque 3 left_open ≡ None
   -- a second value takes the first one's place

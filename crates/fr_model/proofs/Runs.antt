@@ -8,7 +8,7 @@ use Rattle.std.specs.Result.{result_ok}
 use Rattle.fr_shape.specs.Invariants.{keeps_invariants}
 use Rattle.fr_shape.specs.InvariantLaws.{plain_keeps}
 use Rattle.fr_model.proofs.Plannable.{none_refused}
-use Rattle.fr_model.proofs.Steps.{Alike, BothStep, steps_alike}
+use Rattle.fr_model.proofs.Steps.{agrees_lawful, Alike, BothStep, steps_alike}
 
 -- what a node tells of what the journal holds
 
@@ -118,7 +118,8 @@ module _ (hooks : Meanings) (table : Table) (root : ℕ) (plain : IsPlain table 
 
       keeps : (v : Val) → complete strict_column hooks table root state.tree ≡ Some v → keeps_invariants hooks.check table root v ≡ true
       keeps v is =
-          let made = completing_makes strict_column hooks table state.tree root v plain.checked alike.in_order.suits is in
+          let made = completing_makes strict_column hooks table state.tree root v
+          (agrees_lawful hooks table root run.notes state.tree alike.agrees) plain.checked alike.in_order.suits is in
           plain_keeps hooks.check table root v plain made.fit
 
       go : (b : Bool) → result_ok (numbered number state

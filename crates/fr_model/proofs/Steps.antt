@@ -1,10 +1,10 @@
 -- One command does the same to the journal and to the tree.
 use Rattle.std.proofs.Common.{◌≡◌, ◌++◌, ◌<◌, ◌∷◌, ◌==◌, ◌&&◌, ◌||◌, if◌then◌else◌}
-use Rattle.fr_model.proofs.Common.{ℕ, zero, suc, Bool, true, List, [], length, map, slice_get, Option, Some, None, option_to_list, refl, arith, list_all, Shape, ShapeId, Def, Field, IsChecked, fields_of, contents_of, is_sized, Table, def_or_other, def_of, Place, shape_of_field, shape_of_child, HasParts, Tracker, as_fields, as_elements, Tree, begun, child_as, shape_in, Mode, IsFullAs, Suits, Leads, eqb-true, ltb-true, false, nat_lt, Result, Ok, Err, sym, ◌∙◌, ap, subst, ReflectErrorKind, Operation, Invariant, preset_of, fits, Meanings, Val, Call, IsFieldCall, field_named, Column, strict_column, deferred_column, is_root, up, shape_at, entered_at, wrote_at, Journal, Held, held, completes, Progress, may_enter, goes_to_child, goes_to_found, writes, ends, goes_up, end_rule, begin_deferred_rule, finishes_with, finish_rule, finish_notes, rule, is_set, is_set_tracker, is_begun_dynamic, is_dynamic_tracker, is_open_slice, field_found, as_items, ItemsKind, variant_of, selected, hole, entered, whole, tree_at, strict, deferred, State, cursor_shape, cursor_tree, one_more_call, complete, finished, Way, enter_child, enters, unless_refused, field_refusal, named_refusal, at_shape, begins_named, puts, is_str, is_owned_string, takes_shape, set_refusal, puts_default, violates, ended, leaves, is_set_item, is_dynamic_part, ends_item, leaves_deferred, end_in, begins_deferred, finishes, finish_in, step, IsFitting, IsInOrder}
+use Rattle.fr_model.proofs.Common.{ℕ, zero, suc, Bool, true, List, [], length, map, slice_get, Option, Some, None, option_to_list, refl, arith, list_all, Shape, ShapeId, Def, Field, IsChecked, fields_of, contents_of, is_sized, Table, def_or_other, def_of, Place, shape_of_field, shape_of_child, HasParts, Tracker, as_fields, as_elements, Tree, begun, child_as, shape_in, Mode, IsFullAs, Suits, Leads, eqb-true, ltb-true, false, nat_lt, Result, Ok, Err, sym, ◌∙◌, ap, subst, ReflectErrorKind, Operation, Invariant, preset_of, fits, Meanings, Val, Call, IsFieldCall, field_named, Column, strict_column, deferred_column, is_root, up, shape_at, entered_at, wrote_at, Journal, Held, held, completes, Progress, may_enter, goes_to_child, goes_to_found, writes, ends, goes_up, end_rule, begin_deferred_rule, finishes_with, finish_rule, finish_notes, rule, is_begun_conversion, without_source, is_source_place, ends_source, as_content, no_trees, branch, tree_at, Trees, is_set, is_begun_dynamic, is_open_slice, field_found, as_items, ItemsKind, variant_of, selected, hole, entered, whole, tree_at, strict, deferred, State, cursor_shape, cursor_tree, one_more_call, complete, finished, Way, enter_child, enters, unless_refused, field_refusal, named_refusal, at_shape, begins_named, puts, is_str, is_owned_string, takes_shape, set_refusal, puts_default, violates, ended, leaves, is_set_item, is_dynamic_part, ends_item, leaves_deferred, end_in, begins_deferred, finishes, finish_in, step, IsFitting, IsInOrder}
 use Rattle.fr_shape.specs.declared.shape.ProxyDef.{ProxyDef}
 use Rattle.fr_shape.specs.Checked.{parts_of}
-use Rattle.fr_model.proofs.Basis.{leads_within, leads_child, PartsAlong, suit_nth, both_true, all_of_both, child_as_is, AllPlain, began_strict, completed_in_order, not_dynamic, along, held_along, by_value, Agrees, agree_along, completes_at, under_entered, under_wrote, follow, parts_along, at_cursor, suits_at, plain_at, same_shape, entry_at, begun_in_order, put_in_order, left_in_order, deferred_in_order, preset_template}
-use Rattle.fr_model.proofs.Children.{nothing_below, SeesWhole, sees_whole, may_enter_by, ChildOf, enterable, ChildCase, a_child, a_variant_child, no_child, child_case, only_of_enum, NamedCase, a_named, a_variant_named, no_such_name, no_names, named_case}
+use Rattle.fr_model.proofs.Basis.{started, without_source_is, without_source_apart, Enterable, may_go_up, LawfulIn, AllLawfulIn, AgreeAll, leads_within, leads_child, PartsAlong, suit_nth, both_true, all_of_both, child_as_is, AllPlain, began_strict, completed_in_order, not_dynamic, along, held_along, by_value, Agrees, agree_along, completes_at, under_entered, under_wrote, follow, parts_along, at_cursor, suits_at, plain_at, same_shape, entry_at, begun_in_order, put_in_order, left_in_order, deferred_in_order, preset_template}
+use Rattle.fr_model.proofs.Children.{without_source_child, nothing_below, SeesWhole, sees_whole, may_enter_by, ChildOf, enterable, ChildCase, a_child, a_variant_child, no_child, child_case, only_of_enum, NamedCase, a_named, a_variant_named, no_such_name, no_names, named_case}
 use Rattle.fr_model.proofs.FinishAgreement.{BothFinish, finish_agrees}
 use Rattle.fr_model.proofs.Finishes.{finish_keeps, finish_leads}
 
@@ -100,18 +100,39 @@ not_str : (def : Def) → is_sized def ≡ true → is_str def ≡ false
 not_str Def.Str sized = cc
 not_str _ sized = refl
 
--- what has parts is neither a set nor a dynamic value, and so is what lies above the cursor
+-- what has parts is neither a set nor a dynamic value, nor a conversion, and so is what lies above the cursor
 
-parts_alone : (tracker : Tracker) → HasParts tracker → (is_set_tracker tracker ≡ false) × (is_dynamic_tracker tracker ≡ false)
-parts_alone (as_fields None) parts = (refl, refl)
-parts_alone as_elements parts = (refl, refl)
-parts_alone _ parts = absurd parts
+abbrev IsAlone : Tree → Type 0
+IsAlone t = (is_set t ≡ false) × (is_begun_dynamic t ≡ false) × (is_begun_conversion t ≡ false)
 
-no_item : (i : ℕ) (here : Place) (t : Tree) → PartsAlong (i ∷ here) t
-    → (is_set (tree_at (up (i ∷ here)) t) ≡ false) × (is_begun_dynamic (tree_at (up (i ∷ here)) t) ≡ false)
-no_item i [] (begun tracker ts) along = parts_alone tracker along.0
+parts_alone : (tracker : Tracker) (ts : Trees) → HasParts tracker → IsAlone (begun tracker ts)
+parts_alone (as_fields None) ts parts = (refl, refl, refl)
+parts_alone as_elements ts parts = (refl, refl, refl)
+parts_alone _ ts parts = absurd parts
+
+no_item : (i : ℕ) (here : Place) (t : Tree) → PartsAlong (i ∷ here) t → IsAlone (tree_at (up (i ∷ here)) t)
+no_item i [] (begun tracker ts) along = parts_alone tracker ts along.0
 no_item i (j ∷ here) (begun tracker ts) along = no_item j here _ along.1
 no_item i here _ along = absurd along
+
+never : true ≡ false → ⊥
+never e = cc
+
+-- the journal has no conversions
+mutual
+  pub agrees_lawful : (hooks : Meanings) (table : Table) (s : ℕ) (notes : Journal) (t : Tree) → Agrees table s notes t → LawfulIn hooks t
+  agrees_lawful hooks table s notes (begun (as_fields selected) ts) agrees =
+      (λ conversion. cc, all_agree_lawful hooks table s (as_fields selected) notes 0 ts agrees.1)
+  agrees_lawful hooks table s notes (begun as_elements ts) agrees =
+      (λ conversion. cc, all_agree_lawful hooks table s as_elements notes 0 ts agrees.1)
+  agrees_lawful hooks table s notes (begun _ ts) agrees = absurd agrees.2
+  agrees_lawful hooks table s notes _ agrees = tt
+
+  all_agree_lawful : (hooks : Meanings) (table : Table) (s : ℕ) (tracker : Tracker) (notes : Journal) (i : ℕ) (ts : Trees)
+      → AgreeAll table s tracker notes i ts → AllLawfulIn hooks ts
+  all_agree_lawful hooks table s tracker notes i no_trees agree = tt
+  all_agree_lawful hooks table s tracker notes i (branch t ts) agree =
+      (agrees_lawful hooks table _ _ t agree.0, all_agree_lawful hooks table s tracker notes (suc i) ts agree.1)
 
 -- the end of deferred mode
 
@@ -119,11 +140,11 @@ no_item i here _ along = absurd along
 abbrev pub finishes_as : State → Tree → State
 finishes_as state tree = record state { tree = tree; mode = strict; calls = one_more_call state.calls }
 
-pub finished_in_order : (hooks : Meanings) (table : Table) (root : ℕ) (state : State) (tree : Tree) → IsChecked table
-    → IsInOrder table root state → finished hooks table root state.cursor state.tree ≡ Some tree
+pub finished_in_order : (hooks : Meanings) (table : Table) (root : ℕ) (state : State) (tree : Tree) → LawfulIn hooks state.tree
+    → IsChecked table → IsInOrder table root state → finished hooks table root state.cursor state.tree ≡ Some tree
     → IsInOrder table root (finishes_as state tree)
-finished_in_order hooks table root state tree checked order is =
-    let kept = finish_keeps hooks table root state.cursor state.tree tree checked order.suits is in
+finished_in_order hooks table root state tree lawful checked order is =
+    let kept = finish_keeps hooks table root state.cursor state.tree tree lawful checked order.suits is in
     record {
       suits = kept.suits;
       leads = finish_leads hooks table root state.mode state.cursor state.tree tree order.leads is;
@@ -159,18 +180,30 @@ module _ (hooks : Meanings) (table : Table) (checked : IsChecked table) (root : 
       (sees_whole state.mode table at_here (cursor_tree state) (along state.cursor notes)
       (at_cursor state.mode state.cursor state.tree order.leads) agrees_here)
 
+  -- the journal has no parts of a conversion
+  no_conversion : is_begun_conversion (cursor_tree state) ≡ false
+  no_conversion = go (cursor_tree state) agrees_here
+    where
+      go : (t : Tree) → Agrees table at_here (along state.cursor notes) t → is_begun_conversion t ≡ false
+      go (begun (as_content kind) ts) agrees = absurd agrees.2
+      go _ agrees = refl
+
   -- a child is entered
   entered_alike : (i : ℕ) → ChildOf (def_of table at_here) i (cursor_tree state)
       → Alike table root (enters table at_here state (Way.Child i)) (entered_run run i)
   entered_alike i child = record {
-    in_order = begun_in_order table root state i (enterable table at_here i (cursor_tree state) child) order;
+    in_order = begun_in_order table root state i enters_it order;
     agrees = rw (← under_entered state.cursor (i ∷ []))
-        (follow state.mode table root state.cursor state.tree notes (entered_at (i ∷ [])) (enter_child table at_here i)
-        order.leads agrees
-        ((entry_at table root state i (enterable table at_here i (cursor_tree state) child) order).agrees (along state.cursor notes)));
+        (follow state.mode table root state.cursor state.tree notes (entered_at (i ∷ []))
+        (λ old. enter_child table at_here i (without_source (def_of table at_here) old)) order.leads agrees
+        (λ old. (entry_at table root state i enters_it order).agrees (along state.cursor notes)
+        (without_source_is (Agrees table at_here (along state.cursor notes)) _ _ (λ anew. absurd (never (sym anew ∙ no_conversion))) (λ apart. old))));
     same_cursor = refl;
     same_mode = refl;
   }
+    where
+      enters_it : Enterable table at_here i (started table root state)
+      enters_it = enterable table at_here i (started table root state) (without_source_apart _ _) (without_source_child _ i (cursor_tree state) child)
 
   may_is : (i : ℕ) (b : Bool) → may_enter_by (def_of table at_here) i (held notes state.cursor) ≡ b
       → may_enter table (shape_at table root state.cursor) i (held notes state.cursor) ≡ b
@@ -265,31 +298,31 @@ module _ (hooks : Meanings) (table : Table) (checked : IsChecked table) (root : 
       ∙ completes_at state.mode column hooks table root state.cursor state.tree notes checked plain_here order.leads suits_here agrees
 
   -- end in strict mode
-  ends_alike : state.mode ≡ strict → (value : Option Val) (by_notes : Option Val)
+  ends_alike : state.mode ≡ strict → is_begun_conversion (tree_at (up state.cursor) state.tree) ≡ false → (value : Option Val) (by_notes : Option Val)
       → complete strict_column hooks table at_here (cursor_tree state) ≡ value → by_notes ≡ value
       → BothStep table root (ended hooks table at_here state value) (ends run by_notes)
-  ends_alike is_strict (Some v) by_notes is same_value = rw same_value (record {
-    in_order = completed_in_order strict_column hooks table root state v checked
-        (began_strict state.mode (up state.cursor) is_strict) is order;
+  ends_alike is_strict below (Some v) by_notes is same_value = rw same_value (record {
+    in_order = completed_in_order strict_column hooks table root state v
+        (agrees_lawful hooks table at_here (along state.cursor notes) (cursor_tree state) agrees_here) checked
+        (began_strict state.mode (up state.cursor) is_strict) (may_go_up state.mode state.cursor state.tree below) is order;
     agrees = rw (← under_wrote state.cursor v)
         (follow state.mode table root state.cursor state.tree notes (wrote_at [] v) (λ old. whole v) order.leads agrees
         (λ old. by_value refl));
     same_cursor = refl;
     same_mode = refl;
   })
-  ends_alike is_strict None by_notes is same_value = rw same_value tt
+  ends_alike is_strict below None by_notes is same_value = rw same_value tt
 
   -- end in deferred mode
   left_alike : (start : ℕ) → state.mode ≡ deferred start → start < length state.cursor → Alike table root (leaves state) (goes_up run)
   left_alike start is deeper =
       record { in_order = left_in_order table root start state is deeper order; agrees = agrees; same_cursor = refl; same_mode = refl }
 
-  -- the place at the cursor, below the root, is no item of a set and no part of a dynamic value
-  alone : is_root state.cursor ≡ false → (is_set_item state ≡ false) × (is_dynamic_part state ≡ false)
+  -- the place at the cursor, below the root, is no item of a set, no part of a dynamic value and no source
+  alone : is_root state.cursor ≡ false → IsAlone (tree_at (up state.cursor) state.tree)
   alone below = go state.cursor parts below
     where
-      go : (here : Place) → PartsAlong here state.tree → is_root here ≡ false
-          → (is_set (tree_at (up here) state.tree) ≡ false) × (is_begun_dynamic (tree_at (up here) state.tree) ≡ false)
+      go : (here : Place) → PartsAlong here state.tree → is_root here ≡ false → IsAlone (tree_at (up here) state.tree)
       go [] along below = cc
       go (i ∷ here) along below = no_item i here state.tree along
 
@@ -323,17 +356,19 @@ module _ (hooks : Meanings) (table : Table) (checked : IsChecked table) (root : 
       go _ agrees = refl
 
   end_alike : (mode : Mode) → state.mode ≡ mode → BothStep table root
-      (if is_root state.cursor then Err (violates Invariant.EndAtRoot) else end_in hooks table at_here state mode)
+      (if is_root state.cursor then Err (violates Invariant.EndAtRoot) else end_in hooks table root at_here state mode)
       (end_rule table (shape_at table root state.cursor) run mode)
   end_alike strict is = go (is_root state.cursor) refl
     where
       go : (b : Bool) → is_root state.cursor ≡ b → BothStep table root (if b then Err (violates Invariant.EndAtRoot)
           else (if is_set_item state then ends_item strict_column hooks table at_here state
+          else if is_source_place state then ends_source hooks table root state
           else ended hooks table at_here state (complete strict_column hooks table at_here (cursor_tree state)))) (if b then None
           else ends run (completes strict_column table notes (shape_at table root state.cursor) state.cursor))
       go true at = tt
       go false below =
-          rw (alone below).0 (ends_alike is (complete strict_column hooks table at_here (cursor_tree state))
+          let by_itself = alone below in
+          rw (by_itself.0, by_itself.2) (ends_alike is by_itself.2 (complete strict_column hooks table at_here (cursor_tree state))
           (completes strict_column table notes (shape_at table root state.cursor) state.cursor) refl (completes_here strict_column))
   end_alike (deferred start) is = leaves_alike start is state.cursor refl
 
@@ -347,7 +382,7 @@ module _ (hooks : Meanings) (table : Table) (checked : IsChecked table) (root : 
       → finished hooks table root state.cursor state.tree ≡ tree → BothFinish table root notes tree added
       → BothStep table root (finishes hooks table root state tree) (finishes_with run added)
   finished_alike (Some tree) (Some added) is both = record {
-    in_order = finished_in_order hooks table root state tree checked order is;
+    in_order = finished_in_order hooks table root state tree (agrees_lawful hooks table root notes state.tree agrees) checked order is;
     agrees = both;
     same_cursor = refl;
     same_mode = refl;

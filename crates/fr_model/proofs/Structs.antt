@@ -1,6 +1,6 @@
 -- Trees and their values: what fits opens into fitting children, and fitting children make what fits.
 use Rattle.std.proofs.Common.{◌≡◌, ◌+◌, if◌then◌else◌, ◌∷◌}
-use Rattle.fr_model.proofs.Common.{IsContent, AreTouched, AreEntries, ℕ, zero, suc, eq-eqb, Bool, true, false, List, [], length, slice_get, Option, Some, None, refl, sym, ◌∙◌, ap, subst, arith, Def, ShapeId, StructDef, EnumDef, VariantDef, Field, Table, def_of, settled, Operation, Val, Vals, Entries, list_of, no_vals, first, no_entries, fits, all_fit, entries_fit, fields_fit, fields_of_variant, points_at, count_vals, occurs, vals_occur, pointee_refusal, pointer_refusal, is_slice, keys_apart, entries_in, left_out, shape_or_zero, pointee_shape, item_shape, is_key, vals_nth, one_more, product_of, Tracker, as_fields, as_elements, as_content, ContentKind, as_items, ItemsKind, as_entries, EntriesKind, Tree, Trees, no_trees, branch, tree_nth, change_nth, child_as, shapes_from, count_trees, holes, wholes, value_as, made, HasParts, HasFieldsOf, HasContent, PointsTo, IsFullAs, MayPoint, IsBegunRightly, Suits, SuitAll}
+use Rattle.fr_model.proofs.Common.{IsContent, AreTouched, AreEntries, ℕ, zero, suc, eq-eqb, Bool, true, false, List, [], length, slice_get, Option, Some, None, refl, sym, ◌∙◌, ap, subst, arith, Def, ShapeId, StructDef, EnumDef, VariantDef, Field, Table, IsIn, def_of, settled, Operation, Val, Vals, Entries, list_of, no_vals, first, no_entries, fits, all_fit, entries_fit, fields_fit, fields_of_variant, points_at, count_vals, occurs, vals_occur, pointee_refusal, pointer_refusal, is_slice, keys_apart, entries_in, left_out, shape_or_zero, pointee_shape, item_shape, is_key, vals_nth, one_more, product_of, Tracker, as_fields, as_elements, as_content, ContentKind, as_items, ItemsKind, as_entries, EntriesKind, Tree, Trees, no_trees, branch, tree_nth, change_nth, child_as, shapes_from, count_trees, holes, wholes, value_as, made, HasParts, HasFieldsOf, HasContent, PointsTo, IsFullAs, MayPoint, IsBegunRightly, Suits, SuitAll}
 use Rattle.fr_shape.specs.declared.shape.PointerDef.{PointerDef}
 use Rattle.fr_model.proofs.GatheredParts.{items_apart, items_fit, items_hold, entries_apart, entry_fits, entries_hold, elements_once, members_once, dynamics_hold}
 use Rattle.fr_model.proofs.Templates.{both_true}
@@ -47,10 +47,15 @@ one_more_is (Some v) (Some ws) vs e = record { head = v; tail = ws; head_is = re
 one_more_is (Some v) None vs e = cc
 one_more_is None os vs e = cc
 
+-- the shape of what a place of shape s, begun so, takes of child i: a conversion takes a value of its own shape
+abbrev pub taken_as : Table → ℕ → Tracker → ℕ → ℕ
+taken_as table s (as_content (ContentKind.Source conversion)) i = s
+taken_as table s tracker i = child_as table s tracker i
+
 -- the children of a place begun so have the shapes of these fields
 abbrev pub ShapesAre : Table → ℕ → Tracker → List Field → Type 0
 ShapesAre table s tracker fields =
-    (i : ℕ) (field : Field) → slice_get fields i ≡ Some field → child_as table s tracker i ≡ field.shape.0
+    (i : ℕ) (field : Field) → slice_get fields i ≡ Some field → taken_as table s tracker i ≡ field.shape.0
 
 pub struct_shapes : (table : Table) (s : ℕ) (struct : StructDef) → def_of table s ≡ Def.Struct struct
     → ShapesAre table s (as_fields None) struct.fields
@@ -61,11 +66,11 @@ pub variant_shapes : (table : Table) (s k : ℕ) (enumeration : EnumDef) (varian
     → ShapesAre table s (as_fields (Some k)) variant.fields
 variant_shapes table s k enumeration variant is there i field e = rw (is, there, e) refl
 
--- children that fit, of a place of shape s that is begun so, from number i on
+-- what is taken of children fits, of a place of shape s that is begun so, from number i on
 abbrev pub ChildrenFit : Table → ℕ → Tracker → ℕ → Vals → Type 0
 ChildrenFit table s tracker i no_vals = Unit {0}
 ChildrenFit table s tracker i (first v vs) =
-    (fits table (child_as table s tracker i) v ≡ true) × ChildrenFit table s tracker (suc i) vs
+    (fits table (taken_as table s tracker i) v ≡ true) × ChildrenFit table s tracker (suc i) vs
 
 fields_all_fit : (table : Table) (s : ℕ) (tracker : Tracker) (all : List Field) → ShapesAre table s tracker all
     → (i : ℕ) (fields : List Field) (vs : Vals) → AreFrom all i fields → count_vals vs ≡ length fields
@@ -80,7 +85,7 @@ fields_all_fit table s tracker all shapes i (field ∷ fields) (first v vs) from
     rw (here, others) refl
 
 -- children that all have one shape
-each_fits : (table : Table) (s : ℕ) (tracker : Tracker) (shape : ℕ) → ((i : ℕ) → child_as table s tracker i ≡ shape) → (i : ℕ)
+each_fits : (table : Table) (s : ℕ) (tracker : Tracker) (shape : ℕ) → ((i : ℕ) → taken_as table s tracker i ≡ shape) → (i : ℕ)
     (vs : Vals) → ChildrenFit table s tracker i vs → all_fit table shape vs ≡ true
 each_fits table s tracker shape same i no_vals fit = refl
 each_fits table s tracker shape same i (first v vs) fit =
@@ -112,6 +117,7 @@ points_once (Some t) count has = has
 points_once None count has = absurd has
 
 content_once : (def : Def) (kind : ContentKind) (count : ℕ) → HasContent def kind count → count ≡ 1
+content_once def (ContentKind.Source conversion) count has = has
 content_once (Def.Option t) ContentKind.Some count has = has
 content_once (Def.Result t e) ContentKind.Ok count has = has
 content_once (Def.Result t e) ContentKind.Err count has = has
@@ -130,17 +136,20 @@ has_pointee table (Def.Pointer pointer) e = go pointer.constructible pointer.poi
     go false pointee e = cc
 has_pointee table _ e = cc
 
--- what is asked of a place that is begun so, whatever its children are: a pointer to a slice is one, and an object has no key twice
+-- what is asked of a place that is begun so, whatever its children are: a pointer to a slice is one, an object has no key twice, and a
+-- conversion is to a shape of the table
 abbrev pub IsSoundAs : Table → ℕ → Tracker → Type 0
 IsSoundAs table s (as_items ItemsKind.Slice) = MayPoint table s true
 IsSoundAs table s (as_items ItemsKind.ClosedSlice) = MayPoint table s true
 IsSoundAs table s (as_entries (EntriesKind.Object keys)) = keys_apart keys ≡ true
+IsSoundAs table s (as_content (ContentKind.Source conversion)) = IsIn table s
 IsSoundAs table s _ = Unit {0}
 
 pub sound_as : (table : Table) (s : ℕ) (tracker : Tracker) (ts : Trees) → IsBegunRightly table s tracker ts → IsSoundAs table s tracker
 sound_as table s (as_items ItemsKind.Slice) ts rightly = rightly.1
 sound_as table s (as_items ItemsKind.ClosedSlice) ts rightly = rightly.1
 sound_as table s (as_entries (EntriesKind.Object keys)) ts rightly = rightly.1
+sound_as table s (as_content (ContentKind.Source conversion)) ts rightly = rightly.1
 sound_as table s _ ts rightly = tt
 
 -- the items that fit make a slice that fits, and so the pointer to it
@@ -250,6 +259,8 @@ value_fits table s tracker vs count behind fit = go tracker _ refl vs count behi
     go (as_content ContentKind.Pointer) (Def.Pointer pointer) is (first v vs) count behind fit =
         rw (settled_as table s is refl) (pointed pointer pointer.pointee is refl v (rw is at fit.0) (suc (count_vals vs)) count)
     go (as_content ContentKind.Pointer) (Def.Pointer pointer) is no_vals count behind fit = absurd (omega (arith, points_once pointer.pointee 0 count))
+    go (as_content (ContentKind.Source conversion)) def is (first v no_vals) count behind fit = fit.0
+    go (as_content (ContentKind.Source conversion)) def is _ count behind fit = absurd (omega arith)
     go _ _ is vs count behind fit = absurd count
 
 -- and it holds what they hold, but for what is left out
@@ -263,6 +274,7 @@ value_holds table s tracker vs count fit t = go tracker _ refl count fit
     go (as_content ContentKind.Ok) def is count fit = omega (arith, one_holds vs t (content_once def ContentKind.Ok (count_vals vs) count))
     go (as_content ContentKind.Err) def is count fit = omega (arith, one_holds vs t (content_once def ContentKind.Err (count_vals vs) count))
     go (as_content ContentKind.Pointer) def is count fit = omega (arith, one_holds vs t (content_once def ContentKind.Pointer (count_vals vs) count))
+    go (as_content (ContentKind.Source conversion)) def is count fit = omega (arith, one_holds vs t count)
     go (as_items ItemsKind.Set) def is count fit = let all = items_hold no_vals vs t in omega arith
     go (as_entries (EntriesKind.Map base)) def is count fit = let all = entries_hold no_entries vs t in omega arith
     go (as_items ItemsKind.Array) Def.Dynamic is count fit =
@@ -351,6 +363,7 @@ right_kept table s (as_fields None) ts us keeps all pairs rightly = tt
 right_kept table s as_elements ts us keeps all pairs rightly = tt
 right_kept table s (as_fields (Some k)) ts us keeps all pairs rightly = rightly
 right_kept table s (as_content ContentKind.Pointer) ts us keeps all pairs rightly = (keeps rightly.0, rightly.1)
+right_kept table s (as_content (ContentKind.Source conversion)) ts us keeps all pairs rightly = (keeps rightly.0, rightly.1)
 right_kept table s (as_items ItemsKind.List) ts us keeps all pairs rightly = all rightly
 right_kept table s (as_items ItemsKind.Set) ts us keeps all pairs rightly = all rightly
 right_kept table s (as_entries (EntriesKind.Map base)) ts us keeps all pairs rightly = pairs rightly

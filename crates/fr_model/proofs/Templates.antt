@@ -1,7 +1,9 @@
 -- What a checked table's presets and defaults give, and what a text or bytes mean at a place, the hooks being lawful: values that fit
 -- and hold no token.
 use Rattle.std.proofs.Common.{◌≡◌, ◌&&◌, ◌∷◌, ◌++◌, ◌||◌, ◌<◌}
-use Rattle.fr_model.proofs.Common.{ℕ, Bool, true, false, List, [], slice_get, Option, Some, None, is_some, Result, Ok, zero, suc, refl, sym, ◌∙◌, ap, subst, list_all, flat_map, Shape, Def, StructDef, Field, DefaultSource, ShapeId, VariantDef, Operation, ReflectErrorKind, IsChecked, fields_of, is_template, default_is_template, is_none_val, preset_in, preset_of, strict_by_mark, by_strict_rule, deferred_by_mark, by_deferred_rule, Table, def_or_other, def_of, field_of_variant, field_in, is_nil, Val, none, fits, tokens, times, occurs, Column, strict_column, deferred_column, child_shape, shape_of_field, shape_of_child, fill_by, fill_of_field, fill_in, fill_at, default_or, default_by_mark, field_default, not, length, Meanings, Contains, arith}
+use Rattle.fr_model.proofs.Common.{ℕ, Bool, true, false, List, [], slice_get, Option, Some, None, is_some, Result, Ok, zero, suc, refl, sym, ◌∙◌, ap, subst, list_all, flat_map, Shape, Def, StructDef, Field, DefaultSource, ShapeId, VariantDef, Operation, ReflectErrorKind, IsChecked, fields_of, is_template, default_is_template, is_none_val, preset_in, preset_of, strict_by_mark, by_strict_rule, deferred_by_mark, by_deferred_rule, Table, def_or_other, def_of, field_of_variant, field_in, is_nil, Val, none, fits, tokens, times, occurs, Column, strict_column, deferred_column, child_shape, shape_of_field, shape_of_child, fill_by, fill_of_field, fill_in, fill_at, default_or, default_by_mark, field_default, not, length, Meanings, Contains, arith, map, nat_lt, ltb-true, IsIn, option_to_list}
+use Rattle.fr_shape.specs.Checked.{all_proxies_of, contents_of, ids_in_range, parts_of, pointees_of}
+use Rattle.fr_shape.specs.declared.shape.ProxyDef.{ProxyDef}
 use Rattle.fr_shape.specs.TokenLaws.{occurs_times}
 use Rattle.fr_model.specs.Step.{operation_failed}
 use Rattle.std.specs.Option.{option_map_or}
@@ -146,6 +148,41 @@ field_passes test (Def.Struct struct) (Some k) i field all at = cc
 field_passes test (Def.Enum enumeration) (Some k) i field all at = variant_field_passes test enumeration.variants k i field all at
 field_passes test (Def.Enum enumeration) None i field all at = cc
 field_passes test _ selected i field all at = cc
+
+mapped_all : {X Y : Type 0} (f : X → Y) (test : Y → Bool) (xs : List X) → list_all test (map f xs) ≡ true
+    → list_all (λ (x : X). test (f x)) xs ≡ true
+mapped_all f test [] all = refl
+mapped_all f test (x ∷ xs) all =
+    let here = both_true (test (f x)) _ all in
+    let rest = mapped_all f test xs here.1 in
+    rw (here.0, rest) refl
+
+shapes_in_range : (table : Table) (shape : Shape) → ids_in_range table shape ≡ true
+    → list_all (λ (field : Field). nat_lt field.shape.0 (length table)) (fields_of shape.def) ≡ true
+shapes_in_range table shape all =
+    let in_range : ShapeId → Bool = λ id. nat_lt id.0 (length table) in
+    let of_fields : List ShapeId = map (λ (field : Field). field.shape) (fields_of shape.def) in
+    let with_contents : List ShapeId = of_fields ++ contents_of shape.def in
+    let with_inner : List ShapeId = with_contents ++ option_to_list shape.inner in
+    let with_builder : List ShapeId = with_inner ++ option_to_list shape.builder in
+    mapped_all (λ (field : Field). field.shape) in_range (fields_of shape.def)
+    (all_of_both in_range of_fields (contents_of shape.def)
+    (all_of_both in_range with_contents (option_to_list shape.inner)
+    (all_of_both in_range with_inner (option_to_list shape.builder)
+    (all_of_both in_range with_builder (map (λ (proxy : ProxyDef). proxy.source) (all_proxies_of shape))
+    (all_of_both in_range (parts_of shape) (pointees_of shape.def) all).0).0).0).0).0
+
+-- the shape of a field is in the table
+pub field_is_in : (table : Table) (s : ℕ) (selected : Option ℕ) (i : ℕ) (field : Field) → IsChecked table
+    → field_in (def_of table s) selected i ≡ Some field → IsIn table field.shape.0
+field_is_in table s selected i field checked at = go _ refl at
+  where
+    go : (found : Option Shape) → slice_get table s ≡ found → field_in (def_or_other found) selected i ≡ Some field
+        → IsIn table field.shape.0
+    go (Some shape) is at =
+        ltb-true field.shape.0 (length table) (field_passes (λ (f : Field). nat_lt f.shape.0 (length table)) shape.def selected i field
+        (shapes_in_range table shape (checked.ids s shape is)) at)
+    go None is at = cc
 
 default_template : (table : Table) (s : ℕ) (selected : Option ℕ) (i : ℕ) (field : Field) (v : Val) → IsChecked table
     → field_in (def_of table s) selected i ≡ Some field → field.default ≡ Some (DefaultSource.Custom v) → IsTemplate table field.shape.0 v

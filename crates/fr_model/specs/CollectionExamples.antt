@@ -1,6 +1,6 @@
 -- Worked examples of sets and maps, computed from the definitions.
 use Rattle.std.specs.Prelude.{◌≡◌, ◌+◌, ◌∷◌, ◌++◌}
-use Rattle.fr_model.specs.Common.{ℕ, zero, suc, List, [], length, Some, None, Result, Ok, Err, codes, Def, KnownPointer, InitCall, Invariant, Operation, ReflectErrorKind, TrackerKind, no_hooks, Table, plain_field, plain_shape, Val, Entries, nat, text, token, product, some, map_of, set_of, ptr, no_vals, first, no_entries, entry, PathStep}
+use Rattle.fr_model.specs.Common.{ℕ, zero, suc, List, [], length, Some, None, Result, Ok, Err, codes, Def, KnownPointer, InitCall, Invariant, Operation, ReflectErrorKind, TrackerKind, Meanings, no_hooks, Table, plain_field, plain_shape, Val, Entries, nat, text, token, product, some, map_of, set_of, ptr, no_vals, first, no_entries, entry, PathStep}
 use Rattle.fr_model.specs.Basis.{Call, missing_field, brought, as_fields, as_items, ItemsKind, as_entries, EntriesKind, Tree, hole, whole, begun, no_trees, branch, strict, deferred, State, initial, BeginDeferred, BeginField, BeginKey, BeginListItem, BeginSetItem, BeginSmartPtr, BeginSome, BeginValue, End, FinishDeferred, InitList, InitMap, InitSet, Set}
 use Rattle.fr_model.specs.ContentExamples.{fails, lacks, id, u32, string, resource, struct_of, pointer_to, one, two, put_in, in_deferred, refused, Runs, Drops, in_field}
 use Rattle.fr_model.specs.ListExamples.{number_item, one_number, unexpected}
@@ -14,21 +14,24 @@ dropped_after (Ok next) rest not_run = rest next
 dropped_after (Err kind) rest not_run = not_run
 
 -- how often a token is dropped from a state on: by these commands and by `build`, or with the commands that aren't run any more
-abbrev pub dropped_from : Table → (root : ℕ) → State → List Call → ℕ → ℕ
-dropped_from table root state [] t = removed_at_build no_hooks table root state t
-dropped_from table root state (command ∷ commands) t =
-    removed no_hooks table root state command t
-    + dropped_after (step no_hooks table root state command) (λ next. dropped_from table root next commands t) (brought commands t)
+abbrev pub dropped_from : Meanings → Table → (root : ℕ) → State → List Call → ℕ → ℕ
+dropped_from hooks table root state [] t = removed_at_build hooks table root state t
+dropped_from hooks table root state (command ∷ commands) t =
+    removed hooks table root state command t
+    + dropped_after (step hooks table root state command) (λ next. dropped_from hooks table root next commands t) (brought commands t)
 
 -- how often each of so many tokens is dropped by a script, from this one on
-abbrev pub drops_from : Table → (root : ℕ) → List Call → (count t : ℕ) → List ℕ
-drops_from table root script zero t = []
-drops_from table root script (suc count) t =
-    dropped_from table root (initial table root) script t ∷ drops_from table root script count (suc t)
+abbrev pub drops_from : Meanings → Table → (root : ℕ) → List Call → (count t : ℕ) → List ℕ
+drops_from hooks table root script zero t = []
+drops_from hooks table root script (suc count) t =
+    dropped_from hooks table root (initial table root) script t ∷ drops_from hooks table root script count (suc t)
 
 -- a script drops token 0 as often as the first of these numbers says, token 1 as the second does, and so on
+abbrev pub ReleasesBy : Meanings → Table → (root : ℕ) → List Call → (times : List ℕ) → Type 0
+ReleasesBy hooks table root script times = drops_from hooks table root script (length times) 0 ≡ times
+
 abbrev pub Releases : Table → (root : ℕ) → List Call → (times : List ℕ) → Type 0
-Releases table root script times = drops_from table root script (length times) 0 ≡ times
+Releases table root script times = ReleasesBy no_hooks table root script times
 
 -- To write sets, maps and scripts
 

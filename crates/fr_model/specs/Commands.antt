@@ -1,6 +1,6 @@
 -- Calls of the builder as plain data.
 use Rattle.std.specs.Prelude.{◌∷◌}
-use Rattle.fr_model.specs.Common.{ℕ, ℤ, List, [], map, Val}
+use Rattle.fr_model.specs.Common.{ℕ, ℤ, List, [], map, Option, Val}
 use Rattle.fr_shape.specs.View.{view}
 use Rattle.fr_model.specs.declared.command.Command.{Command}
 
@@ -28,6 +28,11 @@ pub data Call : Type 0 where
   BeginOk : Call
   BeginErr : Call
   BeginSmartPtr : Call
+  BeginInner : Call
+  BeginCustomDeserialization : Call
+  BeginCustomDeserializationWithFormat : (format : Option (List ℕ)) → Call
+  BeginCustomDeserializationFromShape : Call
+  BeginCustomDeserializationFromShapeWithFormat : (format : Option (List ℕ)) → Call
   SelectNthVariant : ℕ → Call
   SelectVariantNamed : (name : List ℕ) → Call
   SelectVariant : (discriminant : ℤ) → Call
@@ -59,6 +64,11 @@ call_of Command.BeginSome = Call.BeginSome
 call_of Command.BeginOk = Call.BeginOk
 call_of Command.BeginErr = Call.BeginErr
 call_of Command.BeginSmartPtr = Call.BeginSmartPtr
+call_of Command.BeginInner = Call.BeginInner
+call_of Command.BeginCustomDeserialization = Call.BeginCustomDeserialization
+call_of (Command.BeginCustomDeserializationWithFormat format) = Call.BeginCustomDeserializationWithFormat format
+call_of Command.BeginCustomDeserializationFromShape = Call.BeginCustomDeserializationFromShape
+call_of (Command.BeginCustomDeserializationFromShapeWithFormat format) = Call.BeginCustomDeserializationFromShapeWithFormat format
 call_of (Command.SelectNthVariant i) = Call.SelectNthVariant i
 call_of (Command.SelectVariantNamed name) = Call.SelectVariantNamed name
 call_of (Command.SelectVariant discriminant) = Call.SelectVariant discriminant

@@ -2,6 +2,7 @@
 -- the end of deferred mode is said in Failing.
 use Rattle.std.specs.Prelude.{◌∷◌, if◌then◌else◌}
 use Rattle.fr_model.specs.Common.{ℕ, zero, suc, List, [], Option, Some, None, option_map, option_or, Def, Field, ValidatorDef, ReflectErrorKind, preset_of, Meanings, Table, def_of, field_in, Val, Vals, product, variant, none, some, ok, err, list_of, map_of, set_of, ptr, dyn, no_vals, no_entries, dyn_array, dyn_object, passes_at, message}
+use Rattle.fr_model.specs.Conversions.{failing_source, taken}
 use Rattle.fr_model.specs.Dynamics.{dynamics_in, members_in}
 use Rattle.fr_model.specs.Gathering.{items_in, entries_in}
 use Rattle.fr_model.specs.Places.{Column, strict_column, child_count, vals_nth, one_more, each_child, fill_in, fill_at}
@@ -43,12 +44,16 @@ failing_field hooks table s selected i None value = None
 abbrev pub failing_field_in : Meanings → Table → ℕ → (selected : Option ℕ) → ℕ → Option Val → Option ReflectErrorKind
 failing_field_in hooks table s selected i value = failing_field hooks table s selected i (field_in (def_of table s) selected i) value
 
--- of child i of a place of shape s that is begun so: the first validator that its value, if it has one, doesn't pass. Only fields
--- have any.
+-- of child i of a place of shape s that is begun so, why its value, if it has one, isn't taken: the first validator that it doesn't
+-- pass, which only fields have; and of a source that it isn't converted
 abbrev pub failing_child : Meanings → Table → ℕ → Tracker → ℕ → Option Val → Option ReflectErrorKind
 failing_child hooks table s (as_fields selected) i value = failing_field_in hooks table s selected i value
 failing_child hooks table s as_elements i value = None
-failing_child hooks table s (as_content kind) i value = None
+failing_child hooks table s (as_content (ContentKind.Source conversion)) i value = failing_source hooks table s conversion value
+failing_child hooks table s (as_content ContentKind.Some) i value = None
+failing_child hooks table s (as_content ContentKind.Ok) i value = None
+failing_child hooks table s (as_content ContentKind.Err) i value = None
+failing_child hooks table s (as_content ContentKind.Pointer) i value = None
 failing_child hooks table s (as_items kind) i value = None
 failing_child hooks table s (as_entries kind) i value = None
 
@@ -57,9 +62,10 @@ abbrev pub unless_failing : Option ReflectErrorKind → Option Val → Option Va
 unless_failing (Some kind) value = None
 unless_failing None value = value
 
--- a child's value, where it passes its field's validators
+-- what is taken of a child's value, where nothing is to refuse
 abbrev pub valid_child : Meanings → Table → ℕ → Tracker → ℕ → Option Val → Option Val
-valid_child hooks table s tracker i value = unless_failing (failing_child hooks table s tracker i value) value
+valid_child hooks table s tracker i value =
+    unless_failing (failing_child hooks table s tracker i value) (taken hooks table s tracker value)
 
 -- what a hole takes as child i of a place of shape s that is begun so: a field its fill, if it has one; anything else nothing
 abbrev pub hole_takes : Column → Table → ℕ → Tracker → ℕ → Option Val
@@ -77,8 +83,8 @@ missing_child s (as_content kind) i = missing_value s
 missing_child s (as_items kind) i = missing_value s
 missing_child s (as_entries kind) i = missing_value s
 
--- the value that a place begun so makes of those of its children: their product, their variant, the one value held so, their list,
--- the pointer to it, the set or map that they make one after the other, or the dynamic array or object
+-- the value that a place begun so makes of what it takes of its children's: their product, their variant, the one value held so, that
+-- to which a source was converted, their list, the pointer to it, the set or map that they make one after the other, or the dynamic array or object
 abbrev pub value_as : Tracker → Vals → Val
 value_as (as_fields None) vs = product vs
 value_as as_elements vs = product vs
@@ -87,6 +93,7 @@ value_as (as_content ContentKind.Some) vs = some (vals_nth vs 0)
 value_as (as_content ContentKind.Ok) vs = ok (vals_nth vs 0)
 value_as (as_content ContentKind.Err) vs = err (vals_nth vs 0)
 value_as (as_content ContentKind.Pointer) vs = ptr (vals_nth vs 0)
+value_as (as_content (ContentKind.Source conversion)) vs = vals_nth vs 0
 value_as (as_items ItemsKind.List) vs = list_of vs
 value_as (as_items ItemsKind.Slice) vs = ptr (list_of vs)
 value_as (as_items ItemsKind.ClosedSlice) vs = ptr (list_of vs)
@@ -135,8 +142,8 @@ abbrev pub made_of_entered : Column → Meanings → Table → ℕ → Option Va
 made_of_entered column hooks table s = made_by (def_of table s) (preset_of table s) (made_of_fills column hooks table s)
 
 -- The value that a place of shape s makes: a whole place its own; an entered place as above; a begun place what is
--- made, as it is begun, of its children's, of which a hole takes its fill, where each makes one that passes its validators. A hole by
--- itself makes none.
+-- made, as it is begun, of its children's, of which a hole takes its fill, where each makes one that passes its validators, or is
+-- converted. A hole by itself makes none.
 abbrev mutual
   pub complete : Column → Meanings → Table → ℕ → Tree → Option Val
   complete column hooks table s hole = None
@@ -194,7 +201,8 @@ lack_of_entered hooks table s =
     lack_by (def_of table s) (preset_of table s) (lack_of_holes hooks table s (as_fields None) (child_count table s) 0) (missing_value s)
 
 -- What a place of shape s lacks, if anything. A begun place is taken child by child in index order: a hole has to have a
--- fill, any other child must lack nothing itself, and then the value has to pass its field's validators in their order.
+-- fill, any other child must lack nothing itself, and then the value has to pass its field's validators in their order, or to be
+-- converted.
 abbrev mutual
   pub lack : Meanings → Table → ℕ → Tree → Option ReflectErrorKind
   lack hooks table s hole = Some (missing_value s)

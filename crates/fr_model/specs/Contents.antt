@@ -49,7 +49,7 @@ variant_anew def k = begun (as_fields (Some k)) (holes (length (variant_fields d
 abbrev pub around : Tracker → Tree → Tree
 around tracker child = begun tracker (branch child no_trees)
 
--- a content, a side or a pointee, just entered
+-- a content, a side, a pointee or a source, just entered
 abbrev pub content_anew : Table → ℕ → Tracker → Tree
 content_anew table s tracker = around tracker (fresh (def_of table (child_as table s tracker 0)))
 
@@ -64,7 +64,7 @@ abbrev pub kept_so : Tracker → Tree → Option Tree
 kept_so tracker (begun made children) = if same_tracker made tracker then Some (begun made children) else None
 kept_so tracker _ = None
 
--- in deferred mode a begun side, or pointer, is entered again as it is; in strict mode it isn't
+-- in deferred mode a begun side, pointer or conversion is entered again as it is; in strict mode it isn't
 abbrev pub kept_in : Mode → Tracker → Tree → Option Tree
 kept_in strict tracker tree = None
 kept_in (deferred start) tracker tree = kept_so tracker tree

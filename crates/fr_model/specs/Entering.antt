@@ -1,7 +1,7 @@
 -- How a place is entered: each way on to one of its children, what becomes of the place, and where the cursor goes.
 use Rattle.std.specs.Prelude.{◌∷◌, ◌++◌}
 use Rattle.fr_model.specs.Common.{ℕ, [], List, Option, Some, None, option_map, unwrap_or, Def, Table, def_of, Val, Vals, no_vals, first}
-use Rattle.fr_model.specs.Basis.{with_key, content_anew, entry_number, with_entry, count_children, parts_of, items_of, set_items_of, entries_of, Tracker, as_fields, as_elements, as_content, ContentKind, as_items, ItemsKind, as_entries, EntriesKind, tracker_of, tracker_at, over_base, Tree, hole, entered, whole, begun, for_hole, wholes, holes, fresh, child_as, count_below, change_child, change_at, State, cursor_tree, one_more_call}
+use Rattle.fr_model.specs.Basis.{with_key, content_anew, entry_number, with_entry, count_children, parts_of, items_of, set_items_of, entries_of, Tracker, as_fields, as_elements, as_content, ContentKind, as_items, ItemsKind, as_entries, EntriesKind, tracker_of, tracker_at, over_base, Tree, hole, entered, whole, begun, for_hole, wholes, holes, fresh, child_as, count_below, change_child, change_at, State, cursor_tree, one_more_call, without_source}
 use Rattle.fr_model.specs.Contents.{content_of}
 use Rattle.fr_model.specs.Dynamics.{dynamic_in, elements_in, element_vals, members_of_object, member_vals}
 use Rattle.fr_model.specs.Items.{with_item}
@@ -24,6 +24,7 @@ parts_as (as_content ContentKind.Some) v = option_map (λ (held : Val). first he
 parts_as (as_content ContentKind.Ok) v = None
 parts_as (as_content ContentKind.Err) v = None
 parts_as (as_content ContentKind.Pointer) v = None
+parts_as (as_content (ContentKind.Source conversion)) v = None
 parts_as (as_items ItemsKind.Slice) v = None
 parts_as (as_items ItemsKind.ClosedSlice) v = None
 parts_as (as_items ItemsKind.Set) v = set_items_of v
@@ -55,10 +56,12 @@ enter_child table s i t =
 -- The ways
 
 -- The ways on from a place to one of its children: to the child of this number, where a hole is just entered and anything else stays as
--- it is; to a new item, behind the others; to the key of a new entry of a map; to the value, of this number, that the last entry lacks;
+-- it is (a place that is begun as a conversion has no such child, and starts anew first); to that child of a place that starts anew first,
+-- whatever it is; to a new item, behind the others; to the key of a new entry of a map; to the value, of this number, that the last entry lacks;
 -- to the entry of this key of a dynamic object; to the one child of a place that is begun so around it, of which this is kept.
 pub data Way : Type 0 where
   Child : ℕ → Way
+  Anew : ℕ → Way
   Item : Way
   Key : Way
   Value : ℕ → Way
@@ -68,6 +71,7 @@ pub data Way : Type 0 where
 -- the number of the child to which a way leads on from this tree
 abbrev pub number_on : Way → Tree → ℕ
 number_on (Way.Child i) tree = i
+number_on (Way.Anew i) tree = i
 number_on Way.Item tree = count_below tree
 number_on Way.Key tree = count_below tree
 number_on (Way.Value i) tree = i
@@ -76,7 +80,8 @@ number_on (Way.Content tracker kept) tree = 0
 
 -- the place of shape s with the child on this way entered
 abbrev pub entered_on : Table → (s : ℕ) → Way → Tree → Tree
-entered_on table s (Way.Child i) = enter_child table s i
+entered_on table s (Way.Child i) = λ old. enter_child table s i (without_source (def_of table s) old)
+entered_on table s (Way.Anew i) = λ old. enter_child table s i (fresh (def_of table s))
 entered_on table s Way.Item = with_item table s
 entered_on table s Way.Key = with_key table s
 entered_on table s (Way.Value i) = enter_child table s i

@@ -1,10 +1,10 @@
 -- Completing at the end of deferred mode: which places fail, each with its refusal, and the first of them.
-use Rattle.std.specs.Prelude.{◌∷◌, ◌++◌}
+use Rattle.std.specs.Prelude.{◌∷◌, ◌++◌, if◌then◌else◌}
 use Rattle.fr_model.specs.Common.{ℕ, suc, List, [], Option, Some, None, option_or, Ordering, Field, ReflectErrorKind, DeferredRule, filled, marked_without_default, missing, deferred_rule, preset_of, Meanings, Table, def_of, field_in, PathStep, walk_order}
 use Rattle.fr_model.specs.Complete.{complete, failing_child, hole_takes, lack_by, missing_child, missing_value, unless_there}
 use Rattle.fr_model.specs.Paths.{step_as}
 use Rattle.fr_model.specs.Places.{deferred_column, child_count}
-use Rattle.fr_model.specs.Trackers.{Tracker, as_fields, as_elements, as_content, as_items, as_entries}
+use Rattle.fr_model.specs.Trackers.{Tracker, as_fields, as_elements, as_content, as_items, as_entries, is_conversion}
 use Rattle.fr_model.specs.Tree.{Tree, hole, entered, whole, begun, Trees, no_trees, branch, for_hole, child_as, holes}
 
 -- What one place lacks, its children being complete.
@@ -40,7 +40,7 @@ first_missing table s tracker i (branch t ts) =
     option_or (for_hole t (unless_there (hole_takes deferred_column table s tracker i) (missing_child s tracker i)) None)
     (first_missing table s tracker (suc i) ts)
 
--- the first of them whose value, or what it takes where it is a hole, doesn't pass its field's validators
+-- the first of them whose value, or what it takes where it is a hole, doesn't pass its field's validators, or isn't converted
 abbrev pub first_invalid : Meanings → Table → ℕ → Tracker → ℕ → Trees → Option ReflectErrorKind
 first_invalid hooks table s tracker i no_trees = None
 first_invalid hooks table s tracker i (branch t ts) =
@@ -48,7 +48,8 @@ first_invalid hooks table s tracker i (branch t ts) =
     (complete deferred_column hooks table (child_as table s tracker i) t))) (first_invalid hooks table s tracker (suc i) ts)
 
 -- A begun place takes its fills in index order: the first hole that is marked and has no default fails it. Then the first hole
--- that is left does, and then the first field, in index order, whose validators aren't passed.
+-- that is left does, and then the first field, in index order, whose validators aren't passed. What a conversion lacks is that its
+-- source isn't converted.
 abbrev pub lack_of_begun : Meanings → Table → ℕ → Tracker → Trees → Option ReflectErrorKind
 lack_of_begun hooks table s tracker ts =
     option_or (first_unmet table s tracker 0 ts)
@@ -80,13 +81,18 @@ abbrev pub or_itself : (beneath : List Failure) → (itself : List Failure) → 
 or_itself [] itself = itself
 or_itself (failure ∷ beneath) itself = failure ∷ beneath
 
+-- where a place at this path that is begun so fails: a conversion at its source, any other at the place itself
+abbrev pub failing_path : Tracker → List PathStep → List PathStep
+failing_path tracker path = if is_conversion tracker then path ++ step_as tracker 0 ∷ [] else path
+
 -- The places that fail in what stands at this path, a place of shape s, child by child: a place fails where its children complete
 -- and it doesn't. A hole isn't completed.
 abbrev mutual
   pub failures : Meanings → Table → ℕ → (path : List PathStep) → Tree → List Failure
   failures hooks table s path entered = failure_at path (own_lack hooks table s entered)
   failures hooks table s path (begun tracker ts) =
-      or_itself (failures_among hooks table s tracker 0 path ts) (failure_at path (lack_of_begun hooks table s tracker ts))
+      or_itself (failures_among hooks table s tracker 0 path ts)
+      (failure_at (failing_path tracker path) (lack_of_begun hooks table s tracker ts))
   failures hooks table s path _ = []
 
   -- among the children from number i on

@@ -1,7 +1,7 @@
 -- The end of deferred mode, along the way to the place at which a builder works.
-use Rattle.std.specs.Prelude.{◌∷◌, ◌++◌, if◌then◌else◌}
+use Rattle.std.specs.Prelude.{◌∷◌, ◌++◌, ◌||◌, if◌then◌else◌}
 use Rattle.fr_model.specs.Common.{ℕ, zero, suc, Bool, true, false, List, [], Option, Some, None, option_map, option_or, ReflectErrorKind, Meanings, Table, Vals, PathStep}
-use Rattle.fr_model.specs.Basis.{complete, complete_all, missing_value, value_as, Failure, failures, failures_among, first_by_walk, own_lack, step_as, Place, deferred_column, Tracker, as_items, ItemsKind, Tree, hole, entered, whole, begun, Trees, no_trees, branch, for_hole, child_as, shape_in, tree_at, wholes}
+use Rattle.fr_model.specs.Basis.{complete, complete_all, missing_value, value_as, Failure, failures, failures_among, first_by_walk, own_lack, step_as, Place, deferred_column, Tracker, as_items, ItemsKind, is_conversion, Tree, hole, entered, whole, begun, Trees, no_trees, branch, for_hole, child_as, shape_in, tree_at, wholes}
 
 -- What becomes of the tree.
 
@@ -33,14 +33,18 @@ abbrev pub is_closed_slice : Tracker → Bool
 is_closed_slice (as_items ItemsKind.ClosedSlice) = true
 is_closed_slice _ = false
 
--- the place at which the builder works, begun, keeps its children apart: each of them, and each hole its fill, is now whole. Only a
--- pointer to a slice that is closed becomes whole itself.
+-- a place that is begun so becomes whole, though the builder works there: a pointer to a slice that is closed, and a conversion, whose
+-- source is converted as it completes
+abbrev pub is_made_whole : Tracker → Bool
+is_made_whole tracker = is_closed_slice tracker || is_conversion tracker
+
+-- any other place at which the builder works, begun, keeps its children apart: each of them, and each hole its fill, is now whole
 abbrev pub begun_with : Tracker → Vals → Tree
-begun_with tracker vs = if is_closed_slice tracker then whole (value_as tracker vs) else begun tracker (wholes vs)
+begun_with tracker vs = if is_made_whole tracker then whole (value_as tracker vs) else begun tracker (wholes vs)
 
 -- The place at which the builder works: where it is begun its children are completed, its holes are filled, its fields'
--- validators are passed, and it stays begun, but a closed pointer to a slice; an entered one becomes whole with the value that it
--- makes.
+-- validators are passed, and it stays begun, but a closed pointer to a slice or a conversion; an entered one becomes whole with the
+-- value that it makes.
 abbrev pub finished_here : Meanings → Table → ℕ → Tree → Option Tree
 finished_here hooks table s hole = Some hole
 finished_here hooks table s entered = option_map whole (complete deferred_column hooks table s entered)
@@ -68,10 +72,16 @@ failures_but hooks table s tracker (suc on_way) below i path (branch t ts) =
     failures hooks table (child_as table s tracker i) (path ++ step_as tracker i ∷ []) t
     ++ failures_but hooks table s tracker on_way below (suc i) path ts
 
+-- Of the place at which the builder works the children are off the way: what fails among them; and of a conversion also that its source
+-- isn't converted, which fails at the source.
+abbrev pub failures_here : Meanings → Table → ℕ → (path : List PathStep) → Tracker → Trees → List Failure
+failures_here hooks table s path tracker ts =
+    if is_conversion tracker then failures hooks table s path (begun tracker ts) else failures_among hooks table s tracker 0 path ts
+
 -- the failing places that are neither the one at which the builder works nor above it
 abbrev pub failures_off : Meanings → Table → ℕ → (path : List PathStep) → (cursor : Place) → Tree → List Failure
 failures_off hooks table s path cursor hole = []
-failures_off hooks table s path [] (begun tracker ts) = failures_among hooks table s tracker 0 path ts
+failures_off hooks table s path [] (begun tracker ts) = failures_here hooks table s path tracker ts
 failures_off hooks table s path (i ∷ place) (begun tracker ts) =
     failures_but hooks table s tracker i
     (λ (shape : ℕ) (to : List PathStep) (t : Tree). failures_off hooks table shape to place t) 0 path ts

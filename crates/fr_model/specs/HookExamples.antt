@@ -4,7 +4,6 @@ use Rattle.fr_model.specs.Common.{ℕ, zero, suc, not, List, [], Some, Result, O
 use Rattle.fr_model.specs.Basis.{Call, BeginNthField, End, ParseFromBytes, ParseFromStr, Set}
 use Rattle.fr_model.specs.ContentExamples.{fails, id, u32, struct_of, one, put_in, refused, refused_first}
 use Rattle.fr_model.specs.Run.{Refusal, full_run}
-use Rattle.fr_model.specs.Served.{IsServed}
 use Rattle.fr_model.specs.Step.{violates}
 use Rattle.fr_shape.specs.Hooks.{Meaning, gives, refuses, unsupported}
 
@@ -38,7 +37,6 @@ abbrev pub not_parsed : ℕ → Result Val Refusal
 not_parsed s = refused_first (ReflectErrorKind.ParseFailed (id s))
 
 pub record ParsingExamples : Type 0 where
-  pub served : IsServed parses
   pub with_plus : Parses 0 (ParseFromStr (codes "+5")) (Ok (nat 5))
   pub with_minus : Parses 0 (ParseFromStr (codes "-1")) (not_parsed 0)
   pub no_list : Parses 1 (ParseFromStr (codes "5")) (fails 0 1 Operation.NoParsing)
@@ -66,7 +64,6 @@ abbrev pub holding : ℕ → Val
 holding n = product (one (product (one (nat n))))
 
 pub record InvariantExamples : Type 0 where
-  pub served : IsServed invariants
   pub kept : full_run hooks invariants 2 (made_of 4) ≡ Ok (holding 4)
   -- no call but `build` asks it
   pub broken : full_run hooks invariants 2 (made_of 5) ≡ refused 5 (violates Invariant.TypeInvariant) []

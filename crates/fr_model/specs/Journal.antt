@@ -1,5 +1,5 @@
 -- The journal: what a run wrote and where, newest note first, and what the last writes make of each place. It knows
--- no tree, no stack and no bits; it is what a reader checks the builder against, over served tables.
+-- no tree, no stack and no bits; it is what a reader checks the builder against, over plain tables.
 use Rattle.std.specs.Prelude.{◌==◌, ◌&&◌, ◌∷◌, ◌++◌, if◌then◌else◌}
 use Rattle.fr_model.specs.Common.{ℕ, zero, suc, max, Bool, true, false, not, List, [], length, nat_lt, nat_le, Option, Some, None, Def, preset_of, Table, def_of, Val, product, no_vals, field_named}
 use Rattle.fr_model.specs.Commands.{Call}
@@ -288,6 +288,11 @@ rule_at table root s run Call.BeginSome = None
 rule_at table root s run Call.BeginOk = None
 rule_at table root s run Call.BeginErr = None
 rule_at table root s run Call.BeginSmartPtr = None
+rule_at table root s run Call.BeginInner = None
+rule_at table root s run Call.BeginCustomDeserialization = None
+rule_at table root s run (Call.BeginCustomDeserializationWithFormat format) = None
+rule_at table root s run Call.BeginCustomDeserializationFromShape = None
+rule_at table root s run (Call.BeginCustomDeserializationFromShapeWithFormat format) = None
 rule_at table root s run (Call.SelectNthVariant i) = None
 rule_at table root s run (Call.SelectVariantNamed name) = None
 rule_at table root s run (Call.SelectVariant discriminant) = None

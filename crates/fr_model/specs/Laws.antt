@@ -1,8 +1,8 @@
 -- Laws of the tree and of the steps.
 use Rattle.std.specs.Prelude.{◌≡◌, ◌+◌, ◌<◌, ◌≤◌}
-use Rattle.fr_model.specs.Common.{ℕ, true, not, List, is_none, is_some, Some, Result, Ok, Err, ReflectErrorKind, IsChecked, Meanings, is_nil, Table, Val, fits, occurs, PathStep}
+use Rattle.fr_model.specs.Common.{ℕ, true, not, None, List, is_none, is_some, Some, Result, Ok, Err, ReflectErrorKind, IsChecked, Meanings, is_nil, Table, Val, fits, occurs, PathStep}
 use Rattle.fr_shape.specs.Hooks.{IsLawful}
-use Rattle.fr_model.specs.Basis.{Call, Tree, tree_occurs, State, initial, complete, lack, failures, Column, strict_column, IsFitting, brings, Suits, IsInOrder, RestsAround, AreDistinct, IsWell}
+use Rattle.fr_model.specs.Basis.{Call, Tree, tree_occurs, State, initial, complete, lack, failures, Column, strict_column, IsFitting, brings, Suits, IsInOrder, RestsAround, ConversionsSuit, AreDistinct, IsWell}
 use Rattle.fr_model.specs.Dropping.{dropped_by_completing}
 use Rattle.fr_model.specs.Finish.{closed}
 use Rattle.fr_model.specs.Step.{step, build}
@@ -21,17 +21,17 @@ CompletesOrFails =
     → is_none (closed hooks table s tree) ≡ not (is_nil (failures hooks table s path tree))
 
 -- The value that a place makes by either column, over a checked table and where each node suits its shape, holds each token as
--- often as the place does, but for what is dropped: what a hole or an entered place takes brings none.
+-- often as the place does, but for what is dropped: what a hole or an entered place takes brings none, nor does what a lawful hook gives.
 abbrev pub CompletingKeepsTokens : Type 0
 CompletingKeepsTokens =
-    (column : Column) (hooks : Meanings) (table : Table) (s : ℕ) (tree : Tree) (v : Val) (t : ℕ) → IsChecked table
+    (column : Column) (hooks : Meanings) (table : Table) (s : ℕ) (tree : Tree) (v : Val) (t : ℕ) → IsLawful hooks → IsChecked table
     → Suits table s tree → complete column hooks table s tree ≡ Some v
     → occurs v t + dropped_by_completing column hooks table s tree t ≡ tree_occurs tree t
 
--- what a place makes, over a checked table and where each node suits its shape, fits its shape
+-- what a place makes, with lawful hooks, over a checked table and where each node suits its shape, fits its shape
 abbrev pub CompletingFits : Type 0
 CompletingFits =
-    (column : Column) (hooks : Meanings) (table : Table) (s : ℕ) (tree : Tree) (v : Val) → IsChecked table
+    (column : Column) (hooks : Meanings) (table : Table) (s : ℕ) (tree : Tree) (v : Val) → IsLawful hooks → IsChecked table
     → Suits table s tree → complete column hooks table s tree ≡ Some v → fits table s v ≡ true
 
 -- Tokens: nothing is lost and nothing doubled
@@ -56,7 +56,7 @@ built_occurs (Err kind) t = 0
 -- What the tree held is what the built value holds, and what `build` dropped.
 abbrev pub BuildKeepsTokens : Type 0
 BuildKeepsTokens =
-    (hooks : Meanings) (table : Table) (root : ℕ) (state : State) → IsChecked table → Suits table root state.tree → (t : ℕ)
+    (hooks : Meanings) (table : Table) (root : ℕ) (state : State) → IsLawful hooks → IsChecked table → Suits table root state.tree → (t : ℕ)
     → tree_occurs state.tree t ≡ built_occurs (build hooks table root state) t + removed_at_build hooks table root state t
 
 -- States stay well
@@ -77,6 +77,13 @@ StepKeepsRest =
     (hooks : Meanings) (table : Table) (root : ℕ) (state next : State) (command : Call) → IsChecked table
     → IsInOrder table root state → RestsAround state.cursor state.tree → IsFitting table command
     → step hooks table root state command ≡ Ok next → RestsAround next.cursor next.tree
+
+-- and each conversion has the hook and the source of its place's wrapper or of a proxy of its place, if each had before
+abbrev pub StepKeepsConversions : Type 0
+StepKeepsConversions =
+    (hooks : Meanings) (table : Table) (root : ℕ) (state next : State) (command : Call) → IsLawful hooks → IsChecked table
+    → IsInOrder table root state → ConversionsSuit table root None state.tree → step hooks table root state command ≡ Ok next
+    → ConversionsSuit table root None next.tree
 
 -- a command brings each token at most once, and none that the tree holds
 pub record IsFresh (state : State) (command : Call) : Type 0 where

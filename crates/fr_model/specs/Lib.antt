@@ -7,6 +7,7 @@ pub mod Common
 pub mod Complete
 pub mod ContentExamples
 pub mod Contents
+pub mod Conversions
 pub mod Converting
 pub mod Covering
 pub mod DefaultExamples
@@ -41,9 +42,9 @@ pub mod Relation
 pub mod Removed
 pub mod Run
 pub mod Scripts
-pub mod Served
 pub mod Settled
 pub mod StateCode
+pub mod SourceExamples
 pub mod Step
 pub mod Trackers
 pub mod Tree

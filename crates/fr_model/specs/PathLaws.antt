@@ -2,7 +2,7 @@
 -- entering a child adds a step, going up takes the last one away, and the end of deferred mode keeps the path.
 use Rattle.std.specs.Prelude.{◌≡◌, ◌∷◌, ◌++◌}
 use Rattle.fr_model.specs.Common.{ℕ, true, List, [], length, Option, Some, None, Def, Meanings, Table, def_of, PathStep}
-use Rattle.fr_model.specs.Basis.{is_begun_object, step_as, step_below, steps_in, path_of, Place, up, Tracker, as_content, ContentKind, tracker_at, Tree, begun, change_at, count_below, State, cursor_shape, cursor_tree, Leads, IsInOrder}
+use Rattle.fr_model.specs.Basis.{is_begun_object, step_as, step_below, steps_in, path_of, Place, up, Tracker, as_content, ContentKind, tracker_at, Tree, begun, change_at, count_below, fresh, without_source, State, cursor_shape, cursor_tree, Leads, IsInOrder}
 use Rattle.fr_model.specs.Entering.{Way, enters}
 use Rattle.fr_model.specs.Finish.{finished}
 use Rattle.fr_model.specs.Step.{option_kept, content_kept}
@@ -23,10 +23,12 @@ EnteringAddsAStep =
     → steps_in (state.cursor ++ i ∷ []) (change_at state.cursor change state.tree)
     ≡ path_of state ++ step_below i (change (cursor_tree state)) ∷ []
 
--- the step to which a way leads on from a place of this definition: to a child as what the place is begun as, or will be, tells; to a
--- new item or key behind the children that are there; to the entry of a key; to the one child of what is begun around it
+-- the step to which a way leads on from a place of this definition: to a child as what the place is begun as tells, or will be, having
+-- started anew or not; to a new item or key behind the children that are there; to the entry of a key; to the one child of what is begun
+-- around it
 abbrev pub step_on : Def → Tree → Way → PathStep
-step_on def tree (Way.Child i) = step_as (tracker_at def tree) i
+step_on def tree (Way.Child i) = step_as (tracker_at def (without_source def tree)) i
+step_on def tree (Way.Anew i) = step_as (tracker_at def (fresh def)) i
 step_on def tree Way.Item = step_as (tracker_at def tree) (count_below tree)
 step_on def tree Way.Key = step_as (tracker_at def tree) (count_below tree)
 step_on def tree (Way.Value i) = step_as (tracker_at def tree) i
@@ -52,6 +54,7 @@ IsKeptAs tracker None = Unit {0}
 -- object, and to the one child of a place that is begun around it where what is kept is begun so. To a child by its number it always is.
 abbrev pub IsAdmittedOn : Tree → Way → Type 0
 IsAdmittedOn tree (Way.Child i) = Unit {0}
+IsAdmittedOn tree (Way.Anew i) = Unit {0}
 IsAdmittedOn tree Way.Item = HasBegun tree
 IsAdmittedOn tree Way.Key = HasBegun tree
 IsAdmittedOn tree (Way.Value i) = Unit {0}
@@ -65,7 +68,7 @@ EnteringAddsItsStep =
     → path_of (enters table (cursor_shape table root state) state way)
     ≡ path_of state ++ step_on (def_of table (cursor_shape table root state)) (cursor_tree state) way ∷ []
 
--- what the commands keep of a side, of what a pointer points to, and of an option is begun as what they enter
+-- what the commands keep of a side, of what a pointer points to, of a source, and of an option is begun as what they enter
 abbrev pub KeptIsAdmitted : Type 0
 KeptIsAdmitted =
     (table : Table) (s : ℕ) (state : State) (tracker : Tracker)

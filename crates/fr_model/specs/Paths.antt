@@ -3,11 +3,16 @@ use Rattle.std.specs.Prelude.{◌-◌, ◌∷◌, if◌then◌else◌}
 use Rattle.fr_model.specs.Common.{ℕ, List, [], PathStep}
 use Rattle.fr_model.specs.Dynamics.{key_nth}
 use Rattle.fr_model.specs.Places.{Place, is_key, entry_of}
-use Rattle.fr_model.specs.Trackers.{Tracker, as_fields, as_elements, as_content, ContentKind, as_items, ItemsKind, as_entries, EntriesKind}
+use Rattle.fr_model.specs.Trackers.{Tracker, as_fields, as_elements, as_content, ContentKind, Through, as_items, ItemsKind, as_entries, EntriesKind}
 use Rattle.fr_model.specs.Tree.{Tree, begun, child_tree, State}
 
+-- the step to the source of a conversion
+abbrev pub step_through : Through → PathStep
+step_through Through.Wrapper = PathStep.Inner
+step_through Through.Proxy = PathStep.Proxy
+
 -- the step to child i of a place that is begun so: to a field of a struct or of a variant, to an element of an array, to the content
--- of an option or of either side of a result, to what a pointer points to, to an item of a list, a slice or a set, to the key or the
+-- of an option or of either side of a result, to what a pointer points to, to the source of a conversion, to an item of a list, a slice or a set, to the key or the
 -- value of a map's entry, whose number doesn't count its base, or to an element or an entry of a dynamic value
 abbrev pub step_as : Tracker → ℕ → PathStep
 step_as (as_fields selected) i = PathStep.Field i
@@ -16,6 +21,7 @@ step_as (as_content ContentKind.Some) i = PathStep.OptionSome
 step_as (as_content ContentKind.Ok) i = PathStep.ResultOk
 step_as (as_content ContentKind.Err) i = PathStep.ResultErr
 step_as (as_content ContentKind.Pointer) i = PathStep.Deref
+step_as (as_content (ContentKind.Source conversion)) i = step_through conversion.through
 step_as (as_items ItemsKind.List) i = PathStep.Index i
 step_as (as_items ItemsKind.Slice) i = PathStep.Index i
 step_as (as_items ItemsKind.ClosedSlice) i = PathStep.Index i

@@ -1,27 +1,33 @@
 -- The code of a builder's state, for the models above: a tree is stored as a value that gives it back.
 use Rattle.std.specs.Prelude.{◌≡◌, ◌∷◌}
-use Rattle.fr_model.specs.Common.{ℕ, zero, suc, List, [], refl, None, Some, Val, Vals, unit, nat, text, variant, none, some, list_of, no_vals, first}
+use Rattle.fr_model.specs.Common.{ℕ, zero, suc, List, [], refl, None, Some, Val, Vals, unit, nat, text, product, variant, none, some, list_of, no_vals, first}
 use Rattle.std.specs.Coded.{Coded, code_by, coded×, coded_ℕ, coded_list}
 use mathlib.Core.Path.{ap, ◌∙◌}
+use Rattle.fr_model.specs.Trackers.{number_through}
 use Rattle.fr_shape.specs.Code.{val_code}
-use Rattle.fr_model.specs.Basis.{Tracker, as_fields, as_elements, as_content, ContentKind, as_items, ItemsKind, as_entries, EntriesKind, base_of_tracker, keys_of_tracker, tracker_number, Tree, hole, entered, whole, begun, Trees, no_trees, branch, Mode, strict, deferred, State}
+use Rattle.fr_model.specs.Basis.{Tracker, as_fields, as_elements, as_content, ContentKind, Through, as_items, ItemsKind, as_entries, EntriesKind, base_of_tracker, keys_of_tracker, hook_of_tracker, source_of_tracker, tracker_number, part, Tree, hole, entered, whole, begun, Trees, no_trees, branch, Mode, strict, deferred, State}
 
--- the tracker that has a number, and of a map this base, of an object these keys
-abbrev pub tracker_numbered : ℕ → (base : ℕ) → (keys : List (List ℕ)) → Tracker
-tracker_numbered zero base keys = as_fields None
-tracker_numbered (suc zero) base keys = as_elements
-tracker_numbered (suc (suc zero)) base keys = as_content ContentKind.Some
-tracker_numbered (suc (suc (suc zero))) base keys = as_content ContentKind.Ok
-tracker_numbered (suc (suc (suc (suc zero)))) base keys = as_content ContentKind.Err
-tracker_numbered (suc (suc (suc (suc (suc zero))))) base keys = as_content ContentKind.Pointer
-tracker_numbered (suc (suc (suc (suc (suc (suc zero)))))) base keys = as_items ItemsKind.List
-tracker_numbered (suc (suc (suc (suc (suc (suc (suc zero))))))) base keys = as_items ItemsKind.Slice
-tracker_numbered (suc (suc (suc (suc (suc (suc (suc (suc zero)))))))) base keys = as_items ItemsKind.ClosedSlice
-tracker_numbered (suc (suc (suc (suc (suc (suc (suc (suc (suc zero))))))))) base keys = as_items ItemsKind.Set
-tracker_numbered (suc (suc (suc (suc (suc (suc (suc (suc (suc (suc zero)))))))))) base keys = as_entries (EntriesKind.Map base)
-tracker_numbered (suc (suc (suc (suc (suc (suc (suc (suc (suc (suc (suc zero))))))))))) base keys = as_items ItemsKind.Array
-tracker_numbered (suc (suc (suc (suc (suc (suc (suc (suc (suc (suc (suc (suc zero)))))))))))) base keys = as_entries (EntriesKind.Object keys)
-tracker_numbered (suc (suc (suc (suc (suc (suc (suc (suc (suc (suc (suc (suc (suc k))))))))))))) base keys = as_fields (Some k)
+abbrev pub converted_so : Through → (hook source : ℕ) → Tracker
+converted_so through hook source = as_content (ContentKind.Source (record { through = through; hook = hook; source = source }))
+
+-- the tracker that has a number, and of a map this base, of an object these keys, of a conversion this hook and this source
+abbrev pub tracker_numbered : ℕ → (base : ℕ) → (keys : List (List ℕ)) → (hook source : ℕ) → Tracker
+tracker_numbered zero base keys hook source = as_fields None
+tracker_numbered (suc zero) base keys hook source = as_elements
+tracker_numbered (suc (suc zero)) base keys hook source = as_content ContentKind.Some
+tracker_numbered (suc (suc (suc zero))) base keys hook source = as_content ContentKind.Ok
+tracker_numbered (suc (suc (suc (suc zero)))) base keys hook source = as_content ContentKind.Err
+tracker_numbered (suc (suc (suc (suc (suc zero))))) base keys hook source = as_content ContentKind.Pointer
+tracker_numbered (suc (suc (suc (suc (suc (suc zero)))))) base keys hook source = as_items ItemsKind.List
+tracker_numbered (suc (suc (suc (suc (suc (suc (suc zero))))))) base keys hook source = as_items ItemsKind.Slice
+tracker_numbered (suc (suc (suc (suc (suc (suc (suc (suc zero)))))))) base keys hook source = as_items ItemsKind.ClosedSlice
+tracker_numbered (suc (suc (suc (suc (suc (suc (suc (suc (suc zero))))))))) base keys hook source = as_items ItemsKind.Set
+tracker_numbered (suc (suc (suc (suc (suc (suc (suc (suc (suc (suc zero)))))))))) base keys hook source = as_entries (EntriesKind.Map base)
+tracker_numbered (suc (suc (suc (suc (suc (suc (suc (suc (suc (suc (suc zero))))))))))) base keys hook source = as_items ItemsKind.Array
+tracker_numbered (suc (suc (suc (suc (suc (suc (suc (suc (suc (suc (suc (suc zero)))))))))))) base keys hook source = as_entries (EntriesKind.Object keys)
+tracker_numbered (suc (suc (suc (suc (suc (suc (suc (suc (suc (suc (suc (suc (suc zero))))))))))))) base keys hook source = converted_so Through.Wrapper hook source
+tracker_numbered (suc (suc (suc (suc (suc (suc (suc (suc (suc (suc (suc (suc (suc (suc zero)))))))))))))) base keys hook source = converted_so Through.Proxy hook source
+tracker_numbered (suc (suc (suc (suc (suc (suc (suc (suc (suc (suc (suc (suc (suc (suc (suc k))))))))))))))) base keys hook source = as_fields (Some k)
 
 -- the keys of an object, as values that give them back
 
@@ -41,11 +47,18 @@ abbrev pub keys_come_back : (keys : List (List ℕ)) → restored_keys (stored_k
 keys_come_back [] = refl
 keys_come_back (key ∷ keys) = ap (λ (rest : List (List ℕ)). key ∷ rest) (keys_come_back keys)
 
-abbrev pub tracker_comes_back : (tracker : Tracker) → tracker_numbered (tracker_number tracker) (base_of_tracker tracker) (keys_of_tracker tracker) ≡ tracker
+abbrev pub tracker_comes_back : (tracker : Tracker) → tracker_numbered
+    (tracker_number tracker) (base_of_tracker tracker) (keys_of_tracker tracker) (hook_of_tracker tracker) (source_of_tracker tracker)
+    ≡ tracker
 tracker_comes_back (as_fields None) = refl
 tracker_comes_back (as_fields (Some k)) = refl
 tracker_comes_back as_elements = refl
-tracker_comes_back (as_content ContentKind.Some) = refl
+tracker_comes_back (as_content (ContentKind.Source conversion)) = comes_back conversion.through
+  where
+    comes_back : (through : Through) → tracker_numbered (number_through through) 0 [] conversion.hook conversion.source
+        ≡ converted_so through conversion.hook conversion.source
+    comes_back Through.Wrapper = refl
+    comes_back Through.Proxy = refl
 tracker_comes_back (as_content _) = refl
 tracker_comes_back (as_items ItemsKind.List) = refl
 tracker_comes_back (as_items _) = refl
@@ -56,9 +69,19 @@ abbrev pub keys_in : Val → List (List ℕ)
 keys_in (list_of vs) = restored_keys vs
 keys_in _ = []
 
-abbrev pub base_stored : Val → ℕ
-base_stored (nat base) = base
-base_stored _ = 0
+abbrev pub nat_in : Val → ℕ
+nat_in (nat n) = n
+nat_in _ = 0
+
+-- the base of a map, and the hook and the source of a conversion
+abbrev pub numbers_stored : Tracker → Val
+numbers_stored tracker =
+    product (first (nat (base_of_tracker tracker)) (first (nat (hook_of_tracker tracker)) (first (nat (source_of_tracker tracker)) no_vals)))
+
+-- the tracker of this number that has these
+abbrev pub tracker_restored : ℕ → (numbers : Val) → (keys : List (List ℕ)) → Tracker
+tracker_restored number numbers keys =
+    tracker_numbered number (nat_in (part numbers 0)) keys (nat_in (part numbers 1)) (nat_in (part numbers 2))
 
 abbrev mutual
   pub stored : Tree → Val
@@ -67,7 +90,7 @@ abbrev mutual
   stored (whole v) = some v
   stored (begun tracker ts) =
       variant (tracker_number tracker)
-      (first (nat (base_of_tracker tracker)) (first (list_of (stored_keys (keys_of_tracker tracker))) (all_stored ts)))
+      (first (numbers_stored tracker) (first (list_of (stored_keys (keys_of_tracker tracker))) (all_stored ts)))
 
   pub all_stored : Trees → Vals
   all_stored no_trees = no_vals
@@ -78,9 +101,9 @@ abbrev mutual
   restored none = hole
   restored (some v) = whole v
   restored (variant number no_vals) = entered
-  restored (variant number (first base no_vals)) = entered
-  restored (variant number (first base (first keys vs))) =
-      begun (tracker_numbered number (base_stored base) (keys_in keys)) (all_restored vs)
+  restored (variant number (first numbers no_vals)) = entered
+  restored (variant number (first numbers (first keys vs))) =
+      begun (tracker_restored number numbers (keys_in keys)) (all_restored vs)
   restored _ = entered
 
   pub all_restored : Vals → Trees
@@ -91,7 +114,7 @@ abbrev mutual
   pub stored_comes_back : (t : Tree) → restored (stored t) ≡ t
   stored_comes_back (begun tracker ts) =
       ap (λ (known : Tracker). begun known (all_restored (all_stored ts)))
-      (ap (tracker_numbered (tracker_number tracker) (base_of_tracker tracker)) (keys_come_back (keys_of_tracker tracker)) ∙ tracker_comes_back tracker)
+      (ap (tracker_restored (tracker_number tracker) (numbers_stored tracker)) (keys_come_back (keys_of_tracker tracker)) ∙ tracker_comes_back tracker)
       ∙ ap (begun tracker) (all_stored_come_back ts)
   stored_comes_back _ = refl
 

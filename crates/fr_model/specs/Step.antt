@@ -1,14 +1,15 @@
--- What each command does to a builder's state, or which refusal it meets: one function for each command. The words
--- here mean what they say at tables that are served.
+-- What each command does to a builder's state, or which refusal it meets: one function for each command.
 use Rattle.std.specs.Prelude.{◌==◌, if◌then◌else◌}
-use Rattle.fr_model.specs.Common.{ℕ, ℤ, Bool, true, false, List, length, nat_lt, Option, Some, None, unwrap_or, Result, Ok, Err, Def, DefaultSource, Field, ShapeId, VariantDef, Expected, ReflectErrorKind, Operation, Invariant, preset_of, is_option, Meanings, is_dynamic, Table, def_of, field_in, variants_of, Val, Dynamic, list_of, ptr, dyn, no_vals, PathStep}
-use Rattle.fr_model.specs.Basis.{Call, is_result, pointer_refusal, points_to_slice, variant_anew, slice_anew, kept_so, kept_in, kept_slice, kept_option, is_begun_dynamic, array_anew, object_anew, kept_array, kept_object, entry_refusal, Column, strict_column, deferred_column, is_root, up, content_shape, Tracker, as_fields, as_content, ContentKind, selected, Tree, whole, count_below, change_child, change_at, tree_at, Mode, strict, deferred, State, cursor_shape, cursor_tree, one_more_call, is_enum, field_found, variant_numbered, variant_named, variant_told_by, selection_refusal, is_set, key_refusal, value_refusal, last_of, set_item_refusal, with_ended_item, number_in, complete, lack, missing_value, failures, first_by_walk, path_of}
+use Rattle.fr_model.specs.Common.{ℕ, ℤ, Bool, true, false, List, slice_get, length, nat_lt, Option, Some, None, is_some, unwrap_or, Result, Ok, Err, Def, DefaultSource, Field, ShapeId, VariantDef, Expected, ReflectErrorKind, Operation, Invariant, preset_of, is_option, Meanings, is_dynamic, Table, def_of, field_in, variants_of, Val, Dynamic, list_of, ptr, dyn, no_vals, PathStep}
+use Rattle.fr_model.specs.Basis.{Call, is_result, by_proxy, by_wrapper, convert_in, proxy_at, proxy_of_field, source_in, Conversion, cursor_field, is_begun_conversion, fresh, pointer_refusal, points_to_slice, variant_anew, slice_anew, kept_so, kept_in, kept_slice, kept_option, is_begun_dynamic, array_anew, object_anew, kept_array, kept_object, entry_refusal, Column, strict_column, deferred_column, is_root, up, content_shape, Tracker, as_fields, as_content, ContentKind, selected, Tree, whole, count_below, change_child, change_at, tree_at, Mode, strict, deferred, State, cursor_shape, cursor_tree, one_more_call, is_enum, field_found, variant_numbered, variant_named, variant_told_by, selection_refusal, is_set, key_refusal, value_refusal, last_of, set_item_refusal, with_ended_item, number_in, complete, lack, missing_value, failures, first_by_walk, path_of, without_source}
 use Rattle.fr_model.specs.Converting.{converted}
 use Rattle.fr_model.specs.Items.{init_array_refusal, item_refusal, is_open_slice, closed_slice, shared_slice_refusal}
 use Rattle.fr_model.specs.Finish.{finished, finish_cause, kind_of}
 use Rattle.fr_model.specs.Parses.{text_meant, bytes_meant}
 use Rattle.fr_shape.specs.Hooks.{Meaning, gives, refuses, unsupported}
 use Rattle.fr_shape.specs.Invariants.{keeps_invariants}
+use Rattle.fr_shape.specs.declared.shape.HookId.{HookId}
+use Rattle.fr_shape.specs.declared.shape.ProxyDef.{ProxyDef}
 pub use Rattle.fr_model.specs.Entering.{Way, enters, opened_value, parts_as, opened_as, opened, enter, enter_child}
 pub use Rattle.fr_model.specs.Refusals.{operation_failed, violates, at_shape, was_not_a, element_refusal, variant_field_refusal, field_refusal, named_refusal, is_str, is_owned_string_kind, is_owned_string, takes_shape, set_refusal, unexpected_unless, init_list_refusal, init_map_refusal, init_set_refusal}
 
@@ -19,7 +20,7 @@ unless_refused None next = Ok next
 
 -- Fields and elements
 
--- begin_nth_field enters the field or the element of this number
+-- begin_nth_field enters the field or the element of this number; a place begun as a conversion starts anew first
 abbrev pub begin_nth_field : Table → ℕ → State → ℕ → Result State ReflectErrorKind
 begin_nth_field table s state i =
     unless_refused (at_shape s (field_refusal (def_of table s) (cursor_tree state) i)) (enters table s state (Way.Child i))
@@ -32,7 +33,7 @@ abbrev pub begins_named : Table → ℕ → State → Option ReflectErrorKind �
 begins_named table s state (Some kind) found = Err kind
 begins_named table s state None found = enters_named table s state found
 
--- begin_field enters the first field that is declared under the name, and is refused where there is none
+-- begin_field enters the first field that is declared under the name, in the same way, and is refused where there is none
 abbrev pub begin_field : Table → ℕ → State → (name : List ℕ) → Result State ReflectErrorKind
 begin_field table s state name =
     begins_named table s state (at_shape s (named_refusal (def_of table s) (cursor_tree state)))
@@ -101,9 +102,9 @@ default_by_mark table shape None = default_or (preset_of table shape.0) (Reflect
 abbrev pub field_default : Table → Field → Result Val ReflectErrorKind
 field_default table field = default_by_mark table field.shape field.default
 
--- the place with its child i whole with the value, whatever stood there
+-- the place with its child i whole with the value, whatever stood there; a place begun as a conversion starts anew first
 abbrev pub put_child : Def → ℕ → Val → Tree → Tree
-put_child def i v t = change_child i (λ old. whole v) (opened def t)
+put_child def i v t = change_child i (λ old. whole v) (opened def (without_source def t))
 
 -- field i of the cursor's place is entered, whole with the value, and left
 abbrev pub puts_child : Table → ℕ → State → ℕ → Val → State
@@ -141,7 +142,7 @@ becomes state kept anew = record state {
 abbrev pub option_kept : Table → ℕ → State → Option Tree
 option_kept table s state = kept_option state.mode (def_of table (content_shape (def_of table s))) (cursor_tree state)
 
--- what begin_ok, begin_err and begin_smart_ptr keep of the cursor's place
+-- what begin_ok, begin_err, begin_smart_ptr and the calls that begin a conversion keep of the cursor's place
 abbrev pub content_kept : State → Tracker → Option Tree
 content_kept state tracker = kept_in state.mode tracker (cursor_tree state)
 
@@ -173,6 +174,63 @@ begin_smart_ptr table s state =
     unless_refused (at_shape s (pointer_refusal table (def_of table s)))
     (begins_pointer table s state (points_to_slice table (def_of table s)))
 
+-- Conversions
+
+-- what is kept of the cursor's place where it is to be begun as this conversion
+abbrev pub source_kept : State → Conversion → Option Tree
+source_kept state conversion = content_kept state (as_content (ContentKind.Source conversion))
+
+-- the source of the conversion is entered
+abbrev pub enters_source : Table → ℕ → State → Conversion → State
+enters_source table s state conversion =
+    enters table s state (Way.Content (as_content (ContentKind.Source conversion)) (source_kept state conversion))
+
+-- what begin_inner keeps of an option that it enters: in strict mode it starts anew
+abbrev pub inner_option_kept : Table → ℕ → State → Mode → Option Tree
+inner_option_kept table s state strict = None
+inner_option_kept table s state (deferred start) = option_kept table s state
+
+-- an option is begun as an option, and any other place as the conversion
+abbrev pub begins_converted : Table → ℕ → State → (of_option : Bool) → Conversion → State
+begins_converted table s state of_option conversion =
+    if of_option then enters table s state (Way.Content (as_content ContentKind.Some) (inner_option_kept table s state state.mode))
+    else enters_source table s state conversion
+
+-- without a hook that converts from the source the place starts anew, and its field or element 0 is entered
+abbrev pub begins_inner : Table → ℕ → State → (source : Option ShapeId) → (convert : Option HookId) → Result State ReflectErrorKind
+begins_inner table s state None convert = Err (operation_failed s Operation.NoInner)
+begins_inner table s state (Some source) None =
+    unless_refused (at_shape s (field_refusal (def_of table s) (fresh (def_of table s)) 0)) (enters table s state (Way.Anew 0))
+begins_inner table s state (Some source) (Some hook) =
+    Ok (begins_converted table s state (is_option (def_of table s)) (by_wrapper hook source))
+
+-- begin_inner: where the shape is built from another, or wraps one
+abbrev pub begin_inner : Table → ℕ → State → Result State ReflectErrorKind
+begin_inner table s state = begins_inner table s state (source_in (slice_get table s)) (convert_in (slice_get table s))
+
+abbrev pub begins_by_proxy : Table → ℕ → State → Result ProxyDef Operation → Result State ReflectErrorKind
+begins_by_proxy table s state (Ok proxy) = Ok (enters_source table s state (by_proxy proxy))
+begins_by_proxy table s state (Err operation) = Err (operation_failed s operation)
+
+-- begin_custom_deserialization, with a format or without: at a field that has a proxy for it
+abbrev pub begin_custom_deserialization : Table → (root s : ℕ) → State → (format : Option (List ℕ)) → Result State ReflectErrorKind
+begin_custom_deserialization table root s state format =
+    begins_by_proxy table s state (proxy_of_field format (cursor_field table root state))
+
+abbrev pub begins_if_proxied : Table → ℕ → State → Option ProxyDef → State
+begins_if_proxied table s state (Some proxy) = enters_source table s state (by_proxy proxy)
+begins_if_proxied table s state None = record state { calls = one_more_call state.calls }
+
+-- begin_custom_deserialization_from_shape, with a format or without: where the shape has a proxy for it, and the place is no field that
+-- has a proxy for any format; elsewhere nothing is changed
+abbrev pub begin_custom_deserialization_from_shape : Table → (root s : ℕ) → State → (format : Option (List ℕ)) → State
+begin_custom_deserialization_from_shape table root s state format =
+    begins_if_proxied table s state (proxy_at table s (cursor_field table root state) format)
+
+-- whether it begins a conversion
+abbrev pub begins_from_shape : Table → (root : ℕ) → State → (format : Option (List ℕ)) → Bool
+begins_from_shape table root state format = is_some (proxy_at table (cursor_shape table root state) (cursor_field table root state) format)
+
 -- Lists, arrays and slices
 
 -- the cursor's place is begun as its definition tells, a whole list with its items; what is begun stays as it is
@@ -192,9 +250,17 @@ abbrev pub init_list : Table → ℕ → State → Result State ReflectErrorKind
 init_list table s state =
     unless_refused (init_list_refusal s (def_of table s) (cursor_tree state)) (begins_list table s state (is_dynamic (def_of table s)))
 
+-- an array is begun; a place begun as a conversion starts anew first
+abbrev pub begins_array : Table → ℕ → State → State
+begins_array table s state = record state {
+  tree = change_at state.cursor (λ old. opened (def_of table s) (without_source (def_of table s) old)) state.tree;
+  calls = one_more_call state.calls;
+}
+
 -- init_array: the elements of an entered array are holes
 abbrev pub init_array : Table → ℕ → State → Result State ReflectErrorKind
-init_array table s state = unless_refused (at_shape s (init_array_refusal (def_of table s) (cursor_tree state))) (opens table s state)
+init_array table s state =
+    unless_refused (at_shape s (init_array_refusal (def_of table s) (cursor_tree state))) (begins_array table s state)
 
 -- begin_list_item enters a new item, behind the others
 abbrev pub begin_list_item : Table → ℕ → State → Result State ReflectErrorKind
@@ -285,6 +351,11 @@ or_missing s None = missing_value s
 abbrev pub cause : Meanings → Table → ℕ → Tree → ReflectErrorKind
 cause hooks table s t = or_missing s (lack hooks table s t)
 
+-- the place at the cursor becomes whole with what it makes
+abbrev pub puts_made : Meanings → Table → ℕ → State → Option Val → Result State ReflectErrorKind
+puts_made hooks table s state (Some v) = Ok (puts state v)
+puts_made hooks table s state None = Err (cause hooks table s (cursor_tree state))
+
 -- the value takes the place of all that stood at the cursor, and the cursor goes up
 abbrev pub puts_and_leaves : State → Val → State
 puts_and_leaves state v = record (puts state v) { cursor = up state.cursor }
@@ -335,25 +406,36 @@ abbrev pub leaves_deferred : Meanings → Table → ℕ → State → (of_dynami
 leaves_deferred hooks table s state true = part_ended hooks table s state (complete deferred_column hooks table s (cursor_tree state))
 leaves_deferred hooks table s state false = Ok (leaves state)
 
--- In strict mode the place is completed and becomes whole; in deferred mode it is left as it is, where it lies deeper than
--- the place at which that began. An item of a set, and a part of a dynamic value, is completed in either.
-abbrev pub end_in : Meanings → Table → ℕ → State → Mode → Result State ReflectErrorKind
-end_in hooks table s state strict =
+-- the place at the cursor, below the root, is the source of a conversion
+abbrev pub is_source_place : State → Bool
+is_source_place state = is_begun_conversion (tree_at (up state.cursor) state.tree)
+
+-- the state with its cursor at the place above
+abbrev pub above : State → State
+above state = record state { cursor = up state.cursor }
+
+-- a source ends as the conversion above completes with it: that becomes whole, and the cursor goes up to it
+abbrev pub ends_source : Meanings → Table → (root : ℕ) → State → Result State ReflectErrorKind
+ends_source hooks table root state =
+    puts_made hooks table (cursor_shape table root (above state)) (above state)
+    (complete strict_column hooks table (cursor_shape table root (above state)) (cursor_tree (above state)))
+
+-- In strict mode the place is completed and becomes whole, and a source is converted; in deferred mode it is left as it is, where it lies
+-- deeper than the place at which that began. An item of a set, and a part of a dynamic value, is completed in either.
+abbrev pub end_in : Meanings → Table → (root s : ℕ) → State → Mode → Result State ReflectErrorKind
+end_in hooks table root s state strict =
     if is_set_item state then ends_item strict_column hooks table s state
+    else if is_source_place state then ends_source hooks table root state
     else ended hooks table s state (complete strict_column hooks table s (cursor_tree state))
-end_in hooks table s state (deferred start) =
+end_in hooks table root s state (deferred start) =
     if nat_lt start (length state.cursor) then
     (if is_set_item state then ends_item deferred_column hooks table s state
     else leaves_deferred hooks table s state (is_dynamic_part state))
     else Err (violates Invariant.EndAtStart)
 
-abbrev pub leaves_place : Meanings → Table → ℕ → State → Result State ReflectErrorKind
-leaves_place hooks table s state =
-    if is_root state.cursor then Err (violates Invariant.EndAtRoot) else end_in hooks table s state state.mode
-
-abbrev pub puts_made : Meanings → Table → ℕ → State → Option Val → Result State ReflectErrorKind
-puts_made hooks table s state (Some v) = Ok (puts state v)
-puts_made hooks table s state None = Err (cause hooks table s (cursor_tree state))
+abbrev pub leaves_place : Meanings → Table → (root s : ℕ) → State → Result State ReflectErrorKind
+leaves_place hooks table root s state =
+    if is_root state.cursor then Err (violates Invariant.EndAtRoot) else end_in hooks table root s state state.mode
 
 -- the pointer to a slice at the cursor takes no more items
 abbrev pub closes : State → State
@@ -365,10 +447,10 @@ closes_slice hooks table s state strict = puts_made hooks table s state (complet
 closes_slice hooks table s state (deferred start) = Ok (closes state)
 
 -- end: at an open pointer to a slice, be it the root, that is closed; any other place is left, if it isn't the root
-abbrev pub end : Meanings → Table → ℕ → State → Result State ReflectErrorKind
-end hooks table s state =
+abbrev pub end : Meanings → Table → (root s : ℕ) → State → Result State ReflectErrorKind
+end hooks table root s state =
     if is_open_slice (cursor_tree state) then closes_slice hooks table s state state.mode
-    else leaves_place hooks table s state
+    else leaves_place hooks table root s state
 
 -- Deferred mode
 
@@ -417,10 +499,17 @@ step_at hooks table root s state Call.BeginSome = begin_some table s state
 step_at hooks table root s state Call.BeginOk = begin_side table s state (as_content ContentKind.Ok)
 step_at hooks table root s state Call.BeginErr = begin_side table s state (as_content ContentKind.Err)
 step_at hooks table root s state Call.BeginSmartPtr = begin_smart_ptr table s state
+step_at hooks table root s state Call.BeginInner = begin_inner table s state
+step_at hooks table root s state Call.BeginCustomDeserialization = begin_custom_deserialization table root s state None
+step_at hooks table root s state (Call.BeginCustomDeserializationWithFormat format) = begin_custom_deserialization table root s state format
+step_at hooks table root s state Call.BeginCustomDeserializationFromShape =
+    Ok (begin_custom_deserialization_from_shape table root s state None)
+step_at hooks table root s state (Call.BeginCustomDeserializationFromShapeWithFormat format) =
+    Ok (begin_custom_deserialization_from_shape table root s state format)
 step_at hooks table root s state (Call.SelectNthVariant i) = select_nth_variant table s state i
 step_at hooks table root s state (Call.SelectVariantNamed name) = select_variant_named table s state name
 step_at hooks table root s state (Call.SelectVariant discriminant) = select_variant table s state discriminant
-step_at hooks table root s state Call.End = end hooks table s state
+step_at hooks table root s state Call.End = end hooks table root s state
 step_at hooks table root s state Call.BeginDeferred = begin_deferred state
 step_at hooks table root s state Call.FinishDeferred = finish_deferred hooks table root state
 

@@ -1,7 +1,7 @@
 -- What is being built, as one tree, and the state of a builder.
 use Rattle.std.specs.Prelude.{◌+◌, ◌∷◌, if◌then◌else◌}
-use Rattle.fr_model.specs.Common.{ℕ, zero, suc, min, List, [], Option, Some, None, Def, Val, Vals, product, no_vals, first, occurs, is_empty_struct, Table, def_of, field_in}
-use Rattle.fr_model.specs.Trackers.{Tracker, as_fields, as_elements, as_content, ContentKind, as_items, ItemsKind, as_entries, EntriesKind, variant_of}
+use Rattle.fr_model.specs.Common.{ℕ, zero, suc, min, List, [], Bool, false, Option, Some, None, Def, Field, Val, Vals, product, no_vals, first, occurs, is_empty_struct, Table, def_of, field_in}
+use Rattle.fr_model.specs.Trackers.{Tracker, as_fields, as_elements, as_content, ContentKind, as_items, ItemsKind, as_entries, EntriesKind, variant_of, is_conversion}
 use Rattle.fr_model.specs.Dynamics.{object_keys}
 use Rattle.fr_model.specs.Places.{Place, child_shape, shape_of_field, content_shape, ok_shape, err_shape, pointee_shape, item_shape, is_key, entry_shape, base_in}
 
@@ -102,6 +102,7 @@ child_as table s (as_content ContentKind.Some) i = content_shape (def_of table s
 child_as table s (as_content ContentKind.Ok) i = ok_shape (def_of table s)
 child_as table s (as_content ContentKind.Err) i = err_shape (def_of table s)
 child_as table s (as_content ContentKind.Pointer) i = pointee_shape (def_of table s)
+child_as table s (as_content (ContentKind.Source conversion)) i = conversion.source
 child_as table s (as_items ItemsKind.List) i = item_shape (def_of table s)
 child_as table s (as_items ItemsKind.Slice) i = item_shape (def_of table (pointee_shape (def_of table s)))
 child_as table s (as_items ItemsKind.ClosedSlice) i = item_shape (def_of table (pointee_shape (def_of table s)))
@@ -127,6 +128,29 @@ shape_below table s i _ = s
 abbrev pub shape_in : Table → ℕ → Place → Tree → ℕ
 shape_in table s [] t = s
 shape_in table s (i ∷ place) t = shape_in table (shape_below table s i t) place (child_tree i t)
+
+-- the field that child i is, of a place of this definition that is begun so
+abbrev pub field_as : Def → Tracker → ℕ → Option Field
+field_as def (as_fields selected) i = field_in def selected i
+field_as def as_elements i = None
+field_as def (as_content kind) i = None
+field_as def (as_items kind) i = None
+field_as def (as_entries kind) i = None
+
+abbrev pub field_below : Def → ℕ → Tree → Option Field
+field_below def i (begun tracker ts) = field_as def tracker i
+field_below def i _ = None
+
+-- the field that the place is that lies so in a tree whose top has shape s and is this field, if they are one
+abbrev pub field_along : Table → ℕ → Option Field → Place → Tree → Option Field
+field_along table s field [] t = field
+field_along table s field (i ∷ place) t =
+    field_along table (shape_below table s i t) (field_below (def_of table s) i t) place (child_tree i t)
+
+-- what is begun here is a conversion
+abbrev pub is_begun_conversion : Tree → Bool
+is_begun_conversion (begun tracker children) = is_conversion tracker
+is_begun_conversion _ = false
 
 -- as many trees as values, each holding its value
 abbrev pub wholes : Vals → Trees
@@ -188,6 +212,10 @@ cursor_shape table root state = shape_in table root state.cursor state.tree
 abbrev pub cursor_tree : State → Tree
 cursor_tree state = tree_at state.cursor state.tree
 
+-- the field that the cursor's place is, if the last step leads to one
+abbrev pub cursor_field : Table → (root : ℕ) → State → Option Field
+cursor_field table root state = field_along table root None state.cursor state.tree
+
 abbrev pub one_more_call : ℕ → ℕ
 one_more_call calls = min (calls + 1) most_calls
 
@@ -195,6 +223,10 @@ one_more_call calls = min (calls + 1) most_calls
 -- nothing to put in; at any other nothing was put in yet.
 abbrev pub fresh : Def → Tree
 fresh def = if is_empty_struct def then whole (product no_vals) else entered
+
+-- what stands at a place of this definition, which starts anew where it is begun as a conversion
+abbrev pub without_source : Def → Tree → Tree
+without_source def tree = if is_begun_conversion tree then fresh def else tree
 
 -- a builder of which nothing was asked yet, for a root of shape s
 abbrev pub initial : Table → ℕ → State

@@ -1,12 +1,13 @@
 -- The states that a builder can be in.
 use Rattle.std.specs.Prelude.{◌≡◌, ◌+◌, ◌<◌, ◌≤◌, ◌∷◌}
-use Rattle.fr_model.specs.Common.{ℕ, zero, suc, Bool, true, false, List, [], length, slice_get, Option, Some, None, Def, ShapeId, VariantDef, Table, def_of, fits, is_empty_struct, none_twice, keys, Vals, Entries, no_vals, first}
+use Rattle.fr_model.specs.Common.{ℕ, zero, suc, Bool, true, false, List, [], length, slice_get, Option, Some, None, Contains, Def, Field, ShapeId, VariantDef, Table, IsIn, def_of, fits, is_empty_struct, none_twice, keys, Vals, Entries, no_vals, first}
 use Rattle.fr_model.specs.Collections.{without_nth}
 use Rattle.fr_model.specs.Contents.{pointer_refusal, points_to_slice}
+use Rattle.fr_model.specs.Conversions.{conversions_at}
 use Rattle.fr_model.specs.Dynamics.{keys_apart}
 use Rattle.fr_model.specs.Places.{Place, array_limit, is_key, in_turn, count_entries}
-use Rattle.fr_model.specs.Trackers.{Tracker, as_fields, as_elements, as_content, ContentKind, as_items, ItemsKind, as_entries, EntriesKind}
-use Rattle.fr_model.specs.Tree.{Tree, hole, entered, whole, begun, Trees, no_trees, branch, shapes_as, count_trees, wholes, tree_occurs, Mode, strict, deferred, State}
+use Rattle.fr_model.specs.Trackers.{Tracker, as_fields, as_elements, as_content, ContentKind, as_items, ItemsKind, as_entries, EntriesKind, is_conversion}
+use Rattle.fr_model.specs.Tree.{Tree, hole, entered, whole, begun, Trees, no_trees, branch, child_as, field_as, shapes_as, count_trees, wholes, tree_occurs, Mode, strict, deferred, State}
 use Rattle.fr_model.specs.Variants.{selection_refusal}
 
 -- Each word says of a definition that a place of it has so many children, begun in one way.
@@ -29,6 +30,7 @@ PointsTo (Some pointee) count = count ≡ 1
 PointsTo None count = ⊥
 
 abbrev pub HasContent : Def → ContentKind → ℕ → Type 0
+HasContent def (ContentKind.Source conversion) count = count ≡ 1
 HasContent (Def.Option t) ContentKind.Some count = count ≡ 1
 HasContent (Def.Result t e) ContentKind.Ok count = count ≡ 1
 HasContent (Def.Result t e) ContentKind.Err count = count ≡ 1
@@ -50,7 +52,7 @@ HasEntries Def.Dynamic (EntriesKind.Object keys) count = count ≡ length keys
 HasEntries _ kind count = ⊥
 
 -- a place of this definition has all its children, begun so: a struct or a variant one for each field, an array one for each
--- element, an option, a result or a pointer one, a map two for each entry, a dynamic object one for each key; a list, a set, a pointer to
+-- element, an option, a result or a pointer one, a conversion one whatever it converts to, a map two for each entry, a dynamic object one for each key; a list, a set, a pointer to
 -- a slice and a dynamic array as many as there are
 abbrev pub IsFullAs : Def → Tracker → ℕ → Type 0
 IsFullAs def (as_fields selected) count = HasFields def selected count
@@ -99,7 +101,7 @@ abbrev pub MayPoint : Table → ℕ → (to_slice : Bool) → Type 0
 MayPoint table s to_slice = (pointer_refusal table (def_of table s) ≡ None) × (points_to_slice table (def_of table s) ≡ to_slice)
 
 -- A place of shape s is rightly begun so: a variant only where it may be selected, a pointer only where it may be begun, and an
--- option, a result or a pointer with its content. What a list, a slice, a set or a dynamic value has is there, and so is what a map has
+-- option, a result or a pointer with its content; a conversion with its source, and to a shape of the table. What a list, a slice, a set or a dynamic value has is there, and so is what a map has
 -- but perhaps its last value. An object has no key twice.
 abbrev pub IsBegunRightly : Table → ℕ → Tracker → Trees → Type 0
 IsBegunRightly table s (as_fields None) children = Unit {0}
@@ -109,6 +111,7 @@ IsBegunRightly table s (as_content ContentKind.Some) children = IsContent childr
 IsBegunRightly table s (as_content ContentKind.Ok) children = IsContent children
 IsBegunRightly table s (as_content ContentKind.Err) children = IsContent children
 IsBegunRightly table s (as_content ContentKind.Pointer) children = IsContent children × MayPoint table s false
+IsBegunRightly table s (as_content (ContentKind.Source conversion)) children = IsContent children × IsIn table s
 IsBegunRightly table s (as_items ItemsKind.List) children = AreTouched children
 IsBegunRightly table s (as_items ItemsKind.Slice) children = AreTouched children × MayPoint table s true
 IsBegunRightly table s (as_items ItemsKind.ClosedSlice) children = AreTouched children × MayPoint table s true
@@ -148,12 +151,17 @@ abbrev pub AllOff : Mode → Trees → Type 0
 AllOff mode no_trees = Unit {0}
 AllOff mode (branch t ts) = IsOff mode t × AllOff mode ts
 
--- at the cursor stands no hole, and of what is begun there each child lies off the way
+-- in strict mode the builder doesn't work at a conversion: this becomes whole as its source ends
+abbrev pub MayWorkAt : Mode → Tracker → Type 0
+MayWorkAt (deferred start) tracker = Unit {0}
+MayWorkAt strict tracker = is_conversion tracker ≡ false
+
+-- at the cursor stands no hole, in strict mode no conversion, and of what is begun there each child lies off the way
 abbrev pub AtCursor : Mode → Tree → Type 0
 AtCursor mode hole = ⊥
 AtCursor mode entered = Unit {0}
 AtCursor mode (whole v) = Unit {0}
-AtCursor mode (begun tracker ts) = AllOff mode ts
+AtCursor mode (begun tracker ts) = MayWorkAt mode tracker × AllOff mode ts
 
 -- the children of a place but one lie off the way, and of that one something holds
 abbrev pub OffBut : Mode → ℕ → (Tree → Type 0) → Trees → Type 0
@@ -161,8 +169,8 @@ OffBut mode i Below no_trees = ⊥
 OffBut mode zero Below (branch t ts) = Below t × AllOff mode ts
 OffBut mode (suc i) Below (branch t ts) = IsOff mode t × OffBut mode i Below ts
 
--- The cursor leads to a place that is no hole, and every place above it is begun; in strict mode every other place is whole or a
--- hole.
+-- The cursor leads to a place that is no hole, and every place above it is begun; in strict mode that place is no conversion, and every
+-- other place is whole or a hole.
 abbrev pub Leads : Mode → Place → Tree → Type 0
 Leads mode [] t = AtCursor mode t
 Leads mode (i ∷ place) (begun tracker ts) = OffBut mode i (λ child. Leads mode place child) ts
@@ -259,12 +267,38 @@ RestsAround (i ∷ place) (begun tracker ts) =
     AreDone tracker (without_nth i ts) × RestBut i (λ child. RestsAround place child) ts × IsBehindBase tracker i
 RestsAround cursor _ = Unit {0}
 
+-- a place of shape s, which is this field, if it is one, may be begun so: a conversion has the hook and the source of its shape as a
+-- wrapper, or of a proxy of its shape or of the field
+abbrev pub ConversionSuits : Table → ℕ → Option Field → Tracker → Type 0
+ConversionSuits table s field (as_content (ContentKind.Source conversion)) = Contains (conversions_at table s field) conversion
+ConversionSuits table s field (as_content ContentKind.Some) = Unit {0}
+ConversionSuits table s field (as_content ContentKind.Ok) = Unit {0}
+ConversionSuits table s field (as_content ContentKind.Err) = Unit {0}
+ConversionSuits table s field (as_content ContentKind.Pointer) = Unit {0}
+ConversionSuits table s field (as_fields selected) = Unit {0}
+ConversionSuits table s field as_elements = Unit {0}
+ConversionSuits table s field (as_items kind) = Unit {0}
+ConversionSuits table s field (as_entries kind) = Unit {0}
+
+-- in the tree of such a place each conversion suits its place so
+abbrev mutual
+  pub ConversionsSuit : Table → ℕ → Option Field → Tree → Type 0
+  ConversionsSuit table s field (begun tracker ts) = ConversionSuits table s field tracker × AllConversionsSuit table s tracker 0 ts
+  ConversionsSuit table s field _ = Unit {0}
+
+  -- the children from number i on, of a place of shape s that is begun so
+  pub AllConversionsSuit : Table → ℕ → Tracker → ℕ → Trees → Type 0
+  AllConversionsSuit table s tracker i no_trees = Unit {0}
+  AllConversionsSuit table s tracker i (branch t ts) =
+      ConversionsSuit table (child_as table s tracker i) (field_as (def_of table s) tracker i) t × AllConversionsSuit table s tracker (suc i) ts
+
 -- no token stands twice in a tree
 abbrev pub AreDistinct : Tree → Type 0
 AreDistinct tree = (t : ℕ) → tree_occurs tree t ≤ 1
 
--- a well state is in order, rests around the cursor, and holds no token twice
+-- a well state is in order, rests around the cursor, has only conversions that suit their places, and holds no token twice
 pub record IsWell (table : Table) (root : ℕ) (state : State) : Type 0 where
   pub in_order : IsInOrder table root state
   pub rests : RestsAround state.cursor state.tree
+  pub conversions : ConversionsSuit table root None state.tree
   pub distinct : AreDistinct state.tree

@@ -13,9 +13,10 @@ ghost use Rattle.fr_model.specs.FinishLaws.{ClosingKeepsCompletion, ClosingKeeps
 ghost use Rattle.fr_model.specs.DueNotes.{NotesLieApart, NotesWhatIsDue, StuckOrNoted};
 ghost use Rattle.fr_model.specs.GatheringLaws.{DistinctEntriesStay, DistinctItemsStay, NoEntryIsLeftOut, NoItemIsLeftOut, SameIsThere};
 ghost use Rattle.fr_model.specs.HookExamples.{InvariantExamples, ParsingExamples};
-ghost use Rattle.fr_model.specs.Laws.{BuildKeepsTokens, CompletesOrFails, CompletesOrLacks, CompletingFits, CompletingKeepsTokens, StartIsWell, StepKeepsDistinct, StepKeepsOrder, StepKeepsRest, StepKeepsTokens};
+ghost use Rattle.fr_model.specs.Laws.{BuildKeepsTokens, CompletesOrFails, CompletesOrLacks, CompletingFits, CompletingKeepsTokens, StartIsWell, StepKeepsConversions, StepKeepsDistinct, StepKeepsOrder, StepKeepsRest, StepKeepsTokens};
 ghost use Rattle.fr_model.specs.ListExamples.{ArrayExamples, ListExamples, SliceExamples};
 ghost use Rattle.fr_model.specs.PathLaws.{ChangingKeepsThePath, EnteringAddsAStep, EnteringAddsItsStep, FinishingKeepsThePath, KeptIsAdmitted, LeavingDropsAStep, PathIsAsDeep};
+ghost use Rattle.fr_model.specs.SourceExamples.{SourceExamples};
 ghost use Rattle.fr_model.specs.WellExamples.{WellExamples};
 
 /// For every field script of fitting values over a table that is plain for the root, whatever the
@@ -36,8 +37,9 @@ pub fn law_covering()
     ensures ways { WaysAgree }
 {}
 
-/// Where a place off the way makes a value and becomes whole with it, the tree still makes what it
-/// made, what fails in it still fails, and the end of deferred mode is what it was.
+/// Where a place makes a value and becomes whole with it, the tree still makes what it made and what
+/// fails in it still fails; and the end of deferred mode is what it was, where the place lies off the
+/// way, or the builder works there and it is a conversion.
 #[tactic(auto, using(crate::proofs::Closing::closing_keeps_completion, crate::proofs::Closing::closing_keeps_failures, crate::proofs::Closing::closing_keeps_finish, crate::proofs::Closing::closing_keeps_failures_off))]
 pub fn law_closing()
     ensures completion { ClosingKeepsCompletion }
@@ -47,8 +49,8 @@ pub fn law_closing()
 {}
 
 /// In strict mode a place completes unless it lacks something, and at the end of deferred mode
-/// unless it or a place beneath it fails. Over a checked table, what completes of a tree that suits
-/// its shape fits that shape and keeps its tokens.
+/// unless it or a place beneath it fails. Over a checked table and with lawful hooks, what completes
+/// of a tree that suits its shape fits that shape and keeps its tokens.
 #[tactic(auto, using(crate::proofs::Completing::completes_or_lacks, crate::proofs::Failing::completes_or_fails))]
 pub fn law_completes()
     ensures or_lacks { CompletesOrLacks }
@@ -87,16 +89,18 @@ pub fn law_examples()
     ensures well { WellExamples }
     ensures parsing { ParsingExamples }
     ensures invariants { InvariantExamples }
+    ensures sources { SourceExamples }
 {}
 
-/// What fails at the end of deferred mode is half done and lies off the way, and a place that lacks
-/// something by itself fails, its children being whole or holes. Each failure is that of a place
-/// off the way to which its path leads, which lacks its kind, and has only children that complete
-/// or are holes; of a tree that lies off the way as a whole, each is that of a place in it. That
-/// end is refused exactly where something fails, or the place at which the builder works lacks
-/// something. Once every place off the way is whole or a hole, only that place is left to be
-/// finished.
-#[tactic(auto, using(crate::proofs::FailingPlaces::each_failure_has_its_place, crate::proofs::FailingPlaces::each_failure_of_a_tree_has_its_place, crate::proofs::FailingPlaces::finish_of_done, crate::proofs::FailingPlaces::nothing_fails_of_done, crate::proofs::Finishes::finishes_or_refuses))]
+/// Places are completed one by one at the end of deferred mode, each at its turn: a conversion at
+/// that of its source, any other place at its own. What fails is half done and lies off the way, or
+/// is a conversion at which the builder works; and such a place that lacks something by itself, its
+/// children being whole or holes, fails, at the path of its turn. Each failure is that of such a
+/// place, which lacks its kind and has only children that complete or are holes; of a tree that lies
+/// off the way as a whole, each is that of a place in it. That end is refused exactly where something
+/// fails, or the place at which the builder works lacks something. Once every place off the way is
+/// whole or a hole, only that place is left to be finished.
+#[tactic(auto, using(crate::proofs::FailingPlaces::each_failure_of_a_tree_has_its_place, crate::proofs::FailingPlaces::finish_of_done, crate::proofs::FailingPlaces::nothing_fails_of_done, crate::proofs::Finishes::finishes_or_refuses))]
 pub fn law_failing()
     ensures lie { FailuresLieThere }
     ensures lacking { LackingFails }
@@ -132,7 +136,7 @@ pub fn law_finishing()
 /// The path of the place at which a builder works depends only on the places above it, and has a
 /// step for each place on the way: entering a child adds a step, which each way on that is admitted
 /// tells, going up takes the last one away, and the end of deferred mode keeps the path. What the
-/// commands keep of an option, of a side or of what a pointer points to is admitted so.
+/// commands keep of an option, of a side, of what a pointer points to or of a source is admitted so.
 #[tactic(auto, using(crate::proofs::Paths::enter_way_adds, crate::proofs::Paths::as_deep, crate::proofs::Paths::enter_adds, crate::proofs::Finishes::finish_keeps_path))]
 pub fn law_paths()
     ensures change { ChangingKeepsThePath }
@@ -146,8 +150,7 @@ pub fn law_paths()
 
 /// Over a checked table, in a state that is in order: the tokens that the builder held and a
 /// command brought are those that it then holds (none after a refusal) and those that the command
-/// dropped, whatever the hooks mean, if they are lawful; and so it is of `build`, whatever they
-/// mean.
+/// dropped, whatever the hooks mean, if they are lawful; and so it is of `build`.
 #[tactic(auto, using(crate::proofs::Moves::step_keeps_tokens, crate::proofs::Moves::build_keeps_tokens))]
 pub fn law_removed()
     ensures step { StepKeepsTokens }
@@ -156,12 +159,13 @@ pub fn law_removed()
 
 /// A builder begins in a well state, whatever its table and its root. Over a checked table and with
 /// lawful hooks an admitted command keeps its state in order, if the command is fitting, and well,
-/// if it is fresh besides: what lies around the cursor rests, whatever the hooks mean, and no token
-/// stands twice.
-#[tactic(auto, using(crate::proofs::Moves::step_keeps_rest, crate::proofs::Moves::step_keeps_distinct, crate::proofs::Moves::start_is_well))]
+/// if it is fresh besides: what lies around the cursor rests, whatever the hooks mean, each conversion
+/// suits its place, and no token stands twice.
+#[tactic(auto, using(crate::proofs::Moves::step_keeps_rest, crate::proofs::Moves::step_keeps_conversions, crate::proofs::Moves::step_keeps_distinct, crate::proofs::Moves::start_is_well))]
 pub fn law_well()
     ensures start { StartIsWell }
     ensures in_order { StepKeepsOrder }
     ensures rests { StepKeepsRest }
+    ensures conversions { StepKeepsConversions }
     ensures distinct { StepKeepsDistinct }
 {}

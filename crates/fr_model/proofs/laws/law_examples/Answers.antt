@@ -16,6 +16,7 @@ returns-clause-well c = record {
       (tt, (tt, (tt, (tt, tt)))),
       omega arith,
     );
+    conversions = search rules;
     distinct = λ t. omega arith;
   };
   repeated_behind_the_base = record {
@@ -30,6 +31,7 @@ returns-clause-well c = record {
       },
       (tt, (tt, (tt, (tt, tt)))),
     );
+    conversions = search rules;
     distinct = λ t. omega arith;
   };
   repeated_in_the_base = λ well. base_apart (nat 1) (nat 2) (nat 1) (nat 3) no_trees well.rests.0 refl;

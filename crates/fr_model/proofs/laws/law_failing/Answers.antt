@@ -1,4 +1,4 @@
-use Rattle.fr_model.proofs.FailingPlaces.{failures_lie_there, lacking_fails}
+use Rattle.fr_model.proofs.FailingPlaces.{each_failure_has_its_place, failures_lie_there, lacking_fails}
 use Rattle.fr_model.proofs.FirstFailure.{first_is}
 use Rattle.fr_model.proofs.laws.law_failing.Goals as goal
 
@@ -10,3 +10,6 @@ returns-clause-lacking c = lacking_fails
 
 pub returns-clause-first : goal.returns-clause-first
 returns-clause-first c = first_is
+
+pub returns-clause-places : goal.returns-clause-places
+returns-clause-places c = each_failure_has_its_place
