@@ -2,6 +2,8 @@ pub mod Agreement
 pub mod Basis
 pub mod Becoming
 pub mod Beneath
+pub mod Beside
+pub mod BesideStep
 pub mod Children
 pub mod Closing
 pub mod Collections
@@ -14,6 +16,9 @@ pub mod Cursor
 pub mod Defaulting
 pub mod Dynamics
 pub mod Ending
+pub mod EnteringAgain
+pub mod Entries
+pub mod Excursions
 pub mod Failing
 pub mod FailingPlaces
 pub mod FinishAgreement
@@ -37,6 +42,8 @@ pub mod Rows
 pub mod Runs
 pub mod Steps
 pub mod Structs
+pub mod SwapScripts
+pub mod Swaps
 pub mod Templates
 pub mod Tokens
 pub mod Wholes

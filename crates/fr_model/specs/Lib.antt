@@ -46,6 +46,8 @@ pub mod Settled
 pub mod StateCode
 pub mod SourceExamples
 pub mod Step
+pub mod SwapExamples
+pub mod SwapLaws
 pub mod Trackers
 pub mod Tree
 pub mod Variants

@@ -17,6 +17,8 @@ ghost use Rattle.fr_model.specs.Laws.{BuildKeepsTokens, CompletesOrFails, Comple
 ghost use Rattle.fr_model.specs.ListExamples.{ArrayExamples, ListExamples, SliceExamples};
 ghost use Rattle.fr_model.specs.PathLaws.{ChangingKeepsThePath, EnteringAddsAStep, EnteringAddsItsStep, FinishingKeepsThePath, KeptIsAdmitted, LeavingDropsAStep, PathIsAsDeep};
 ghost use Rattle.fr_model.specs.SourceExamples.{SourceExamples};
+ghost use Rattle.fr_model.specs.SwapExamples.{SwapExamples};
+ghost use Rattle.fr_model.specs.SwapLaws.{EnteringAgainKeeps, ExcursionsSwap, SwappedScriptsAgree, TriedScriptsAgree};
 ghost use Rattle.fr_model.specs.WellExamples.{WellExamples};
 
 /// For every field script of fitting values over a table that is plain for the root, whatever the
@@ -90,6 +92,7 @@ pub fn law_examples()
     ensures parsing { ParsingExamples }
     ensures invariants { InvariantExamples }
     ensures sources { SourceExamples }
+    ensures swaps { SwapExamples }
 {}
 
 /// Places are completed one by one at the end of deferred mode, each at its turn: a conversion at
@@ -155,6 +158,18 @@ pub fn law_paths()
 pub fn law_removed()
     ensures step { StepKeepsTokens }
     ensures build { BuildKeepsTokens }
+{}
+
+/// In a deferred state whose cursor is at a struct, an array or a selected variant: an excursion into
+/// one child of that place and one into another may be swapped, with the same state after both and
+/// the same tokens dropped, whatever the hooks mean. So scripts in which they are swapped give the
+/// same value or the same refusal; and where commands of them are refused, still the same value, or
+/// both are refused. A child that is left may be entered again, which comes to the same.
+pub fn law_swap()
+    ensures swaps { ExcursionsSwap }
+    ensures scripts { SwappedScriptsAgree }
+    ensures tried { TriedScriptsAgree }
+    ensures again { EnteringAgainKeeps }
 {}
 
 /// A builder begins in a well state, whatever its table and its root. Over a checked table and with

@@ -40,3 +40,16 @@ returns-clause-well c = record {
   at_a_value_of_the_base = λ well. absurd (omega (arith, well.rests.2));
   too_few = λ well. absurd (omega (arith, base_within 2 (branch (whole (nat 1)) (branch (whole (nat 2)) no_trees)) well.rests.0));
 }
+
+pub returns-clause-swaps : goal.returns-clause-swaps
+returns-clause-swaps c = record {
+  excursion = search rules;
+  no_longer = λ last exc. exc.1.2.2.0 refl;
+  no_shorter = λ last exc. let never = exc.1.2.0 in cc;
+  in_order = refl;
+  swapped = refl;
+  of_whole = refl;
+  same_field = refl;
+  same_field_swapped = refl;
+  again = refl;
+}
