@@ -24,19 +24,19 @@ pub data Enterable (table : Table) (s i : ℕ) (t : Tree) : Type 0 where
   a_value : (key item : ShapeId) → def_of table s ≡ Def.Map key item → (base : ℕ) (children : Trees) → t ≡ begun (as_entries (EntriesKind.Map base)) children
       → suc i ≡ count_trees children → ends_in_hole children ≡ true → Enterable table s i t
 
-begun_fields : (struct : StructDef) (tracker : Tracker) (n : ℕ) → is_conversion tracker ≡ false → IsFullAs (Def.Struct struct) tracker n
+pub begun_fields : (struct : StructDef) (tracker : Tracker) (n : ℕ) → is_conversion tracker ≡ false → IsFullAs (Def.Struct struct) tracker n
     → n ≡ length struct.fields
 begun_fields struct (as_fields None) n apart full_as = full_as
 begun_fields struct (as_content (ContentKind.Source conversion)) n apart full_as = cc
 begun_fields struct _ n apart full_as = absurd full_as
 
-begun_elements : (item : ShapeId) (m : ℕ) (tracker : Tracker) (n : ℕ) → is_conversion tracker ≡ false
+pub begun_elements : (item : ShapeId) (m : ℕ) (tracker : Tracker) (n : ℕ) → is_conversion tracker ≡ false
     → IsFullAs (Def.Array item m) tracker n → n ≡ m
 begun_elements item m as_elements n apart full_as = full_as
 begun_elements item m (as_content (ContentKind.Source conversion)) n apart full_as = cc
 begun_elements item m _ n apart full_as = absurd full_as
 
-begun_variant : (def : Def) (k n : ℕ) → IsFullAs def (as_fields (Some k)) n → n ≡ length (variant_fields def k)
+pub begun_variant : (def : Def) (k n : ℕ) → IsFullAs def (as_fields (Some k)) n → n ≡ length (variant_fields def k)
 begun_variant (Def.Enum enumeration) k n full_as = go _ full_as
   where
     go : (found : Option VariantDef) → HasFieldsOf found n → n ≡ length (fields_or_none found)

@@ -8,7 +8,7 @@ abbrev pub AllPlain : Table → ℕ → Type 0
 AllPlain table s = (id : ℕ) (shape : Shape) → Reached table s id → slice_get table id ≡ Some shape → is_plain_shape shape ≡ true
 
 -- what is reached from a reached shape is reached
-reached_on : (table : Table) (s t id : ℕ) → Reached table s t → Reached table t id → Reached table s id
+pub reached_on : (table : Table) (s t id : ℕ) → Reached table s t → Reached table t id → Reached table s id
 reached_on table s t id there at_root = there
 reached_on table s t id there (further between is among) = further (reached_on table s t _ there between) is among
 
@@ -35,7 +35,7 @@ child_among shape i below =
     go (Def.Array t n) is below = rw is (zero, omega arith, refl)
     go _ is below = absurd (omega arith)
 
-child_reached : (table : Table) (s i : ℕ) → i < child_count table s → Reached table s (child_shape table s i)
+pub child_reached : (table : Table) (s i : ℕ) → i < child_count table s → Reached table s (child_shape table s i)
 child_reached table s i below = go _ refl below
   where
     go : (found : Option Shape) → slice_get table s ≡ found → i < count_children (def_or_other found)

@@ -34,6 +34,8 @@ pub mod Laws
 pub mod ListExamples
 pub mod Parses
 pub mod PartLaws
+pub mod Passage
+pub mod PassageExamples
 pub mod PathLaws
 pub mod Paths
 pub mod Places

@@ -15,6 +15,8 @@ ghost use Rattle.fr_model.specs.GatheringLaws.{DistinctEntriesStay, DistinctItem
 ghost use Rattle.fr_model.specs.HookExamples.{InvariantExamples, ParsingExamples};
 ghost use Rattle.fr_model.specs.Laws.{BuildKeepsTokens, CompletesOrFails, CompletesOrLacks, CompletingFits, CompletingKeepsTokens, StartIsWell, StepKeepsConversions, StepKeepsDistinct, StepKeepsOrder, StepKeepsRest, StepKeepsTokens};
 ghost use Rattle.fr_model.specs.ListExamples.{ArrayExamples, ListExamples, SliceExamples};
+ghost use Rattle.fr_model.specs.Passage.{DeferredPasses, StrictPasses};
+ghost use Rattle.fr_model.specs.PassageExamples.{PassageExamples};
 ghost use Rattle.fr_model.specs.PathLaws.{ChangingKeepsThePath, EnteringAddsAStep, EnteringAddsItsStep, FinishingKeepsThePath, KeptIsAdmitted, LeavingDropsAStep, PathIsAsDeep};
 ghost use Rattle.fr_model.specs.SourceExamples.{SourceExamples};
 ghost use Rattle.fr_model.specs.SwapExamples.{SwapExamples};
@@ -93,6 +95,7 @@ pub fn law_examples()
     ensures invariants { InvariantExamples }
     ensures sources { SourceExamples }
     ensures swaps { SwapExamples }
+    ensures passage { PassageExamples }
 {}
 
 /// Places are completed one by one at the end of deferred mode, each at its turn: a conversion at
@@ -134,6 +137,15 @@ pub fn law_finishing()
     ensures stuck { StuckOrNoted }
     ensures noted { NotesWhatIsDue }
     ensures apart { NotesLieApart }
+{}
+
+/// Where no reached shape, field or variant field has a proxy, and none has a conversion or is
+/// dynamic, an orderly run of a script without mode calls gives the same value in strict mode and in
+/// deferred mode, whatever the hooks mean: in either direction, and where the run that is known is
+/// orderly.
+pub fn law_passage()
+    ensures strictly { StrictPasses }
+    ensures deferred { DeferredPasses }
 {}
 
 /// The path of the place at which a builder works depends only on the places above it, and has a
