@@ -1,6 +1,6 @@
 -- What is lacking first among children, each of which is asked by its number and its own value.
 use Rattle.std.proofs.Common.{◌≡◌, ℕ, zero, suc, ◌+◌, ◌<◌, ◌≤◌, Bool, true, false, List, [], ◌∷◌, length, drop, replicate, Option, Some, None, IsSome, inl, inr, refl, sym, ◌∙◌, ap, subst, arith}
-use Rattle.fr_frame.specs.Common.{Cell, IsAnswer, Meanings, Question, ReflectErrorKind, Table, Tracker, Val, Vals, absent, ask, deferred_column, failing_child, first_asked, first_invalid, first_unmet, given, holes, lack_among, lack_of_child, lack_of_holes, missing_child, missing_value, one_more, option_or, strict_column, trees_of, unmet_child, value_at, value_of_cell, values_of, fields_of_tracker}
+use Rattle.fr_frame.specs.Common.{Cell, IsAnswer, Meanings, Question, ReflectErrorKind, Table, Tracker, Val, Vals, absent, ask, deferred_column, failing_child, first_asked, first_invalid, first_unmet, given, holes, is_conversion, lack_among, lack_of_child, lack_of_holes, missing_child, missing_value, one_more, option_or, strict_column, trees_of, unmet_child, value_at, value_of_cell, values_of, fields_of_tracker}
 use Rattle.fr_model.specs.Complete.{unless_there}
 use Rattle.fr_model.specs.Failing.{first_missing}
 use Rattle.fr_model.specs.Tree.{hole, branch}
@@ -149,16 +149,17 @@ module _ (means : Meanings) (table : Table) (s : ℕ) (tracker : Tracker) where
   invalid_is i (absent ∷ cs) = ap (option_or (fails i None)) (invalid_is (suc i) cs)
   invalid_is i (c ∷ cs) = ap (option_or (fails i (value_of_cell c))) (invalid_is (suc i) cs)
 
--- Children that aren't fields.
+-- Children that aren't fields, of a place that is no conversion.
 
 -- only marks are asked for
 abbrev pub is_marks : Question → Bool
 is_marks Question.Marks = true
 is_marks _ = false
 
-module _ (means : Meanings) (table : Table) (s : ℕ) (tracker : Tracker) (others : fields_of_tracker tracker ≡ None) where
+module _ (means : Meanings) (table : Table) (s : ℕ) (tracker : Tracker) (others : fields_of_tracker tracker ≡ None)
+    (plain : is_conversion tracker ≡ false) where
   others_value : (question : Question) (i : ℕ) (v : Val) → ask question means table s tracker i (Some v) ≡ None
-  others_value Question.Strict i v = others_pass table s means tracker others i (Some v)
+  others_value Question.Strict i v = others_pass table s means tracker others plain i (Some v)
   others_value _ i v = refl
 
   others_hole : (question : Question) → is_marks question ≡ false → (i : ℕ) → ask question means table s tracker i None
@@ -192,4 +193,5 @@ module _ (means : Meanings) (table : Table) (s : ℕ) (tracker : Tracker) (other
   pub others_valid : (i : ℕ) (cs : List Cell) → first_invalid means table s tracker i (trees_of cs) ≡ None
   others_valid i cs =
       invalid_is means table s tracker i cs
-      ∙ never_lacks (fails means table s tracker) (λ k own. others_pass table s means tracker others k (value_then means table s tracker k own)) i cs
+      ∙ never_lacks (fails means table s tracker)
+      (λ k own. others_pass table s means tracker others plain k (value_then means table s tracker k own)) i cs

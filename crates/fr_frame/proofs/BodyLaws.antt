@@ -1,6 +1,6 @@
 -- What a place comes to, and its tokens.
 use Rattle.std.proofs.Common.{◌≡◌, ℕ, zero, suc, ◌+◌, Bool, true, false, List, [], ◌∷◌, length, replicate, option_map, Option, Some, None, IsSome, refl, sym, ◌∙◌, ap, arith, if◌then◌else◌}
-use Rattle.fr_frame.specs.Common.{Cell, Conserved, ContentKind, Def, IfSome, IsFullAs, ItemsKind, Tracker, Val, Vals, Value, absent, as_content, as_elements, as_entries, as_fields, as_items, begun_body, cells_occur, cells_of_vals, first, given, made, no_vals, occurs, placed, vals_occur, vals_view, value_of, values_of}
+use Rattle.fr_frame.specs.Common.{Cell, Conserved, ContentKind, Def, IfSome, IsFullAs, ItemsKind, Tracker, Val, Vals, Value, absent, as_content, as_elements, as_entries, as_fields, as_items, begun_body, cells_occur, cells_of_vals, first, given, is_conversion, made, no_vals, occurs, placed, vals_occur, vals_view, value_of, values_of}
 use Rattle.fr_shape.specs.declared.shape.ShapeId.{ShapeId}
 use Rattle.fr_model.specs.Complete.{value_as}
 use Rattle.fr_model.specs.Places.{vals_nth}
@@ -19,35 +19,39 @@ one_is [] h = absurd (omega arith)
 one_is (c ∷ []) h = refl
 one_is (c ∷ d ∷ cs) h = absurd (omega arith)
 
--- a place that has all its children can
-pub full_makes : (def : Def) (tracker : Tracker) (cells : List Cell) → IsFullAs def tracker (length cells) → can_make tracker cells ≡ true
-full_makes def (as_fields selected) cells h = refl
-full_makes def as_elements cells h = refl
-full_makes def (as_items kind) cells h = refl
-full_makes def (as_entries kind) cells h = refl
-full_makes (Def.Option t) (as_content ContentKind.Some) cells h = one_is cells h
-full_makes (Def.Result t e) (as_content ContentKind.Ok) cells h = one_is cells h
-full_makes (Def.Result t e) (as_content ContentKind.Err) cells h = one_is cells h
-full_makes (Def.Pointer pointer) (as_content ContentKind.Pointer) cells h = go pointer.pointee h
+-- a place that has all its children can, if it is no conversion
+pub full_makes : (def : Def) (tracker : Tracker) (cells : List Cell) → IsFullAs def tracker (length cells) → is_conversion tracker ≡ false
+    → can_make tracker cells ≡ true
+full_makes def (as_fields selected) cells h plain = refl
+full_makes def as_elements cells h plain = refl
+full_makes def (as_items kind) cells h plain = refl
+full_makes def (as_entries kind) cells h plain = refl
+full_makes def (as_content (ContentKind.Source conversion)) cells h plain = absurd (cc)
+full_makes (Def.Option t) (as_content ContentKind.Some) cells h plain = one_is cells h
+full_makes (Def.Result t e) (as_content ContentKind.Ok) cells h plain = one_is cells h
+full_makes (Def.Result t e) (as_content ContentKind.Err) cells h plain = one_is cells h
+full_makes (Def.Pointer pointer) (as_content ContentKind.Pointer) cells h plain = go pointer.pointee h
   where
     go : (pointee : Option ShapeId) → PointsTo pointee (length cells) → is_one cells ≡ true
     go (Some t) h = one_is cells h
     go None h = absurd h
-full_makes _ (as_content kind) cells h = absurd h
+full_makes _ (as_content kind) cells h plain = absurd h
 
-pub full_value : (def : Def) (tracker : Tracker) (cells : List Cell) → IsFullAs def tracker (length cells)
+pub full_value : (def : Def) (tracker : Tracker) (cells : List Cell) → IsFullAs def tracker (length cells) → is_conversion tracker ≡ false
     → value_of (begun_body tracker cells) ≡ made tracker (values_of cells)
-full_value def tracker cells h = value_made tracker cells (full_makes def tracker cells h)
+full_value def tracker cells h plain = value_made tracker cells (full_makes def tracker cells h plain)
 
 -- around one child there is one value
 pub one_listed : (tracker : Tracker) (cells : List Cell) (items : List Value) → is_around tracker ≡ true → IsSome (value_of (begun_body tracker cells))
     → values_of cells ≡ Some (vals_view items) → length items ≡ 1
-one_listed tracker cells items around there are = go cells are (able (is_one cells) refl (can (is_around tracker) around there))
+one_listed tracker cells items around there are = go cells are (able (is_one cells) refl (can (is_conversion tracker) (is_around tracker) around there))
   where
-    can : (around : Bool) → around ≡ true → IsSome (if (if around then is_one cells else true) then made tracker (values_of cells) else None)
+    can : (conversion around : Bool) → around ≡ true
+        → IsSome (if (if conversion then false else if around then is_one cells else true) then made tracker (values_of cells) else None)
         → IsSome (if is_one cells then made tracker (values_of cells) else None)
-    can true e h = h
-    can false e h = absurd (cc)
+    can false true e h = h
+    can true around e h = absurd (cc)
+    can false false e h = absurd (cc)
 
     able : (one : Bool) → is_one cells ≡ one → IsSome (if one then made tracker (values_of cells) else None) → is_one cells ≡ true
     able true e h = e
@@ -87,6 +91,7 @@ made_occurs (as_content ContentKind.Some) cells vs t as_it_is can e = one_occurs
 made_occurs (as_content ContentKind.Ok) cells vs t as_it_is can e = one_occurs cells vs t can e
 made_occurs (as_content ContentKind.Err) cells vs t as_it_is can e = one_occurs cells vs t can e
 made_occurs (as_content ContentKind.Pointer) cells vs t as_it_is can e = one_occurs cells vs t can e
+made_occurs (as_content (ContentKind.Source conversion)) cells vs t as_it_is can e = absurd (cc)
 made_occurs (as_fields None) cells vs t as_it_is can e = values_occur cells vs t e
 made_occurs (as_items ItemsKind.Set) cells vs t as_it_is can e = absurd (cc)
 made_occurs (as_entries kind) cells vs t as_it_is can e = absurd (cc)

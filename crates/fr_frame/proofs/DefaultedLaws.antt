@@ -29,14 +29,14 @@ module _ (means : Meanings) (table : Table) (plan : Plan) (checked : IsChecked t
     pub unmet_so : IfInUse slots n IsUnmet → IfInUse slots n (Fails kind)
     unmet_so =
         both_so (heap_of slots n) (MayComplete table plan) IsUnmet (Fails kind)
-        (λ at is. why_unmet means table (shape_of plan at.node) at.body checked is.full is.closed kind) may
+        (λ at is. why_unmet means table (shape_of plan at.node) at.body checked is.full is.closed is.unconverted kind) may
 
     pub unfilled_so : IfInUse slots n (λ at. IsUnfilled FillColumn.Strict means table (shape_of plan at.node) at.body kind)
         → IfInUse slots n (λ at. WhyNot means table (shape_of plan at.node) at.body kind)
     unfilled_so =
         both_so (heap_of slots n) (MayComplete table plan) (λ at. IsUnfilled FillColumn.Strict means table
         (shape_of plan at.node) at.body kind) (λ at. WhyNot means table (shape_of plan at.node) at.body kind)
-        (λ at is. why_unfilled means table (shape_of plan at.node) at.body checked is.full is.closed kind) may
+        (λ at is. why_unfilled means table (shape_of plan at.node) at.body checked is.full is.closed is.unconverted kind) may
 
 -- it has taken them
 
@@ -78,7 +78,12 @@ module _ {column : FillColumn} {means : Meanings} {table : Table} {plan : Plan} 
   filled = has_filled (column_of column) table s checked is.at.body
 
   may_then : MayComplete table plan at_then
-  may_then = record { planned = is.may.planned; full = filled.full is.may.full; closed = filled.closed is.may.closed }
+  may_then = record {
+    planned = is.may.planned;
+    full = filled.full is.may.full;
+    closed = filled.closed is.may.closed;
+    unconverted = filled.unconverted is.may.unconverted;
+  }
 
   was_so : (P : Node → Type 0) → P is.at → IfInUse before n P
   was_so P so = of_node (heap_of before n) is.at P is.was so
@@ -111,7 +116,7 @@ module _ {means : Meanings} {table : Table} {plan : Plan} {before after : List S
       → IfInUse before n (FillsAt strict_column means table plan before after n)
   strictly_so is = was_so checked is (FillsAt strict_column means table plan before after n) (record {
     body = then checked is;
-    filled = strictly_filled means table (s checked is) is.at.body checked is.may.full is.may.closed is.met;
+    filled = strictly_filled means table (s checked is) is.at.body checked is.may.full is.may.closed is.may.unconverted is.met;
     becomes = is.becomes;
   })
 
@@ -121,7 +126,7 @@ module _ {means : Meanings} {table : Table} {plan : Plan} {before after : List S
         → IfInUse before n (λ at. WhyNotDefault means table (shape_of plan at.node) at.body kind)
     left_so kind left =
         was_so checked is (λ x. WhyNotDefault means table (shape_of plan x.node) x.body kind)
-        (why_left means table (s checked is) is.at.body checked is.may.full is.may.closed is.met kind
+        (why_left means table (s checked is) is.at.body checked is.may.full is.may.closed is.may.unconverted is.met kind
         (of_now checked is (λ x. first_hole_left (shape_of plan x.node) x.body ≡ Some kind) left))
 
     module _ (full : IfInUse after n (λ at. first_hole_left (shape_of plan at.node) at.body ≡ None)) where
@@ -137,7 +142,7 @@ module _ {means : Meanings} {table : Table} {plan : Plan} {before after : List S
           → IfInUse before n (λ at. WhyNotDefault means table (shape_of plan at.node) at.body kind)
       invalid_so planned kind failing =
           was_so checked is (λ x. WhyNotDefault means table (shape_of plan x.node) x.body kind)
-          (why_invalid means table (s checked is) is.at.body checked is.may.full is.may.closed is.met nothing_left kind
+          (why_invalid means table (s checked is) is.at.body checked is.may.full is.may.closed is.may.unconverted is.met nothing_left kind
           (of_now checked is (λ x. (t : Table) → IsChecked t → IsPlanFor t plan → MayComplete t plan x
           → IsCauseOf (invalid means t (shape_of plan x.node) x.body) kind) failing table checked planned (may_then checked is)))
 
@@ -148,7 +153,7 @@ module _ {means : Meanings} {table : Table} {plan : Plan} {before after : List S
       filled_so planned passing = was_so checked is (FillsAt deferred_column means table plan before after n) (record {
         body = then checked is;
         filled =
-            filled_after means table (s checked is) is.at.body checked is.may.full is.may.closed is.met nothing_left
+            filled_after means table (s checked is) is.at.body checked is.may.full is.may.closed is.may.unconverted is.met nothing_left
             (of_now checked is (λ x. (t : Table) → IsChecked t → IsPlanFor t plan → MayComplete t plan x
             → invalid means t (shape_of plan x.node) x.body ≡ None) passing table checked planned (may_then checked is));
         becomes = is.becomes;

@@ -4,7 +4,7 @@ use Rattle.std.proofs.lemmas.Bool.{and_parts}
 use Rattle.std.proofs.lemmas.List.{length-replicate}
 use Rattle.std.proofs.lemmas.List.Folds.{list_all-append}
 use Rattle.std.specs.List.{list_all, flat_map}
-use Rattle.fr_frame.specs.Common.{AreUnplaced, Body, Cell, Column, Def, Field, IsChecked, IsClosed, IsFull, IsFullAs, KeepGiven, KeepsTracker, ReflectErrorKind, Table, Tracker, Val, Value, VariantDef, absent, as_fields, begun_body, body_occurs, cell_occurs, cells_occur, child_count, def_of, defaulted, defaulted_by, defaulted_cell, defaulted_cells, defaulted_nth, defaulted_struct, deferred_column, entered_body, field_in, field_of_variant, fields_of_tracker, fill_of_field, first_asked, given, hole_takes, is_some, occurs, option_copied, option_map, option_or, placed, preset_of, strict_column, tokens, value_at, value_of_cell, values_of, whole_body}
+use Rattle.fr_frame.specs.Common.{AreUnplaced, Body, Cell, Column, Def, Field, IsChecked, IsClosed, IsFull, IsFullAs, KeepGiven, KeepsTracker, ReflectErrorKind, Table, Tracker, Val, Value, VariantDef, absent, as_fields, begun_body, body_occurs, cell_occurs, cells_occur, child_count, def_of, defaulted, defaulted_by, defaulted_cell, defaulted_cells, defaulted_nth, defaulted_struct, deferred_column, entered_body, field_in, field_of_variant, fields_of_tracker, fill_of_field, first_asked, given, hole_takes, is_conversion_body, is_some, occurs, option_copied, option_map, option_or, placed, preset_of, strict_column, tokens, value_at, value_of_cell, values_of, whole_body}
 use Rattle.std.specs.Borrow.{Bor}
 use Rattle.std.specs.Prelude.{option_to_list}
 use Rattle.fr_shape.specs.declared.shape.Shape.{Shape}
@@ -281,6 +281,7 @@ pub record HasFilled (table : Table) (s : ℕ) (old new : Body) : Type 0 where
   pub closed : IsClosed old → IsClosed new
   pub same_tokens : (t : ℕ) → body_occurs new t ≡ body_occurs old t
   pub full : IsFull table s old → IsFull table s new
+  pub unconverted : is_conversion_body old ≡ false → is_conversion_body new ≡ false
   pub keeps : KeepsTracker old new
 
 module _ (column : Column) (table : Table) (s : ℕ) (checked : IsChecked table) where
@@ -292,11 +293,18 @@ module _ (column : Column) (table : Table) (s : ℕ) (checked : IsChecked table)
         closed = alike.closed;
         same_tokens = alike.same_tokens;
         full = subst (IsFullAs (def_of table s) tracker) (sym alike.count);
+        unconverted = λ h. h;
         keeps = (refl, alike.count, alike.kept);
       }
 
   as_whole : (v : Val) → tokens v ≡ [] → HasFilled table s entered_body (whole_body v)
-  as_whole v light = record { closed = λ h. tt; same_tokens = λ t. light_occurs v t light; full = λ h. tt; keeps = refl }
+  as_whole v light = record {
+    closed = λ h. tt;
+    same_tokens = λ t. light_occurs v t light;
+    full = λ h. tt;
+    unconverted = λ h. refl;
+    keeps = refl;
+  }
 
   by_def : (def : Def) (preset : Option Val) → def_of table s ≡ def → IsLight preset
       → HasFilled table s entered_body (defaulted_by def preset (defaulted_struct column table s))
@@ -309,14 +317,27 @@ module _ (column : Column) (table : Table) (s : ℕ) (checked : IsChecked table)
         same_tokens = λ t. begun.same_tokens t ∙ none_occur n t;
         full = λ h. begun.full (subst (λ (def : Def). IsFullAs def (as_fields None) (length (replicate n absent))) (sym is)
             (length-replicate n absent ∙ ap count_children is));
+        unconverted = λ h. refl;
         keeps = refl;
       }
   by_def (Def.Option t) (Some v) is light = as_whole none refl
-  by_def _ preset is light = record { closed = λ h. tt; same_tokens = λ t. refl; full = λ h. tt; keeps = refl }
+  by_def _ preset is light = record {
+    closed = λ h. tt;
+    same_tokens = λ t. refl;
+    full = λ h. tt;
+    unconverted = λ h. refl;
+    keeps = refl;
+  }
 
   pub has_filled : (body : Body) → HasFilled table s body (defaulted column table s body)
   has_filled entered_body = by_def (def_of table s) (preset_of table s) refl (preset_light table s checked)
-  has_filled (whole_body v) = record { closed = λ h. h; same_tokens = λ t. refl; full = λ h. h; keeps = refl }
+  has_filled (whole_body v) = record {
+    closed = λ h. h;
+    same_tokens = λ t. refl;
+    full = λ h. h;
+    unconverted = λ h. h;
+    keeps = refl;
+  }
   has_filled (begun_body tracker cells) = begun_filled tracker cells
 
 -- whether a child that is looked up has a value

@@ -3,7 +3,7 @@ use Rattle.std.proofs.Common.{◌≡◌, ℕ, zero, suc, ◌<◌, Bool, false, n
 use Rattle.std.proofs.lemmas.Bool.{or_parts}
 use Rattle.std.proofs.lemmas.Option.{slice_get_read}
 use Rattle.std.specs.List.{list_any}
-use Rattle.fr_frame.specs.Common.{AreTold, AreUnplaced, Body, Cell, Column, Def, Field, FieldPlan, FieldRef, IsChecked, IsClosed, IsFilled, IsFull, IsFullAs, IsNamed, IsTold, Meanings, Plan, Question, ReflectErrorKind, Table, Tracker, Val, Vals, VariantDef, absent, as_fields, ask, ask_field, begun_body, child_count, complete, def_of, defaulted, defaulted_by, defaulted_cell, defaulted_cells, defaulted_struct, entered_body, failing_child, field_at, field_fill, field_in, field_of_variant, first_asked, first_refused, has_validators, hole_takes, lack_of_child, made, missing_child, missing_value, one_more, option_or, own_tree, part_of, preset_of, strict_column, trees_of, value_of, value_of_cell, values_of, whole_body}
+use Rattle.fr_frame.specs.Common.{AreTold, AreUnplaced, Body, Cell, Column, Def, Field, FieldPlan, FieldRef, IsChecked, IsClosed, IsFilled, IsFull, IsFullAs, IsNamed, IsTold, Meanings, Plan, Question, ReflectErrorKind, Table, Tracker, Val, Vals, VariantDef, absent, as_fields, ask, ask_field, begun_body, child_count, complete, def_of, defaulted, defaulted_by, defaulted_cell, defaulted_cells, defaulted_struct, entered_body, failing_child, field_at, field_fill, field_in, field_of_variant, first_asked, first_refused, has_validators, hole_takes, is_conversion, is_conversion_body, lack_of_child, made, missing_child, missing_value, one_more, option_or, own_tree, part_of, preset_of, strict_column, trees_of, value_of, value_of_cell, values_of, whole_body}
 use Rattle.std.specs.Option.{option_map_or}
 use Rattle.fr_shape.specs.declared.shape.ScalarKind.{ScalarKind}
 use Rattle.fr_shape.specs.declared.shape.ValidatorDef.{ValidatorDef}
@@ -20,6 +20,7 @@ use Rattle.fr_frame.specs.Filling.{IsToldAt, child_value}
 use Rattle.fr_frame.proofs.AskLaws.{more_there}
 use Rattle.fr_frame.proofs.BodyLaws.{full_value}
 use Rattle.fr_frame.proofs.FillLaws.{all_alike, none_placed, value_then}
+use Rattle.fr_frame.proofs.TrackerLaws.{taken_plain}
 
 -- What fails.
 
@@ -162,25 +163,36 @@ module _ (column : Column) (means : Meanings) (table : Table) (s : ℕ) (tracker
   abbrev values : ℕ → List Cell → Option Vals
   values i cs = complete_all column means table s tracker i (trees_of cs)
 
+  -- the value of a child, where it doesn't fail
+  abbrev valid_value : ℕ → Cell → Option Val
+  valid_value i c = unless_failing (failing_child means table s tracker i (value i c)) (value i c)
+
   made_step : (i : ℕ) (c : Cell) (cs : List Cell)
       → values i (c ∷ cs) ≡ one_more (valid_child means table s tracker i (value i c)) (values (suc i) cs)
   made_step i absent cs = refl
   made_step i _ cs = refl
 
-  -- children make what they hold with their fills
-  children_make : (i : ℕ) (cs : List Cell) → AreUnplaced cs
-      → Makes (first_asked lacks i cs) (values i cs) (values_of (defaulted_cells column table s tracker i cs))
-  children_make i [] closed = (refl, refl)
-  children_make i (c ∷ cs) closed =
-      let rest : List Cell = defaulted_cells column table s tracker (suc i) cs in
-      let held : Option Val = value_of_cell (defaulted_cell (hole_takes column table s tracker i) c) in
-      let valid : Option Val = valid_child means table s tracker i (value i c) in
-      subst (λ (made_up : Option Vals). Makes (first_asked lacks i (c ∷ cs)) made_up (one_more held (values_of rest)))
-      (sym (made_step i c cs))
-      (more_make (lacks i (value_of_cell c)) (first_asked lacks (suc i) cs) valid held (values (suc i) cs) (values_of rest)
-      (subst (Makes (lacks i (value_of_cell c)) valid) (sym (value_then column table s tracker i c closed.0))
-      (one_makes (missing_child s tracker i) (value i c) (failing_child means table s tracker i (value i c))))
-      (children_make (suc i) cs closed.1))
+  module _ (plain : is_conversion tracker ≡ false) where
+    made_plain : (i : ℕ) (c : Cell) (cs : List Cell) → values i (c ∷ cs) ≡ one_more (valid_value i c) (values (suc i) cs)
+    made_plain i c cs =
+        made_step i c cs
+        ∙ ap (λ (taken : Option Val). one_more (unless_failing (failing_child means table s tracker i (value i c)) taken) (values (suc i) cs))
+        (taken_plain table s means tracker plain (value i c))
+
+    -- children make what they hold with their fills
+    children_make : (i : ℕ) (cs : List Cell) → AreUnplaced cs
+        → Makes (first_asked lacks i cs) (values i cs) (values_of (defaulted_cells column table s tracker i cs))
+    children_make i [] closed = (refl, refl)
+    children_make i (c ∷ cs) closed =
+        let rest : List Cell = defaulted_cells column table s tracker (suc i) cs in
+        let held : Option Val = value_of_cell (defaulted_cell (hole_takes column table s tracker i) c) in
+        let valid : Option Val = valid_value i c in
+        subst (λ (made_up : Option Vals). Makes (first_asked lacks i (c ∷ cs)) made_up (one_more held (values_of rest)))
+        (sym (made_plain i c cs))
+        (more_make (lacks i (value_of_cell c)) (first_asked lacks (suc i) cs) valid held (values (suc i) cs) (values_of rest)
+        (subst (Makes (lacks i (value_of_cell c)) valid) (sym (value_then column table s tracker i c closed.0))
+        (one_makes (missing_child s tracker i) (value i c) (failing_child means table s tracker i (value i c))))
+        (children_make (suc i) cs closed.1))
 
 -- Places.
 
@@ -202,14 +214,14 @@ module _ (column : Column) (means : Meanings) (table : Table) (s : ℕ) where
   no_children_made (suc count) i =
       ap (one_more (valid_child means table s (as_fields None) i (fill_at column table s i))) (no_children_made count (suc i))
 
-  begun_makes : (tracker : Tracker) (cells : List Cell) → AreUnplaced cells
+  begun_makes : (tracker : Tracker) (cells : List Cell) → is_conversion tracker ≡ false → AreUnplaced cells
       → Makes (first_asked (lacks column means table s tracker) 0 cells)
       (made tracker (complete_all column means table s tracker 0 (trees_of cells)))
       (made tracker (values_of (defaulted_cells column table s tracker 0 cells)))
-  begun_makes tracker cells closed =
+  begun_makes tracker cells plain closed =
       made_make tracker (first_asked (lacks column means table s tracker) 0 cells)
       (complete_all column means table s tracker 0 (trees_of cells)) (values_of (defaulted_cells column table s tracker 0 cells))
-      (children_make column means table s tracker 0 cells closed)
+      (children_make column means table s tracker plain 0 cells closed)
 
   entered_makes : (def : Def) (preset : Option Val)
       → Makes (lack_by def preset (first_asked (lacks column means table s (as_fields None)) 0 no_fields) (missing_value s))
@@ -219,35 +231,35 @@ module _ (column : Column) (means : Meanings) (table : Table) (s : ℕ) where
   entered_makes (Def.Struct struct) None =
       subst (λ (vs : Option Vals). Makes (first_asked (lacks column means table s (as_fields None)) 0 no_fields)
       (made (as_fields None) vs) (value_of (defaulted_struct column table s)))
-      (no_children_made (child_count table s) 0) (begun_makes (as_fields None) no_fields (none_placed (child_count table s)))
+      (no_children_made (child_count table s) 0) (begun_makes (as_fields None) no_fields refl (none_placed (child_count table s)))
   entered_makes (Def.Option t) (Some v) = (refl, refl)
   entered_makes (Def.Option t) None = refl
   entered_makes _ preset = refl
 
   module _ (checked : IsChecked table) where
-    body_makes : (body : Body) → IsFull table s body → IsClosed body
+    body_makes : (body : Body) → IsFull table s body → IsClosed body → is_conversion_body body ≡ false
         → Makes (lacking body) (complete column means table s (own_tree body)) (value_of (defaulted column table s body))
-    body_makes entered_body full closed = entered_makes (def_of table s) (preset_of table s)
-    body_makes (whole_body v) full closed = (refl, refl)
-    body_makes (begun_body tracker cells) full closed =
+    body_makes entered_body full closed plain = entered_makes (def_of table s) (preset_of table s)
+    body_makes (whole_body v) full closed plain = (refl, refl)
+    body_makes (begun_body tracker cells) full closed plain =
         let after : List Cell = defaulted_cells column table s tracker 0 cells in
         subst (Makes (first_asked (lacks column means table s tracker) 0 cells)
         (complete column means table s (begun tracker (trees_of cells)))) (sym (full_value (def_of table s) tracker after
-        (subst (IsFullAs (def_of table s) tracker) (sym (all_alike column table s tracker checked 0 cells).count) full)))
-        (begun_makes tracker cells closed)
+        (subst (IsFullAs (def_of table s) tracker) (sym (all_alike column table s tracker checked 0 cells).count) full) plain))
+        (begun_makes tracker cells plain closed)
 
-    module _ (body : Body) (full : IsFull table s body) (closed : IsClosed body) where
+    module _ (body : Body) (full : IsFull table s body) (closed : IsClosed body) (plain : is_conversion_body body ≡ false) where
       abbrev makes_this : Option ReflectErrorKind → Type 0
       makes_this cause = Makes cause (complete column means table s (own_tree body)) (value_of (defaulted column table s body))
 
       -- a place that lacks something makes nothing
       pub body_nothing : (kind : ReflectErrorKind) → lacking body ≡ Some kind
           → complete column means table s (own_tree body) ≡ None
-      body_nothing kind h = subst makes_this h (body_makes body full closed)
+      body_nothing kind h = subst makes_this h (body_makes body full closed plain)
 
       -- and one that lacks nothing makes what it holds with its fills
       pub is_filled : lacking body ≡ None → IsFilled column means table s body (defaulted column table s body)
-      is_filled h = go (value_of (defaulted column table s body)) refl (subst makes_this h (body_makes body full closed))
+      is_filled h = go (value_of (defaulted column table s body)) refl (subst makes_this h (body_makes body full closed plain))
         where
           go : (held : Option Val) → value_of (defaulted column table s body) ≡ held
               → (complete column means table s (own_tree body) ≡ held) × IsSome held

@@ -2,6 +2,7 @@ pub mod AddItemLaws
 pub mod AskLaws
 pub mod BodyLaws
 pub mod CompleteItemLaws
+pub mod ConvertLaws
 pub mod DefaultedLaws
 pub mod DrainLaws
 pub mod EntryLaws

@@ -1,6 +1,6 @@
 -- Places that stay as they are: one that is begun again, and a list, of whose items no validator is told.
-use Rattle.std.proofs.Common.{◌≡◌, ℕ, true, List, Option, Some, None, IsSomeAnd, refl, sym, ◌∙◌, ap, subst}
-use Rattle.fr_frame.specs.Common.{Body, Heap, IfInUse, ItemsKind, Meanings, Node, Shows, Slot, Table, Tracker, as_items, begun_body, fields_of_tracker, heap_of, invalid, is_begun_body, is_list_body, opened, with_body, with_slot}
+use Rattle.std.proofs.Common.{◌≡◌, ℕ, true, false, List, Option, Some, None, IsSomeAnd, refl, sym, ◌∙◌, ap, subst}
+use Rattle.fr_frame.specs.Common.{Body, Heap, IfInUse, ItemsKind, Meanings, Node, Shows, Slot, Table, Tracker, as_items, begun_body, fields_of_tracker, heap_of, invalid, is_begun_body, is_conversion, is_list_body, opened, with_body, with_slot}
 use Rattle.fr_frame.specs.Outlines.{has_items}
 use Rattle.fr_frame.proofs.HeapLaws.{changed, with_same}
 use Rattle.fr_frame.proofs.PlaceLaws.{found_so, in_use_so}
@@ -33,8 +33,13 @@ parts_of_items (as_items ItemsKind.Slice) items = refl
 parts_of_items (as_items ItemsKind.ClosedSlice) items = refl
 parts_of_items _ items = cc
 
+plain_items : (tracker : Tracker) → has_items tracker ≡ true → is_conversion tracker ≡ false
+plain_items (as_items kind) items = refl
+plain_items _ items = cc
+
 -- the items of a list have no validators
 pub list_valid : (means : Meanings) (table : Table) (s : ℕ) (body : Body) → is_list_body body ≡ true
     → invalid means table s body ≡ None
-list_valid means table s (begun_body tracker cells) list = others_valid means table s tracker (parts_of_items tracker list) 0 cells
+list_valid means table s (begun_body tracker cells) list =
+    others_valid means table s tracker (parts_of_items tracker list) (plain_items tracker list) 0 cells
 list_valid means table s _ list = refl

@@ -1,6 +1,6 @@
 -- Why a place isn't completed, and what it lacks, by the rules of either column.
-use Rattle.std.proofs.Common.{◌≡◌, ◌⊎◌, ℕ, suc, Bool, true, List, [], ◌∷◌, replicate, Option, Some, None, IsSome, IsSomeAnd, inl, inr, refl, sym, ◌∙◌, ap, subst}
-use Rattle.fr_frame.specs.Common.{AreUnplaced, Body, Cell, Def, Field, FillColumn, HasAllChildren, IsCauseOf, IsChecked, IsClosed, IsFilled, IsFull, IsUnfilled, Meanings, ReflectErrorKind, Table, Tracker, Trees, Val, WhyNot, WhyNotDefault, absent, as_fields, begun_body, child_count, complete, def_of, defaulted, defaulted_by, defaulted_cells, defaulted_struct, deferred_column, entered_body, failing_child, field_in, fill_of_field, first_asked, first_hole_left, first_invalid, first_unmet, hole_takes, holes, invalid, is_some, lack, missing_child, missing_value, option_or, own_tree, preset_of, strict_column, takes_template, trees_of, unmet, unmet_child, unmet_mark, value_of_cell, whole_body}
+use Rattle.std.proofs.Common.{◌≡◌, ◌⊎◌, ℕ, suc, Bool, true, false, List, [], ◌∷◌, replicate, Option, Some, None, IsSome, IsSomeAnd, inl, inr, refl, sym, ◌∙◌, ap, subst}
+use Rattle.fr_frame.specs.Common.{AreUnplaced, Body, Cell, Def, Field, FillColumn, HasAllChildren, IsCauseOf, IsChecked, IsClosed, IsFilled, IsFull, IsUnfilled, Meanings, ReflectErrorKind, Table, Tracker, Trees, Val, WhyNot, WhyNotDefault, absent, as_fields, begun_body, child_count, complete, def_of, defaulted, defaulted_by, defaulted_cells, defaulted_struct, deferred_column, entered_body, failing_child, field_in, fill_of_field, first_asked, first_hole_left, first_invalid, first_unmet, hole_takes, holes, invalid, is_conversion_body, is_some, lack, missing_child, missing_value, option_or, own_tree, preset_of, strict_column, takes_template, trees_of, unmet, unmet_child, unmet_mark, value_of_cell, whole_body}
 use Rattle.fr_shape.specs.Fills.{DeferredRule, filled, marked_without_default, missing, deferred_rule, by_deferred_rule}
 use Rattle.fr_model.specs.Complete.{lack_by, unless_there}
 use Rattle.fr_model.specs.Failing.{first_missing, lack_of_begun, own_lack, unmet_by, unmet_mark_of}
@@ -185,7 +185,7 @@ all_there s (begun_body tracker cells) h = passing_there (λ k own. unless_there
 all_there s _ h = tt
 
 module _ (means : Meanings) (table : Table) (s : ℕ) (body : Body) (checked : IsChecked table) (full : IsFull table s body)
-    (closed : IsClosed body) where
+    (closed : IsClosed body) (plain : is_conversion_body body ≡ false) where
   -- One place, by the rules of deferred mode.
 
   abbrev then : Body
@@ -205,7 +205,7 @@ module _ (means : Meanings) (table : Table) (s : ℕ) (body : Body) (checked : I
       go : (found : Option ReflectErrorKind) → lacking deferred_column means table s body ≡ found → is_some found ≡ true
           → complete deferred_column means table s (own_tree body) ≡ None
       go None is some = absurd (cc)
-      go (Some told) is some = body_nothing deferred_column means table s checked body full closed told is
+      go (Some told) is some = body_nothing deferred_column means table s checked body full closed plain told is
 
   pub why_unmet : (kind : ReflectErrorKind)
       → ((kind ≡ ReflectErrorKind.OutOfMemory) × (takes_template body ≡ true)) ⊎ (unmet table s body ≡ Some kind)
@@ -236,7 +236,7 @@ module _ (means : Meanings) (table : Table) (s : ℕ) (body : Body) (checked : I
 
       pub filled_after : invalid means table s then ≡ None → IsFilled deferred_column means table s body then
       filled_after valid =
-          is_filled deferred_column means table s checked body full closed
+          is_filled deferred_column means table s checked body full closed plain
           (not_some (lacking deferred_column means table s body) (sym (own_some means table s body)
           ∙ ap is_some (lacks_invalid ∙ valid)))
 
@@ -245,12 +245,12 @@ module _ (means : Meanings) (table : Table) (s : ℕ) (body : Body) (checked : I
   pub strictly_filled : lack means table s (own_tree body) ≡ None
       → IsFilled strict_column means table s body (defaulted strict_column table s body)
   strictly_filled nothing =
-      is_filled strict_column means table s checked body full closed (sym (strict_lacks means table s body) ∙ nothing)
+      is_filled strict_column means table s checked body full closed plain (sym (strict_lacks means table s body) ∙ nothing)
 
   makes_nothing : (kind : ReflectErrorKind) → lack means table s (own_tree body) ≡ Some kind
       → complete strict_column means table s (own_tree body) ≡ None
   makes_nothing kind e =
-      body_nothing strict_column means table s checked body full closed kind (sym (strict_lacks means table s body) ∙ e)
+      body_nothing strict_column means table s checked body full closed plain kind (sym (strict_lacks means table s body) ∙ e)
 
   why_lacking : (kind : ReflectErrorKind) → IsCauseOf (lack means table s (own_tree body)) kind → WhyNot means table s body kind
   why_lacking kind (inl e) = inl (record { incomplete = makes_nothing kind e; lacks = sym (ap (or_missing s) e) })

@@ -9,7 +9,7 @@ use Rattle.fr_model.specs.Complete.{made}
 use Rattle.fr_model.specs.DynamicPlaces.{is_object_tracker, entry_found, number_or_last}
 use Rattle.fr_model.specs.Places.{vals_nth}
 use Rattle.fr_model.specs.Step.{parts_as}
-use Rattle.fr_model.specs.Trackers.{Tracker, as_fields, as_elements, as_content, ContentKind, as_items, ItemsKind, as_entries, EntriesKind, keys_of_tracker}
+use Rattle.fr_model.specs.Trackers.{Tracker, as_fields, as_elements, as_content, ContentKind, as_items, ItemsKind, as_entries, EntriesKind, is_conversion, keys_of_tracker}
 use Rattle.fr_model.specs.Tree.{over_base, Tree, hole, entered, whole, begun, Trees, no_trees, branch}
 use Rattle.fr_values.specs.Cells.{Cell, absent, given, placed, cells_occur, values_of, cells_of_vals, without_cell, and_item_cell}
 
@@ -195,7 +195,7 @@ reformed tracker (begun_body as_before cells) = begun_body tracker cells
 
 -- What a place comes to.
 
--- a place is begun so around one child: a content, a side or a pointee
+-- a place is begun so around one child: a content, a side, a pointee or a source
 abbrev pub is_around : Tracker → Bool
 is_around (as_fields selected) = false
 is_around as_elements = false
@@ -235,6 +235,7 @@ around_as (as_content ContentKind.Some) held = some held
 around_as (as_content ContentKind.Ok) held = ok held
 around_as (as_content ContentKind.Err) held = err held
 around_as (as_content ContentKind.Pointer) held = ptr held
+around_as (as_content (ContentKind.Source conversion)) held = held
 around_as (as_items ItemsKind.List) held = held
 around_as (as_items ItemsKind.Slice) held = ptr held
 around_as (as_items ItemsKind.ClosedSlice) held = ptr held
@@ -266,15 +267,22 @@ is_one [] = false
 is_one (c ∷ []) = true
 is_one (c ∷ d ∷ cs) = false
 
--- so many children can make a value of a place that is begun so: around one child just that one, else any
+-- so many children can make a value of a place that is begun so: around one child just that one, else any; but none can of a
+-- conversion, whose hook makes it
 abbrev pub can_make : Tracker → List Cell → Bool
-can_make tracker cells = if is_around tracker then is_one cells else true
+can_make tracker cells = if is_conversion tracker then false else if is_around tracker then is_one cells else true
 
 -- the value of a place that is whole, or begun with each child's value there
 abbrev pub value_of : Body → Option Val
 value_of entered_body = None
 value_of (whole_body v) = Some v
 value_of (begun_body tracker cells) = if can_make tracker cells then made tracker (values_of cells) else None
+
+-- the place is begun as a conversion
+abbrev pub is_conversion_body : Body → Bool
+is_conversion_body entered_body = false
+is_conversion_body (whole_body v) = false
+is_conversion_body (begun_body tracker cells) = is_conversion tracker
 
 -- of the children of a begun place none is missing: the value of each is there. A place that is entered or whole has no
 -- children that could be missing.

@@ -1,7 +1,7 @@
 -- The names that clauses and proofs cite most, passed on from one place. Declares nothing.
 pub use Rattle.fr_arena.specs.Ropes.{Rope}
 pub use Rattle.fr_values.specs.Bases.{AreApart}
-pub use Rattle.fr_frame.specs.Bodies.{AreUnplaced, Body, HasAllChildren, HoldsNothingTwice, IsClosed, IsGrowing, IsSetBody, added, added_entry, begun_body, body_occurs, cell_at, count_cells, entered_body, keys_in, linked, opened, own_tree, reformed, restarted, takes_memory, trees_of, unlinked, value_of, whole_body, with_cell, with_ended, with_entry_for}
+pub use Rattle.fr_frame.specs.Bodies.{AreUnplaced, Body, HasAllChildren, HoldsNothingTwice, IsClosed, IsGrowing, IsSetBody, added, added_entry, begun_body, body_occurs, cell_at, count_cells, entered_body, is_conversion_body, keys_in, linked, opened, own_tree, reformed, restarted, takes_memory, trees_of, unlinked, value_of, whole_body, with_cell, with_ended, with_entry_for}
 pub use Rattle.fr_frame.specs.Asking.{HasValidators, IsAnswer, IsPlanned, IsUnfilled, ask, ask_field, ask_holes, asked, cells_or_holes, defaulted_nth, question_of, refused_of, unmet_child}
 pub use Rattle.fr_values.specs.Cells.{Cell, absent, and_item_cell, cell_occurs, cells_occur, cells_of_vals, given, placed, slot_of_cell, value_at, value_occurs, value_of_cell, values_of, without_cell}
 pub use Rattle.fr_frame.specs.Changes.{Becomes, IfInUse, IsInUse, SameTokens, Shows}
@@ -28,7 +28,7 @@ pub use Rattle.fr_model.specs.Dynamics.{dynamic_in, keys_apart, member_vals}
 pub use Rattle.fr_model.specs.Failing.{first_invalid, first_unmet, unmet_mark}
 pub use Rattle.fr_model.specs.Gathering.{entries_in, items_in}
 pub use Rattle.fr_model.specs.Places.{Column, child_count, deferred_column, entries_of, fill_of_field, in_turn, one_more, parts_of, set_items_of, strict_column}
-pub use Rattle.fr_model.specs.Trackers.{ContentKind, EntriesKind, ItemsKind, Tracker, as_content, as_elements, as_entries, as_fields, as_items}
+pub use Rattle.fr_model.specs.Trackers.{ContentKind, EntriesKind, ItemsKind, Tracker, as_content, as_elements, as_entries, as_fields, as_items, is_conversion}
 pub use Rattle.fr_model.specs.Tree.{Trees, holes}
 pub use Rattle.fr_model.specs.Well.{IsFullAs}
 pub use Rattle.fr_plan.specs.Fields.{has_validators}

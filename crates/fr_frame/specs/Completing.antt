@@ -13,7 +13,7 @@ use Rattle.fr_model.specs.Well.{IsFullAs}
 use Rattle.fr_plan.specs.declared.nodes.NodeId.{NodeId}
 use Rattle.fr_plan.specs.LookupLaws.{shape_at}
 use Rattle.fr_plan.specs.TypePlan.{Plan, IsPlanOf}
-use Rattle.fr_frame.specs.Bodies.{Body, entered_body, whole_body, begun_body, value_of, own_tree, IsClosed}
+use Rattle.fr_frame.specs.Bodies.{Body, entered_body, whole_body, begun_body, value_of, own_tree, is_conversion_body, IsClosed}
 use Rattle.fr_values.specs.Cells.{values_of}
 use Rattle.fr_frame.specs.declared.places.Slot.{Slot}
 use Rattle.fr_frame.specs.Changes.{Becomes}
@@ -35,11 +35,13 @@ IsFull table s entered_body = Unit {0}
 IsFull table s (whole_body v) = Unit {0}
 IsFull table s (begun_body tracker cells) = IsFullAs (def_of table s) tracker (length cells)
 
--- the place is built by a node of the plan, has all its children, and none of them in a slot of its own
+-- the place is built by a node of the plan, has all its children, and none of them in a slot of its own; it is no conversion, which
+-- becomes whole as its source is converted
 pub record MayComplete (table : Table) (plan : Plan) (at : Node) : Type 0 where
   pub planned : at.node.0 < length plan.nodes
   pub full : IsFull table (shape_of plan at.node) at.body
   pub closed : IsClosed at.body
+  pub unconverted : is_conversion_body at.body ≡ false
 
 -- a place of shape s makes a value by the rules of the column, and the other body holds that value
 pub record IsFilled (column : Column) (means : Meanings) (table : Table) (s : ℕ) (old new : Body) : Type 0 where

@@ -4,9 +4,11 @@ use Rattle.std.specs.Option.{option_map, option_and_then}
 use Rattle.fr_shape.specs.declared.shape.Def.{Def}
 use Rattle.fr_shape.specs.Val.{Val}
 use Rattle.fr_shape.specs.View.{view}
-use Rattle.fr_model.specs.Trackers.{Tracker as TreeTracker, as_fields, as_elements, as_content, ContentKind, as_items, ItemsKind, as_entries, EntriesKind}
+use Rattle.fr_model.specs.Trackers.{Tracker as TreeTracker, as_fields, as_elements, as_content, ContentKind, Conversion, Through, as_items, ItemsKind, as_entries, EntriesKind}
 use Rattle.fr_plan.specs.declared.nodes.NodeId.{NodeId}
 use Rattle.fr_frame.specs.declared.places.Tracker.{Tracker}
+use Rattle.fr_frame.specs.declared.places.Through.{Through as DeclaredThrough}
+use Rattle.fr_frame.specs.declared.places.Conversion.{Conversion as DeclaredConversion}
 use Rattle.fr_frame.specs.declared.places.ContentKind.{ContentKind as DeclaredContentKind}
 use Rattle.fr_frame.specs.declared.places.ItemsKind.{ItemsKind as DeclaredItemsKind}
 use Rattle.fr_frame.specs.declared.places.EntriesKind.{EntriesKind as DeclaredEntriesKind}
@@ -29,11 +31,23 @@ pub record Node : Type 0 where
 abbrev pub Heap : Type 0
 Heap = ℕ → Option Node
 
+abbrev pub as_through : DeclaredThrough → Through
+as_through DeclaredThrough.Wrapper = Through.Wrapper
+as_through DeclaredThrough.Proxy = Through.Proxy
+
+abbrev pub as_conversion : DeclaredConversion → Conversion
+as_conversion conversion = record {
+  through = as_through conversion.through;
+  hook = conversion.hook.0;
+  source = conversion.source.0;
+}
+
 abbrev pub as_content_kind : DeclaredContentKind → ContentKind
 as_content_kind DeclaredContentKind.Some = ContentKind.Some
 as_content_kind DeclaredContentKind.Ok = ContentKind.Ok
 as_content_kind DeclaredContentKind.Err = ContentKind.Err
 as_content_kind DeclaredContentKind.Pointer = ContentKind.Pointer
+as_content_kind (DeclaredContentKind.Source conversion) = ContentKind.Source (as_conversion conversion)
 
 abbrev pub as_items_kind : DeclaredItemsKind → ItemsKind
 as_items_kind DeclaredItemsKind.List = ItemsKind.List

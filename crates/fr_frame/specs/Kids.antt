@@ -7,7 +7,7 @@ use Rattle.fr_model.specs.Places.{is_key, entry_of}
 use Rattle.fr_model.specs.Trackers.{Tracker, as_fields, as_elements, as_content, ContentKind, as_items, ItemsKind, as_entries, EntriesKind, base_of_tracker}
 use Rattle.fr_model.specs.Tree.{Tree, hole, entered, whole, begun, Trees, no_trees, branch}
 use Rattle.fr_plan.specs.declared.nodes.NodeId.{NodeId}
-use Rattle.fr_plan.specs.Lookups.{struct_field, enum_variant_field, list_item, set_item, map_key, map_value, option_inner, result_sides, pointer_pointee, by_id}
+use Rattle.fr_plan.specs.Lookups.{struct_field, enum_variant_field, list_item, set_item, map_key, map_value, option_inner, result_sides, pointer_pointee, by_id, own_id}
 use Rattle.fr_plan.specs.TypePlan.{Plan}
 use Rattle.fr_frame.specs.declared.places.FrameOwner.{FrameOwner}
 use Rattle.fr_values.specs.Cells.{Cell, absent, given, placed}
@@ -106,7 +106,7 @@ slice_item_found plan node = option_and_then (by_id plan (list_item plan)) (by_i
 abbrev pub entry_node_found : Plan → NodeId → (of_key : Bool) → Option NodeId
 entry_node_found plan node of_key = if of_key then by_id plan (map_key plan) node else by_id plan (map_value plan) node
 
--- the plan's node of child i of a place that is begun so, if there is one
+-- the plan's node of child i of a place that is begun so, if there is one: of a source its shape's own
 abbrev pub child_found : Plan → NodeId → Tracker → ℕ → Option NodeId
 child_found plan node (as_fields None) i = by_id plan (λ parent. struct_field plan parent i) node
 child_found plan node as_elements i = by_id plan (list_item plan) node
@@ -115,6 +115,7 @@ child_found plan node (as_content ContentKind.Some) i = by_id plan (option_inner
 child_found plan node (as_content ContentKind.Ok) i = option_map (λ (sides : NodeId × NodeId). sides.0) (by_id plan (result_sides plan) node)
 child_found plan node (as_content ContentKind.Err) i = option_map (λ (sides : NodeId × NodeId). sides.1) (by_id plan (result_sides plan) node)
 child_found plan node (as_content ContentKind.Pointer) i = by_id plan (pointer_pointee plan) node
+child_found plan node (as_content (ContentKind.Source conversion)) i = own_id plan (record { 0 = conversion.source })
 child_found plan node (as_items ItemsKind.List) i = by_id plan (list_item plan) node
 child_found plan node (as_items ItemsKind.Slice) i = slice_item_found plan node
 child_found plan node (as_items ItemsKind.ClosedSlice) i = slice_item_found plan node
@@ -127,7 +128,7 @@ child_found plan node (as_entries (EntriesKind.Object keys)) i = Some node
 abbrev pub child_node : Plan → NodeId → Tracker → ℕ → NodeId
 child_node plan node tracker i = unwrap_or (child_found plan node tracker i) (record { 0 = 0 })
 
--- a place that is begun so may have so many children: with a content, a side or a pointee but one
+-- a place that is begun so may have so many children: with a content, a side, a pointee or a source but one
 abbrev pub MayHave : Tracker → ℕ → Type 0
 MayHave (as_fields selected) count = Unit {0}
 MayHave as_elements count = Unit {0}
@@ -177,7 +178,7 @@ abbrev mutual
   kids_occur (kid k ks) t = kid_occurs k t + kids_occur ks t
 
 -- Items of a set and parts of a dynamic value are completed as they are left, so that none of them is ever stored. What a map had when
--- it was begun isn't entered again.
+-- it was begun isn't entered again. A source is converted as it is left, so that its value is never there by itself.
 
 -- the child is there with its value
 abbrev pub IsThere : Kid → Type 0
@@ -186,7 +187,7 @@ IsThere (there v) = Unit {0}
 IsThere (at slot stored plot) = ⊥
 
 -- child i of a place that is begun so isn't stored, where it is an item of a set or a part of a dynamic value; the key and the value of
--- an entry that a map had when it was begun are there
+-- an entry that a map had when it was begun are there; the source of a conversion isn't there, but in a slot, or not there yet
 abbrev pub IsLeftRightly : Tracker → (i : ℕ) → Kid → Type 0
 IsLeftRightly (as_items ItemsKind.Set) i k = is_stored k ≡ false
 IsLeftRightly (as_entries (EntriesKind.Map base)) i k = entry_of i < base → IsThere k
@@ -194,7 +195,11 @@ IsLeftRightly (as_items ItemsKind.Array) i k = is_stored k ≡ false
 IsLeftRightly (as_entries (EntriesKind.Object keys)) i k = is_stored k ≡ false
 IsLeftRightly (as_fields selected) i k = Unit {0}
 IsLeftRightly as_elements i k = Unit {0}
-IsLeftRightly (as_content kind) i k = Unit {0}
+IsLeftRightly (as_content ContentKind.Some) i k = Unit {0}
+IsLeftRightly (as_content ContentKind.Ok) i k = Unit {0}
+IsLeftRightly (as_content ContentKind.Err) i k = Unit {0}
+IsLeftRightly (as_content ContentKind.Pointer) i k = Unit {0}
+IsLeftRightly (as_content (ContentKind.Source conversion)) i k = IsThere k → ⊥
 IsLeftRightly (as_items ItemsKind.List) i k = Unit {0}
 IsLeftRightly (as_items ItemsKind.Slice) i k = Unit {0}
 IsLeftRightly (as_items ItemsKind.ClosedSlice) i k = Unit {0}

@@ -5,6 +5,7 @@ pub mod Changes
 pub mod Closed
 pub mod Common
 pub mod Completing
+pub mod Converting
 pub mod Defaults
 pub mod FieldDefaults
 pub mod Filling

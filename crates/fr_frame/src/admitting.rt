@@ -1,7 +1,7 @@
 //! Which children of a place may be entered, and why others may not.
 ghost use Rattle.std.specs.Prelude.{◌≡◌};
 ghost use Rattle.fr_frame.specs.Admitting.{Describes};
-ghost use Rattle.fr_frame.specs.Common.{IfOk, IsFullAs, None, Some, as_fields, as_tracker, body_of, def_of, field_in, own_tree, ℕ};
+ghost use Rattle.fr_frame.specs.Common.{IfOk, IsFullAs, None, Some, as_fields, as_tracker, body_of, def_of, false, field_in, is_conversion, own_tree, ℕ};
 ghost use Rattle.fr_model.specs.Step.{field_refusal, named_refusal};
 ghost use Rattle.fr_model.specs.Tree.{selected};
 ghost use Rattle.std.specs.Result.{result_err};
@@ -84,6 +84,8 @@ fn variant_opening(
 ) -> Result<Opening, Operation>
     ensures full { IfOk result (λ opening.
         IsFullAs (TheDef.Enum described.now) (as_tracker opening.tracker) opening.count) }
+    ensures plain { IfOk result (λ opening.
+        is_conversion (as_tracker opening.tracker) ≡ false) }
     ensures variant { IfOk result (λ opening.
         (k : ℕ) → as_tracker opening.tracker ≡ as_fields (Some k) → variant ≡ Some k) }
     ensures refused { result_err result

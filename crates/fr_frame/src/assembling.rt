@@ -71,6 +71,7 @@ fn value_of_box(tracker: &Tracker, held: Box<Value>) -> Value
         Tracker::Content(ContentKind::Ok) => Value::Ok(held),
         Tracker::Content(ContentKind::Err) => Value::Err(held),
         Tracker::Content(ContentKind::Pointer) => Value::Ptr(held),
+        Tracker::Content(ContentKind::Source(_)) => Box::into_inner(held),
         Tracker::Items(ItemsKind::Slice | ItemsKind::ClosedSlice) => Value::Ptr(held),
         Tracker::Items(ItemsKind::List | ItemsKind::Set | ItemsKind::Array) => unreachable!(),
         Tracker::Fields(_) | Tracker::Elements | Tracker::Entries(_) => unreachable!(),

@@ -1,7 +1,7 @@
 //! Completing one place by itself: what it lacks is found first, and then its holes take copies of
 //! their templates.
 ghost use Rattle.std.specs.Prelude.{◌<◌, ◌≡◌, ◌≢◌, ◌⊎◌};
-ghost use Rattle.fr_frame.specs.Common.{Becomes, FillsAt, IfErr, IfInUse, IsChecked, IsClosed, IsClosedAt, IsFull, IsInUse, IsPlanFor, IsUnfilled, KeepsTracker, MayComplete, None, OnOk, SameTokens, Shows, WhyNot, asked, body_occurs, body_of, column_of, defaulted, heap_of, length, question_of, shape_of, strict_column, ℕ};
+ghost use Rattle.fr_frame.specs.Common.{Becomes, FillsAt, IfErr, IfInUse, IsChecked, IsClosed, IsClosedAt, IsFull, IsInUse, IsPlanFor, IsUnfilled, KeepsTracker, MayComplete, None, OnOk, SameTokens, Shows, WhyNot, asked, body_occurs, body_of, column_of, defaulted, false, heap_of, is_conversion_body, length, question_of, shape_of, strict_column, ℕ};
 ghost use Rattle.fr_shape.specs.declared.error.ReflectErrorKind.{ReflectErrorKind as Kind};
 
 use crate::field_plans::FillColumn;
@@ -40,6 +40,7 @@ fn fill_partial<H: Hooks>(
     requires inside { node.0 < length plan.now.nodes }
     requires full { IsFull table.now (shape_of plan.now node) (body_of partial.old) }
     requires closed { IsClosed (body_of partial.old) }
+    requires unconverted { is_conversion_body (body_of partial.old) ≡ false }
     ensures filled { OnOk result (body_of partial.new ≡ defaulted (column_of column) table.now
         (shape_of plan.now node) (body_of partial.old)) }
     ensures met { OnOk result (asked (question_of column) (H.means hooks.now) table.now

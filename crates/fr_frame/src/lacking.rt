@@ -1,7 +1,7 @@
 //! What a place lacks whose children are given or not there. Only what is said of a value that
 //! fails takes memory.
 ghost use Rattle.std.specs.Prelude.{◌<◌, ◌≡◌};
-ghost use Rattle.fr_frame.specs.Common.{IfErr, IfSome, IsAnswer, IsCauseOf, IsChecked, IsFull, IsFullAs, IsNamed, IsPlanFor, IsSome, IsTold, Meanings, None, OnErr, OnOk, Some, Table, Tracker, Val, as_fields, ask, ask_field, ask_holes, asked, body_of, cells_or_holes, child_count, def_of, entered_body, field_at, field_fill, fields_of_tracker, first_asked, first_refused, length, missing_value, option_copied, option_map, option_or, shape_of, strict_column, true, unmet_mark, value_at, values_of, view, ℕ};
+ghost use Rattle.fr_frame.specs.Common.{IfErr, IfSome, IsAnswer, IsCauseOf, IsChecked, IsFull, IsFullAs, IsNamed, IsPlanFor, IsSome, IsTold, Meanings, None, OnErr, OnOk, Some, Table, Tracker, Val, as_fields, ask, ask_field, ask_holes, asked, body_of, cells_or_holes, child_count, def_of, entered_body, field_at, field_fill, false, fields_of_tracker, first_asked, first_refused, is_conversion, is_conversion_body, length, missing_value, option_copied, option_map, option_or, shape_of, strict_column, true, unmet_mark, value_at, values_of, view, ℕ};
 ghost use Rattle.fr_frame.specs.declared.lacking.Question.{Question as Asking};
 
 use crate::field_plans::{FillColumn, fill_of, has_validators, plans_of_fields};
@@ -328,7 +328,7 @@ fn test_all_there(
 }
 
 /// Asks this of a place whose children are no fields, each given or not there: all have to be there
-/// in the end.
+/// in the end. It is no conversion.
 fn test_others(
     plan: &TypePlanCore,
     node: NodeId,
@@ -337,11 +337,13 @@ fn test_others(
 ) -> Result<(), ReflectErrorKind>
     requires inside { node.0 < length plan.now.nodes }
     ensures passing { OnOk result ((means : Meanings) (table : Table) (tracker : Tracker)
-        → fields_of_tracker tracker ≡ None → first_asked (ask question means table
-        (shape_of plan.now node) tracker) 0 children.now ≡ None) }
+        → fields_of_tracker tracker ≡ None → is_conversion tracker ≡ false
+        → first_asked (ask question means table (shape_of plan.now node) tracker) 0 children.now
+        ≡ None) }
     ensures failing { IfErr result (λ kind. (means : Meanings) (table : Table) (tracker : Tracker)
-        → fields_of_tracker tracker ≡ None → first_asked (ask question means table
-        (shape_of plan.now node) tracker) 0 children.now ≡ Some kind) }
+        → fields_of_tracker tracker ≡ None → is_conversion tracker ≡ false
+        → first_asked (ask question means table (shape_of plan.now node) tracker) 0 children.now
+        ≡ Some kind) }
 {
     match question {
         Question::Marks => Ok(()),
@@ -365,6 +367,7 @@ pub(crate) fn test_partial<H: Hooks>(
     requires planned { IsPlanFor table.now plan.now }
     requires inside { node.0 < length plan.now.nodes }
     requires full { IsFull table.now (shape_of plan.now node) (body_of partial.now) }
+    requires unconverted { is_conversion_body (body_of partial.now) ≡ false }
     ensures passing { OnOk result (asked question (H.means hooks.now) table.now
         (shape_of plan.now node) (body_of partial.now) ≡ None) }
     ensures failing { IfErr result (IsAnswer question (asked question (H.means hooks.now) table.now

@@ -9,6 +9,7 @@ mod admitting;
 mod assembling;
 mod changing;
 mod completing;
+mod converting;
 mod defaulting;
 mod draining;
 mod entering;
@@ -34,7 +35,7 @@ pub use admitting::{
 pub use field_defaults::default_in;
 pub use fr_values::{Children, Keys};
 pub use places::{
-    ChildWay, ContentKind, EntriesKind, FrameOwner, Item, ItemsKind, PartialValue, Place, Slot,
-    SlotId, Taker, Tracker,
+    ChildWay, ContentKind, Conversion, EntriesKind, FrameOwner, Item, ItemsKind, PartialValue,
+    Place, Slot, SlotId, Taker, Through, Tracker,
 };
 pub use slots::Slots;

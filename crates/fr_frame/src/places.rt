@@ -8,7 +8,7 @@ ghost use Rattle.fr_model.specs.Trackers.{EntriesKind as TreeEntriesKind};
 use fr_arena::{Idx, ListRope};
 use fr_path::PathStep;
 use fr_plan::NodeId;
-use fr_shape::{OutOfMemory, Text, Value};
+use fr_shape::{HookId, OutOfMemory, ShapeId, Text, Value};
 use fr_values::{Children, Keys};
 use std::alloc::Global;
 
@@ -39,14 +39,30 @@ pub enum FrameOwner {
     Child(SlotId, u32),
 }
 
-/// Around what a place is begun: the content of an option, of either side of a result, or what a
-/// pointer points to.
+/// What a place is converted through: the wrapper that its shape is, or a proxy.
+#[derive(Clone, Copy)]
+pub enum Through {
+    Wrapper,
+    Proxy,
+}
+
+/// A conversion: what it goes through, the hook that makes it, and the shape of its source.
+#[derive(Clone, Copy)]
+pub struct Conversion {
+    pub through: Through,
+    pub hook: HookId,
+    pub source: ShapeId,
+}
+
+/// Around what a place is begun: the content of an option, of either side of a result, what a
+/// pointer points to, or the source of a conversion.
 #[derive(Clone, Copy)]
 pub enum ContentKind {
     Some,
     Ok,
     Err,
     Pointer,
+    Source(Conversion),
 }
 
 /// Whose items a place has: a list's, those of a pointer to a slice, which is open for more of them
@@ -94,6 +110,33 @@ fn entry_step(base: u32, i: u32) -> PathStep
     }
 }
 
+impl Through {
+    ghost use Rattle.fr_model.specs.Paths.{step_through};
+    ghost use Rattle.fr_model.specs.Trackers.{number_through};
+    ghost use Rattle.fr_frame.specs.Heap.{as_through};
+
+    /// The step to the source of a conversion through this.
+    fn step(self) -> PathStep
+        ensures { result ≡ step_through (as_through self) }
+    {
+        match self {
+            Through::Wrapper => PathStep::Inner,
+            Through::Proxy => PathStep::Proxy,
+        }
+    }
+
+    /// A number for each, behind those of the other ways in which a place without variants is
+    /// begun.
+    fn number(self) -> u64
+        ensures { result ≡ number_through (as_through self) }
+    {
+        match self {
+            Through::Wrapper => 13,
+            Through::Proxy => 14,
+        }
+    }
+}
+
 impl EntriesKind {
     ghost use Rattle.fr_model.specs.Trackers.{keys_of_tracker, same_keys};
     ghost use Rattle.fr_frame.specs.Heap.{as_entries_kind};
@@ -112,15 +155,17 @@ impl EntriesKind {
 
 impl Tracker {
     ghost use Rattle.fr_model.specs.DynamicPlaces.{is_object_tracker};
-    ghost use Rattle.fr_model.specs.Trackers.{base_of_tracker, keys_of_tracker, tracker_number, same_keys, same_tracker};
+    ghost use Rattle.fr_model.specs.Trackers.{base_of_tracker, hook_of_tracker, keys_of_tracker, source_of_tracker, tracker_number, same_keys, same_tracker};
     ghost use Rattle.fr_frame.specs.Bodies.{boxes, gathers};
-    ghost use Rattle.fr_frame.specs.Heap.{as_tracker, fields_of_tracker};
+    ghost use Rattle.fr_frame.specs.Common.{option_map};
+    ghost use Rattle.fr_frame.specs.Converting.{conversion_of};
+    ghost use Rattle.fr_frame.specs.Heap.{as_conversion, as_tracker, fields_of_tracker};
     ghost use Rattle.fr_frame.specs.ListItems.{keeps_items};
     ghost use Rattle.fr_frame.specs.Outlines.{has_items};
 
-    /// The step to child `i` of a place that is begun so. A content, a side or a pointee is child
-    /// 0; of a map's children each other one is a key, before its value. Only the step to an entry
-    /// of an object takes memory, for its key.
+    /// The step to child `i` of a place that is begun so. A content, a side, a pointee or a source
+    /// is child 0; of a map's children each other one is a key, before its value. Only the step to
+    /// an entry of an object takes memory, for its key.
     pub fn step(&self, alloc: Global, i: u32) -> Result<PathStep, OutOfMemory>
         ensures step { IfOk result (λ step. step ≡ step_as (as_tracker self.now) i) }
         ensures memory { is_object_tracker (as_tracker self.now) ≡ false → IsOk result }
@@ -132,6 +177,7 @@ impl Tracker {
             Tracker::Content(ContentKind::Ok) => PathStep::ResultOk,
             Tracker::Content(ContentKind::Err) => PathStep::ResultErr,
             Tracker::Content(ContentKind::Pointer) => PathStep::Deref,
+            Tracker::Content(ContentKind::Source(conversion)) => conversion.through.step(),
             Tracker::Items(ItemsKind::Set) => PathStep::SetItem,
             Tracker::Items(
                 ItemsKind::List | ItemsKind::Slice | ItemsKind::ClosedSlice | ItemsKind::Array,
@@ -159,7 +205,8 @@ impl Tracker {
             Tracker::Entries(EntriesKind::Map(_)) => 10,
             Tracker::Items(ItemsKind::Array) => 11,
             Tracker::Entries(EntriesKind::Object(_)) => 12,
-            Tracker::Fields(Some(k)) => 13 + *k as u64,
+            Tracker::Content(ContentKind::Source(conversion)) => conversion.through.number(),
+            Tracker::Fields(Some(k)) => 15 + *k as u64,
         }
     }
 
@@ -171,6 +218,41 @@ impl Tracker {
             Tracker::Entries(EntriesKind::Map(base)) => *base,
             Tracker::Entries(EntriesKind::Object(_)) => 0,
             Tracker::Fields(_) | Tracker::Elements | Tracker::Content(_) | Tracker::Items(_) => 0,
+        }
+    }
+
+    /// The conversion as which a place is begun, if it is one.
+    pub(crate) fn conversion(&self) -> Option<Conversion>
+        ensures { option_map as_conversion result ≡ conversion_of (as_tracker self.now) }
+    {
+        match self {
+            Tracker::Content(ContentKind::Source(conversion)) => Some(*conversion),
+            Tracker::Content(
+                ContentKind::Some | ContentKind::Ok | ContentKind::Err | ContentKind::Pointer,
+            ) => None,
+            Tracker::Fields(_) | Tracker::Elements | Tracker::Items(_) | Tracker::Entries(_) => {
+                None
+            }
+        }
+    }
+
+    /// The number of a conversion's hook.
+    fn hook(&self) -> u32
+        ensures { result ≡ hook_of_tracker (as_tracker self.now) }
+    {
+        match self.conversion() {
+            Some(conversion) => conversion.hook.0,
+            None => 0,
+        }
+    }
+
+    /// The number of the shape of a conversion's source.
+    fn source(&self) -> u32
+        ensures { result ≡ source_of_tracker (as_tracker self.now) }
+    {
+        match self.conversion() {
+            Some(conversion) => conversion.source.0,
+            None => 0,
         }
     }
 
@@ -191,7 +273,11 @@ impl Tracker {
         requires keyless { keys_of_tracker (as_tracker other.now) ≡ [] }
         ensures same { result ≡ same_tracker (as_tracker self.now) (as_tracker other.now) }
     {
-        !self.has_keys() && self.base() == other.base() && self.number() == other.number()
+        !self.has_keys()
+            && self.base() == other.base()
+            && self.hook() == other.hook()
+            && self.source() == other.source()
+            && self.number() == other.number()
     }
 
     /// Whether what is made of a place that is begun so holds a box.

@@ -183,9 +183,9 @@ pub(crate) fn children_of(
         Tracker::Entries(EntriesKind::Map(_)) => children_of_map(alloc, value),
         Tracker::Entries(EntriesKind::Object(_)) => children_of_object(alloc, value),
         Tracker::Fields(Some(_)) => unreachable!(),
-        Tracker::Content(ContentKind::Ok | ContentKind::Err | ContentKind::Pointer) => {
-            unreachable!()
-        }
+        Tracker::Content(
+            ContentKind::Ok | ContentKind::Err | ContentKind::Pointer | ContentKind::Source(_),
+        ) => unreachable!(),
         Tracker::Items(ItemsKind::Slice | ItemsKind::ClosedSlice) => unreachable!(),
     }
 }

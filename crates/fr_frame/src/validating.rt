@@ -1,7 +1,7 @@
 //! Running the validators of a place whose children are all there. What a plan says of its fields
 //! is read without a table, and holds for every table that it is a plan of.
 ghost use Rattle.std.specs.Prelude.{◌≡◌};
-ghost use Rattle.fr_frame.specs.Common.{HasAllChildren, HasValidators, IfErr, IsCauseOf, IsChecked, IsPlanFor, IsPlanned, IsSome, None, OnOk, Table, as_fields, body_of, first_invalid, invalid, option_copied, option_map, refused_of, shape_of, slice_get, trees_of, values_of, view};
+ghost use Rattle.fr_frame.specs.Common.{HasAllChildren, HasValidators, IfErr, IsCauseOf, IsChecked, IsPlanFor, IsPlanned, IsSome, None, OnOk, Table, as_fields, body_of, false, first_invalid, invalid, is_conversion_body, option_copied, option_map, refused_of, shape_of, slice_get, trees_of, values_of, view};
 
 use crate::field_plans::{fields_told, has_validators};
 use crate::lacking::run_validators;
@@ -73,7 +73,7 @@ fn test_values<H: Hooks>(
 }
 
 /// Runs the validators of the fields of a place. Only a begun struct or variant has any. Where no
-/// field has any, no child is looked at.
+/// field has any, no child is looked at. The place is no conversion.
 pub(crate) fn test_valid<H: Hooks>(
     alloc: Global,
     plan: &TypePlanCore,
@@ -84,9 +84,10 @@ pub(crate) fn test_valid<H: Hooks>(
     requires planned { IsPlanned plan.now node }
     requires there { HasAllChildren (body_of partial.now) }
     ensures passing { OnOk result ((table : Table) → IsChecked table → IsPlanFor table plan.now
+        → is_conversion_body (body_of partial.now) ≡ false
         → invalid (H.means hooks.now) table (shape_of plan.now node) (body_of partial.now) ≡ None) }
     ensures failing { IfErr result (λ kind. (table : Table) → IsChecked table
-        → IsPlanFor table plan.now
+        → IsPlanFor table plan.now → is_conversion_body (body_of partial.now) ≡ false
         → IsCauseOf (invalid (H.means hooks.now) table (shape_of plan.now node)
         (body_of partial.now)) kind) }
 {

@@ -1,6 +1,6 @@
 use Rattle.std.proofs.Common.{◌≡◌, ℕ, List, Option, Some, None, inl, refl, sym, ◌∙◌, ap, subst}
 use Rattle.std.proofs.lemmas.Result.{on_ok_weaker, IfErr-weaker}
-use Rattle.fr_frame.specs.Common.{Cell, IfErr, IsAnswer, Meanings, OnOk, PartialValue, Question, ReflectErrorKind, Table, Tracker, as_fields, as_tracker, ask, asked, begun_body, body_of, first_asked, shape_of}
+use Rattle.fr_frame.specs.Common.{Cell, IfErr, IsAnswer, Meanings, OnOk, PartialValue, Question, ReflectErrorKind, Table, Tracker, as_fields, as_tracker, ask, asked, begun_body, body_of, false, first_asked, is_conversion, is_conversion_body, shape_of}
 use Rattle.fr_frame.proofs.AskLaws.{lack_is, unmet_is}
 use Rattle.fr_frame.proofs.TrackerLaws.{fields_are}
 use Rattle.fr_frame.proofs.lacking.test_partial.Goals as goal
@@ -47,10 +47,12 @@ returns-in-None g c =
     let table = c.args.table.now in
     let tracker = as_tracker c.in-Begun.tracker in
     let is = asked_partial question means table (shape_of c.args.plan.now c.args.node) c.in-Begun.is in
+    let plain : is_conversion tracker ≡ false
+    = ap (λ (p : PartialValue). is_conversion_body (body_of p)) (sym c.in-Begun.is) ∙ c.requires.unconverted in
     record {
-      passing = on_ok_weaker c.test_others.result (λ h. is ∙ h means table tracker (sym c.in-None.ensures))
+      passing = on_ok_weaker c.test_others.result (λ h. is ∙ h means table tracker (sym c.in-None.ensures) plain)
           c.test_others.ensures.passing;
       failing = IfErr-weaker c.test_others.result _ _ (λ kind h. answers question _ kind
-          (is ∙ h means table tracker (sym c.in-None.ensures)))
+          (is ∙ h means table tracker (sym c.in-None.ensures) plain))
           c.test_others.ensures.failing;
     }

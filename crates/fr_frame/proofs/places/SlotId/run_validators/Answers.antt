@@ -36,7 +36,7 @@ returns-clause-passing g c =
     on_ok_weaker c.test_valid.result (λ passing. of_node found place (λ (at : Node). (table : Table) → IsChecked table
     → IsPlanFor table c.args.plan.now → MayComplete table c.args.plan.now at
     → invalid (g.H.Hooks.means c.args.hooks.now) table (shape_of c.args.plan.now at.node) at.body ≡ None) there
-    (λ table checked planned may. passing table checked planned)) c.test_valid.ensures.passing
+    (λ table checked planned may. passing table checked planned may.unconverted)) c.test_valid.ensures.passing
 
 pub returns-clause-failing : goal.returns-clause-failing
 returns-clause-failing g c =
@@ -46,4 +46,4 @@ returns-clause-failing g c =
     IfErr-weaker c.test_valid.result _ _ (λ kind failing. of_node found place (λ (at : Node). (table : Table) → IsChecked table
     → IsPlanFor table c.args.plan.now → MayComplete table c.args.plan.now at
     → IsCauseOf (invalid (g.H.Hooks.means c.args.hooks.now) table (shape_of c.args.plan.now at.node) at.body) kind) there
-    (λ table checked planned may. failing table checked planned)) c.test_valid.ensures.failing
+    (λ table checked planned may. failing table checked planned may.unconverted)) c.test_valid.ensures.failing
