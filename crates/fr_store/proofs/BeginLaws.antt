@@ -1,6 +1,6 @@
 -- Laws of beginning the top, for proofs.
 use Rattle.std.proofs.Common.{◌≡◌, ℕ, zero, suc, ◌+◌, ◌≤◌, List, [], ◌∷◌, length, replicate, false, Option, Some, None, refl, sym, ◌∙◌, ap, subst, arith}
-use Rattle.fr_store.specs.Common.{AllStayPut, AreLeftAll, AreLeftIn, AreUnplaced, Cell, ContentKind, Entries, EntriesKind, IsClosed, IsLast, IsOpen, IsOpenAt, KeepsChildren, Kid, Kids, LosesNone, MayHave, MayHaveIts, Place, Plan, Plot, Shows, Slot, Tracker, Tree, Trees, Val, Vals, absent, as_content, as_entries, at, base_in, base_of_tracker, begun, begun_body, begun_plot, body_in, branch, cells_in, cells_of_vals, change_at, count_entries, count_vals, cursor_in, entered_plot, entries_of, entry, entry_of, first, given, gone, heap_of, hole, holes, in_turn, keeps_closed, keeps_same, kid, kid_here, kid_shown, left_past, left_value, map_of, no_base, no_entries, no_kids, no_vals, open_reach, open_top, opened, opened_as, opened_by, opened_value, over_base, parts_as, some, there, top_changed, top_stands, tree_change_at, tree_in, tree_in_slots, tree_of, tree_of_at, tree_put_at, trees_in, whole, whole_plot, wholes, with_body}
+use Rattle.fr_store.specs.Common.{AllStayPut, AreLeftAll, AreLeftIn, AreUnplaced, Cell, ContentKind, Entries, EntriesKind, IsClosed, IsLast, IsOpen, IsOpenAt, KeepsChildren, Kid, Kids, LosesNone, MayHave, MayHaveIts, Place, Plan, Plot, Shows, Slot, Tracker, Tree, Trees, Val, Vals, absent, as_content, as_entries, at, base_in, base_of_tracker, begun, begun_body, begun_plot, body_in, branch, cells_in, cells_of_vals, change_at, count_entries, count_vals, cursor_in, entered_plot, entries_of, entry, entry_of, first, given, gone, heap_of, hole, holes, in_turn, is_conversion, keeps_closed, keeps_same, kid, kid_here, kid_shown, left_gone, left_value, map_of, no_base, no_entries, no_kids, no_vals, open_reach, open_top, opened, opened_as, opened_by, opened_value, over_base, parts_as, some, there, top_changed, top_stands, tree_change_at, tree_in, tree_in_slots, tree_of, tree_of_at, tree_put_at, trees_in, whole, whole_plot, wholes, with_body}
 use Rattle.fr_store.proofs.StayLaws.{stay_all, stay_shown}
 
 abbrev pub gones : ℕ → Kids
@@ -84,15 +84,15 @@ gones_may tracker count may = subst (λ (n : ℕ). MayHave tracker n) (sym (gone
 pub gones_left : (tracker : Tracker) (i count : ℕ) → base_of_tracker tracker ≡ 0 → AreLeftAll tracker i (gones count)
 gones_left tracker i zero none = no_base tracker i none
 gones_left tracker i (suc count) none =
-    (left_past tracker i gone (no_base tracker i none) refl, tt, gones_left tracker (suc i) count none)
+    (left_gone tracker i (no_base tracker i none), tt, gones_left tracker (suc i) count none)
 
 pub theres_left : (tracker : Tracker) (i : ℕ) (vs : Vals) {m : ℕ} → m ≡ i + count_vals vs → base_of_tracker tracker ≤ entry_of m
-    → AreLeftAll tracker i (theres vs)
-theres_left tracker i no_vals {m} e past =
+    → is_conversion tracker ≡ false → AreLeftAll tracker i (theres vs)
+theres_left tracker i no_vals {m} e past plain =
     let same : m ≡ i = omega arith in
     subst (λ (n : ℕ). base_of_tracker tracker ≤ entry_of n) same past
-theres_left tracker i (first v vs) {m} e past
-    = (left_value tracker i v, tt, theres_left tracker (suc i) vs {m = m} (omega arith) past)
+theres_left tracker i (first v vs) {m} e past plain
+    = (left_value tracker i v plain, tt, theres_left tracker (suc i) vs {m = m} (omega arith) past plain)
 
 -- a map that holds a value is begun over its entries
 turn_count : (es : Entries) → entry_of (count_vals (in_turn es)) ≡ count_entries es
@@ -112,6 +112,13 @@ over_base_past : (tracker : Tracker) (v : Val) {vs : Vals} → parts_as tracker 
 over_base_past (as_entries (EntriesKind.Map base)) v {vs} e = entries_base v e
 over_base_past _ v e = omega arith
 
+-- no value has parts for a conversion
+over_base_plain : (tracker : Tracker) (v : Val) {vs : Vals} → parts_as tracker v ≡ Some vs → is_conversion (over_base tracker v) ≡ false
+over_base_plain (as_content (ContentKind.Source conversion)) v {vs} e = absurd (cc)
+over_base_plain (as_entries (EntriesKind.Map base)) v {vs} e = refl
+over_base_plain (as_entries (EntriesKind.Object keys)) v {vs} e = refl
+over_base_plain _ v {vs} e = refl
+
 opened_keeps : (tracker : Tracker) (count : ℕ) (plot : Plot) → MayHave tracker count → base_of_tracker tracker ≡ 0
     → KeepsChildren plot (opened_plot tracker count plot)
 opened_keeps tracker count entered_plot may none =
@@ -127,6 +134,7 @@ opened_keeps tracker count (whole_plot v) may none =
 
     left : (parts : Option Vals) → parts_as tracker v ≡ parts → AreLeftIn (opened_whole tracker v parts)
     left (Some vs) e = theres_left (over_base tracker v) 0 vs {m = count_vals vs} (omega arith) (over_base_past tracker v e)
+        (over_base_plain tracker v e)
     left None e = tt
 
     go : (parts : Option Vals) → IsClosed (body_in (opened_whole tracker v parts))

@@ -1,19 +1,23 @@
 -- The turns of the places that lie beneath the one at which a builder works, one after another.
-use Rattle.std.proofs.Common.{◌≡◌, ◌≢◌, ◌↔◌, ℕ, zero, suc, ◌+◌, ◌<◌, ◌≤◌, drop, get_or, length, true, false, List, [], ◌∷◌, ◌++◌, append-nil, Some, refl, sym, ◌∙◌, ap, ap₂, subst, arith}
-use Rattle.fr_store.specs.Common.{AllMarked, AtCursor, Contains, EachFailureHasItsPlace, Failure, FirstByWalkIs, FrameOwner, HasTurned, IsChecked, IsClosed, IsHeldUpHere, IsKept, IsLackingAt, IsLast, IsOpen, IsPlaced, IsStoredAt, IsWalk, KeepsTheRest, Kid, Kids, LackingFails, Leads, MayTurn, Meanings, Node, PathStep, Place, Plan, Reaches, ReflectErrorKind, Slot, StayPutButBeneath, Suits, Table, Top, Tree, at, begun_plot, body_in, closed_at, cursor_in, first_by_walk, heap_of, kid, kid_at, kid_here, kid_nth, kid_on_top, leads_at, marked, no_kids, open_reach, open_top, own_lack, put_at, put_nth, root_shape, shape_in, slot_at, slot_here, so_top, steps_in, stored_here, stored_in, strict, there, tree_at, tree_here, tree_in_slots, tree_of, tree_of_at, tree_put_at, uses, uses_at}
+use Rattle.std.proofs.Common.{◌≡◌, ◌≢◌, ◌↔◌, Bool, inl, inr, ℕ, zero, suc, ◌+◌, ◌<◌, ◌≤◌, drop, get_or, length, true, false, List, [], ◌∷◌, ◌++◌, append-nil, Some, None, refl, sym, ◌∙◌, ap, ap₂, subst, arith}
+use Rattle.fr_store.specs.Common.{AllMarked, AtCursor, Contains, EachFailureHasItsPlace, Failure, FirstByWalkIs, FrameOwner, HasTurned, IsChecked, IsClosed, IsHeldUpHere, IsKept, IsLackingAt, IsLast, IsLawful, IsOpen, IsPlaced, IsStoredAt, IsSuited, IsWalk, KeepsTheRest, Kid, Kids, LackingFails, Leads, MayTurn, Meanings, Node, PathStep, Place, Plan, Reaches, ReflectErrorKind, Slot, StayPutButBeneath, Suits, Table, Top, Tree, at, begun_plot, body_in, closed_at, cursor_in, deferred_column, done_at, first_by_walk, heap_of, is_begun_conversion, kid, kid_at, kid_here, kid_nth, kid_on_top, leads_at, left_at, marked, no_kids, open_reach, open_top, own_lack, put_at, put_nth, root_shape, shape_in, slot_at, slot_here, so_top, steps_in, stored_here, stored_in, strict, tree_at, tree_here, tree_in_slots, tree_of, tree_of_at, tree_put_at, turn_of, up, uses, uses_at}
 use Rattle.std.proofs.lemmas.List.{drop_more}
 use Rattle.fr_store.specs.MoveLaws.{top_node}
 use Rattle.fr_model.specs.Failing.{failures}
-use Rattle.fr_model.specs.FinishLaws.{Closes, ClosingKeepsFinish}
+use Rattle.fr_model.specs.Complete.{complete}
+use Rattle.fr_model.specs.FinishLaws.{Closes, ClosingKeepsCompletion, ClosingKeepsFailuresOff, ClosingKeepsFinish}
+use Rattle.std.specs.Prelude.{if◌then◌else◌}
 use Rattle.fr_model.specs.Laws.{CompletesOrFails, CompletingFits}
 use Rattle.fr_store.specs.Beneath.{IsCompleteBeneath, completed_beneath, shape_here}
-use Rattle.fr_store.proofs.ClosingLaws.{closes_with, shape_append, tree_append}
+use Rattle.fr_store.proofs.ClosingLaws.{closes_with, shape_append, suits_at, tree_append}
 use Rattle.fr_store.specs.TopLaws.{closed_by_marks}
 use Rattle.fr_store.specs.Turns.{CompletesAsBefore}
 use Rattle.fr_store.specs.WayLaws.{put_at_twice}
-use Rattle.fr_store.proofs.BeneathMeant.{nothing_left, same_within}
+use Rattle.fr_store.proofs.BeneathMeant.{IsUnder, nothing_left, same_within}
 use Rattle.fr_store.proofs.FailLaws.{cause_is, fails_beneath, none_made}
-use Rattle.fr_store.proofs.DueLaws.{due, head as due_head, kid_next, left_next, only_here, part_next, same as due_same, stored as due_stored, suits_next}
+use Rattle.fr_store.proofs.DueLaws.{done_has, done_same, due, due_at, due_kid, head as due_head, kid_next, left_next, only_here, part_next, same as due_same, stored as due_stored, suits_next}
+use Rattle.fr_store.proofs.FailTurns.{turn_within}
+use Rattle.fr_store.proofs.PlainLaws.{plain_at}
 use Rattle.fr_store.proofs.HeadLaws.{Head}
 use Rattle.fr_store.proofs.HeldLaws.{closed_cursor, first_fails, walk_over}
 use Rattle.fr_store.proofs.KeptLaws.{kept_but}
@@ -38,6 +42,18 @@ put_same (i ∷ place) (at slot stored (begun_plot tracker kids)) reach =
     ∙ ap (λ (ks : Kids). at slot stored (begun_plot tracker ks)) (put_nth_same i kids)
 put_same (i ∷ place) _ reach = absurd reach
 
+-- the place that is done at a turn beneath a place lies beneath it, or is that place and a conversion
+done_under : (here : Place) (tree : Tree) → here ≢ [] → IsUnder (done_at here tree) tree
+done_under here tree low = go (is_begun_conversion (tree_at (up here) tree)) refl
+  where
+    above : (p : Place) → is_begun_conversion (tree_at p tree) ≡ true → IsUnder p tree
+    above [] e = inr e
+    above (i ∷ p) e = inl (λ same. cc)
+
+    go : (b : Bool) → is_begun_conversion (tree_at (up here) tree) ≡ b → IsUnder (if b then up here else here) tree
+    go false e = inl low
+    go true e = above (up here) e
+
 -- The place on top of an open builder, and what lies beneath it.
 module _ {plan : Plan} {slots : List Slot} {stack : List ℕ} (open_now : IsOpen plan slots stack) where
   pub leads_on_top : Leads [] (kid_on_top slots stack)
@@ -58,7 +74,7 @@ module _ {plan : Plan} {slots : List Slot} {stack : List ℕ} (open_now : IsOpen
 pub record WalkedBeneath (means : Meanings) (table : Table) (plan : Plan) (before : List Slot) (stack : List ℕ) (now : List Slot) (rest : List ℕ) : Type 0 where
   pub still : IsOpen plan now stack
   pub cursor : cursor_in now stack ≡ cursor_in before stack
-  pub suits : Suits table (root_shape plan) (tree_in_slots now stack)
+  pub suits : IsSuited table (root_shape plan) (tree_in_slots now stack)
   pub left : IsWalk (kid_on_top now stack) rest
   pub beside : kid_here now stack ≡ put_at (cursor_in before stack) (kid_on_top now stack) (kid_here before stack)
   pub here :
@@ -69,7 +85,7 @@ pub record WalkedBeneath (means : Meanings) (table : Table) (plan : Plan) (befor
       ≡ completed_beneath means table (shape_here table plan before stack) (tree_here before stack)
 
 pub beneath_begins : {means : Meanings} {table : Table} {plan : Plan} {before : List Slot} {stack walk : List ℕ}
-    → IsOpen plan before stack → Suits table (root_shape plan) (tree_in_slots before stack) → IsWalk (kid_on_top before stack) walk
+    → IsOpen plan before stack → IsSuited table (root_shape plan) (tree_in_slots before stack) → IsWalk (kid_on_top before stack) walk
     → WalkedBeneath means table plan before stack before walk
 beneath_begins {plan} {before} {stack} open_first suits left = record {
   still = open_first;
@@ -127,8 +143,12 @@ module _ {means : Meanings} {table : Table} {plan : Plan} {before : List Slot} {
       same : turned.place ≡ here
       same = due_same walked.still (cursor_in now stack) [] on walked.left turned
 
+      -- the place that is done then
+      abbrev at_place : Place
+      at_place = due_at walked.still (cursor_in now stack) [] on walked.left
+
       abbrev new : Kid
-      new = put_at head.place (there turned.value) (kid_on_top now stack)
+      new = put_at at_place (due_kid walked.still (cursor_in now stack) [] on walked.left turned.value) (kid_on_top now stack)
 
       top_next : kid_on_top next stack ≡ new
       top_next =
@@ -149,31 +169,40 @@ module _ {means : Meanings} {table : Table} {plan : Plan} {before : List Slot} {
           (open_reach open_first)
           ∙ ap (λ (y : Kid). put_at (cursor_in before stack) y (kid_here before stack)) (sym top_next)
 
-      -- the same is to come of what lies at the top
-      meant_next : ClosingKeepsFinish → completed_beneath means table (shape_here table plan next stack) (tree_here next stack)
-          ≡ completed_beneath means table (shape_here table plan now stack) (tree_here now stack)
-      meant_next closing =
-          ap₂ (λ (p : Place) (t : Tree). completed_beneath means table (shape_in table (root_shape plan) p t) (tree_at p t))
-          turned.stands.cursor (turned.stands.built ∙ ap (λ (p : Place). closed_at p turned.value (tree_in_slots now stack)) same)
-          ∙ same_within means table closing (root_shape plan) (cursor_in now stack) head.place turned.value (tree_in_slots
-          now stack) (λ e. off_stored [] head.place x leads head.stored.is [] (sym e ∙ sym (append-nil head.place)))
-          (subst (λ (p : Place). Closes means table (root_shape plan) p turned.value (tree_in_slots now stack)) same
-          (closes_with means table (root_shape plan) turned.place (tree_in_slots now stack)
-          (reach_place turned.place (kid_here now stack) turned.stored.reaches) turned.meant))
+      below : head.place ≢ []
+      below e = off_stored [] head.place x leads head.stored.is [] (sym e ∙ sym (append-nil head.place))
 
-      pub beneath_goes_on : CompletingFits → IsChecked table → ClosingKeepsFinish → KeepsTheRest means table plan now stack next
-          → WalkedBeneath means table plan before stack next rest
-      beneath_goes_on fitting checked closing keeps = record {
+      under : IsUnder at_place (tree_at (cursor_in now stack) (tree_in_slots now stack))
+      under =
+          subst (IsUnder at_place) (tree_of_at (cursor_in now stack) (kid_here now stack)) (done_under head.place (tree_of x) below)
+
+      -- the same is to come of what lies at the top
+      meant_next : ClosingKeepsFinish → ClosingKeepsCompletion
+          → completed_beneath means table (shape_here table plan next stack) (tree_here next stack)
+          ≡ completed_beneath means table (shape_here table plan now stack) (tree_here now stack)
+      meant_next closing completion =
+          ap₂ (λ (p : Place) (t : Tree). completed_beneath means table (shape_in table (root_shape plan) p t) (tree_at p t))
+          turned.stands.cursor (turned.stands.built ∙ ap (λ (p : Place). closed_at p turned.value (tree_in_slots now stack))
+          (done_same walked.still (cursor_in now stack) [] on walked.left turned))
+          ∙ same_within means table closing completion (root_shape plan) (cursor_in now stack) at_place turned.value (tree_in_slots
+          now stack) under (subst (λ (p : Place). Closes means table (root_shape plan) p turned.value (tree_in_slots now stack))
+          (done_same walked.still (cursor_in now stack) [] on walked.left turned)
+          (closes_with means table (root_shape plan) (done_at turned.place (tree_in_slots now stack)) (tree_in_slots now stack)
+          (done_has walked.still (cursor_in now stack) [] on walked.left turned) turned.meant))
+
+      pub beneath_goes_on : CompletingFits → IsLawful means → IsChecked table → ClosingKeepsFinish → ClosingKeepsCompletion
+          → KeepsTheRest means table plan now stack next → WalkedBeneath means table plan before stack next rest
+      beneath_goes_on fitting lawful checked closing completion keeps = record {
         still = turned.stands.open_still;
         cursor = turned.stands.cursor ∙ walked.cursor;
         suits =
-            suits_next walked.still (cursor_in now stack) [] on walked.left turned fitting checked walked.suits;
+            suits_next walked.still (cursor_in now stack) [] on walked.left turned fitting lawful checked walked.suits;
         left = left_top;
         beside = beside_next;
         here = as_before_again walked.here (subst
             (λ (p : Place). CompletesAsBefore means table (root_shape plan) (tree_in_slots now stack) (tree_in_slots next stack) p)
             walked.cursor keeps.cursor);
-        meant = meant_next closing ∙ walked.meant;
+        meant = meant_next closing completion ∙ walked.meant;
       }
 
       -- it is taken out of the store, and all others that are stored are in it
@@ -188,10 +217,10 @@ module _ {means : Meanings} {table : Table} {plan : Plan} {before : List Slot} {
     abbrev shape : ℕ
     shape = shape_here table plan now stack
 
-    -- it makes no value: it is the first place that fails
-    pub beneath_held_up : EachFailureHasItsPlace → LackingFails → FirstByWalkIs → CompletesOrFails → {kind : ReflectErrorKind}
-        → IsLackingAt means table plan now stack n kind → IsHeldUpHere means table plan before stack kind
-    beneath_held_up each lacking first fails {kind} lacks = record {
+    -- something is lacking at its turn: that fails first
+    pub beneath_held_up : EachFailureHasItsPlace → LackingFails → ClosingKeepsFailuresOff → FirstByWalkIs → CompletesOrFails
+        → {kind : ReflectErrorKind} → IsLackingAt means table plan now stack n kind → IsHeldUpHere means table plan before stack kind
+    beneath_held_up each lacking closing first fails {kind} lacks = record {
       incomplete =
           none_made fails means table (shape_here table plan before stack) [] (tree_here before stack) (first_before []);
       cause = λ path. cause_is means table (shape_here table plan before stack) path (tree_here before stack) (first_before path);
@@ -203,18 +232,36 @@ module _ {means : Meanings} {table : Table} {plan : Plan} {before : List Slot} {
         tree_on_top : tree_of x ≡ tree_at (cursor_in now stack) tree
         tree_on_top = tree_of_at (cursor_in now stack) (kid_here now stack)
 
-        lacks_beneath : own_lack means table (shape_in table shape head.place (tree_of x)) (tree_at head.place (tree_of x)) ≡ Some kind
-        lacks_beneath =
-            ap (λ (t : Tree). own_lack means table (shape_in table shape head.place t) (tree_at head.place t)) tree_on_top
-            ∙ sym (ap₂ (own_lack means table) (shape_append table (root_shape plan) (cursor_in now stack) head.place tree)
-            (tree_append (cursor_in now stack) head.place tree)) ∙ subst
-            (λ (p : Place). own_lack means table (shape_in table (root_shape plan) p tree) (tree_at p tree) ≡ Some kind)
-            (only_here walked.still (cursor_in now stack) [] on walked.left lacks.place lacks.stored) lacks.lacks
+        -- where it is lacking, seen from the top
+        within : (way : Place) × (lacks.here ≡ cursor_in now stack ++ way) × (turn_of way (tree_of x) ≡ head.place)
+        within =
+            turn_within (cursor_in now stack) head.place lacks.here (kid_here now stack)
+            (λ e. off_stored [] head.place x leads head.stored.is [] (sym e ∙ sym (append-nil head.place)))
+            (lacks.turn ∙ only_here walked.still (cursor_in now stack) [] on walked.left lacks.place lacks.stored)
+
+        -- so it is of what stands there, seen from the top
+        seen : (So : ℕ → Tree → Type 0) → So (shape_in table (root_shape plan) lacks.here tree) (tree_at lacks.here tree)
+            → So (shape_in table shape within.0 (tree_of x)) (tree_at within.0 (tree_of x))
+        seen So so =
+            subst (λ (t : Tree). So (shape_in table shape within.0 t) (tree_at within.0 t)) (sym tree_on_top)
+            (subst (λ (t : Tree). So (shape_in table shape within.0 (tree_at (cursor_in now stack) tree)) t)
+            (tree_append (cursor_in now stack) within.0 tree)
+            (subst (λ (m : ℕ). So m (tree_at (cursor_in now stack ++ within.0) tree))
+            (shape_append table (root_shape plan) (cursor_in now stack) within.0 tree)
+            (subst (λ (p : Place). So (shape_in table (root_shape plan) p tree) (tree_at p tree)) within.1 so)))
+
+        suits_on_top : Suits table shape (tree_of x)
+        suits_on_top =
+            subst (Suits table shape) (sym tree_on_top) (suits_at table (root_shape plan) (cursor_in now stack) tree
+            (reach_place (cursor_in now stack) (kid_here now stack) (open_reach walked.still)) walked.suits.suits)
 
         first_now : (path : List PathStep)
             → first_by_walk (failures means table shape path (tree_at (cursor_in now stack) tree)) ≡ Some (failure_of path)
         first_now path =
-            let off = first_fails means table shape path x [] leads n rest walked.left head kind lacks_beneath each lacking first in
+            let off = first_fails means table shape path x [] leads (left_at (cursor_in now stack) (kid_here now stack)
+            walked.still.stands.left) suits_on_top n rest walked.left head within.0 within.2 kind
+            (seen (λ m t. complete deferred_column means table m t ≡ None) lacks.incomplete)
+            (seen (λ m t. own_lack means table m t ≡ Some kind) lacks.lacks) each lacking closing fails first in
             ap (λ (t : Tree). first_by_walk (failures means table shape path t)) (sym tree_on_top)
             ∙ ap first_by_walk (fails_beneath means table shape path (tree_of x) off) ∙ off
 
@@ -258,7 +305,9 @@ module _ {means : Meanings} {table : Table} {plan : Plan} {before : List Slot} {
     done_now : AtCursor strict (tree_here now stack)
     done_now =
         let top = open_top walked.still in
-        subst (AtCursor strict) (ap tree_of (sym top.is) ∙ top_is) (closed_cursor top.plot closed_now)
+        subst (AtCursor strict) (ap tree_of (sym top.is) ∙ top_is) (closed_cursor top.plot closed_now
+        (plain_at table (root_shape plan) (cursor_in now stack) (kid_here now stack) walked.suits.suits walked.still.stands.left
+        (open_reach walked.still) top.is closed_now))
 
     pub beneath_complete : IsCompleteBeneath means table plan before stack now
     unfolding top_node

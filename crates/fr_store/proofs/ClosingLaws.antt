@@ -1,7 +1,9 @@
 -- Laws of trees in which a place becomes whole, for proofs: what the other places are then.
-use Rattle.std.proofs.Common.{◌≡◌, ◌≢◌, ◌⊎◌, ℕ, zero, suc, ◌+◌, ◌<◌, List, [], ◌∷◌, ◌++◌, Some, None, inl, inr, refl, sym, ◌∙◌, ap, subst, arith}
-use Rattle.fr_store.specs.Below.{AreEntries, AreTouched, Closes, ClosingKeepsCompletion, ClosingKeepsFailures, ContentKind, EntriesKind, HasPlace, IsBegunAs, IsBegunRightly, IsContent, IsTouched, ItemsKind, Meanings, PathStep, Place, SuitAll, Suits, Table, Tracker, Tree, Trees, Val, as_content, as_elements, as_entries, as_fields, as_items, begun, branch, change_at, change_nth, child_as, child_tree, closed_at, complete, count_trees, def_of, deferred_column, failures, no_trees, shape_below, shape_in, shapes_from, step_as, steps_in, tree_at, tree_nth}
+use Rattle.std.proofs.Common.{◌≡◌, ◌≢◌, ◌⊎◌, ℕ, zero, suc, ◌+◌, ◌<◌, List, [], ◌∷◌, ◌++◌, Option, Some, None, inl, inr, refl, sym, ◌∙◌, ap, subst, arith}
+use Rattle.fr_store.specs.Below.{AllConversionsSuit, AreEntries, AreTouched, Closes, ClosingKeepsCompletion, ClosingKeepsFailures, ContentKind, ConversionsSuit, EntriesKind, HasPlace, IsBegunAs, IsBegunRightly, IsContent, IsTouched, ItemsKind, Meanings, PathStep, Place, SuitAll, Suits, Table, Tracker, Tree, Trees, Val, as_content, as_elements, as_entries, as_fields, as_items, begun, branch, change_at, change_nth, child_as, child_tree, closed_at, complete, count_trees, def_of, deferred_column, failures, field_as, no_trees, shape_below, shape_in, shapes_from, step_as, steps_in, tree_at, tree_nth, whole}
+use Rattle.fr_shape.specs.declared.shape.Field.{Field}
 use Rattle.fr_store.specs.ShapeLaws.{suits_nth}
+use Rattle.fr_store.specs.Suited.{IsSuited}
 use Rattle.fr_store.specs.Turns.{CompletesAsBefore}
 use Rattle.fr_store.specs.WayLaws.{same_or_other}
 
@@ -20,7 +22,7 @@ nth_beside zero (suc j) change (branch t ts) ne = refl
 nth_beside (suc i) zero change (branch t ts) ne = refl
 nth_beside (suc i) (suc j) change (branch t ts) ne = nth_beside i j change ts (λ e. ne (ap suc e))
 
-count_changed : (i : ℕ) (change : Tree → Tree) (ts : Trees) → count_trees (change_nth i change ts) ≡ count_trees ts
+pub count_changed : (i : ℕ) (change : Tree → Tree) (ts : Trees) → count_trees (change_nth i change ts) ≡ count_trees ts
 count_changed i change no_trees = refl
 count_changed zero change (branch t ts) = refl
 count_changed (suc i) change (branch t ts) = ap suc (count_changed i change ts)
@@ -219,6 +221,8 @@ rightly_change table s (as_fields None) i change ts touched rightly = tt
 rightly_change table s as_elements i change ts touched rightly = tt
 rightly_change table s (as_fields (Some k)) i change ts touched rightly = rightly
 rightly_change table s (as_content ContentKind.Pointer) i change ts touched rightly = (content_change i change ts touched rightly.0, rightly.1)
+rightly_change table s (as_content (ContentKind.Source conversion)) i change ts touched rightly =
+    (content_change i change ts touched rightly.0, rightly.1)
 rightly_change table s (as_items ItemsKind.List) i change ts touched rightly = all_touched_change i change ts touched rightly
 rightly_change table s (as_items ItemsKind.Slice) i change ts touched rightly = (all_touched_change i change ts touched rightly.0, rightly.1)
 rightly_change table s (as_items ItemsKind.ClosedSlice) i change ts touched rightly =
@@ -243,3 +247,39 @@ suits_change table s (i ∷ place) new (begun tracker ts) has suits touched is =
       (touched_change place new (tree_nth i ts) has.1 touched) suits.2,
 )
 suits_change table s (i ∷ place) new _ has suits touched is = absurd has
+
+-- Conversions.
+
+convert_all : (table : Table) (s : ℕ) (tracker : Tracker) (first i m : ℕ) (change : Tree → Tree) (ts : Trees) → m ≡ first + i
+    → AllConversionsSuit table s tracker first ts
+    → (ConversionsSuit table (child_as table s tracker m) (field_as (def_of table s) tracker m) (tree_nth i ts)
+    → ConversionsSuit table (child_as table s tracker m) (field_as (def_of table s) tracker m) (change (tree_nth i ts)))
+    → AllConversionsSuit table s tracker first (change_nth i change ts)
+convert_all table s tracker first i m change no_trees e all step = tt
+convert_all table s tracker first zero m change (branch t ts) e all step =
+    let same : m ≡ first = omega arith in (
+      subst (λ (n : ℕ). ConversionsSuit table (child_as table s tracker n) (field_as (def_of table s) tracker n) (change t)) same (step (subst
+          (λ (n : ℕ). ConversionsSuit table (child_as table s tracker n) (field_as (def_of table s) tracker n) t) (sym same) all.0)),
+      all.1,
+    )
+convert_all table s tracker first (suc i) m change (branch t ts) e all step =
+    (all.0, convert_all table s tracker (suc first) i m change ts (omega arith) all.1 step)
+
+-- where a place becomes whole, each conversion suits its place still
+pub converts_closed : (table : Table) (s : ℕ) (field : Option Field) (here : Place) (v : Val) (tree : Tree)
+    → ConversionsSuit table s field tree → ConversionsSuit table s field (closed_at here v tree)
+converts_closed table s field [] v tree converts = tt
+converts_closed table s field (i ∷ here) v (begun tracker ts) converts = (
+  converts.0,
+  convert_all table s tracker 0 i i (λ t. closed_at here v t) ts (omega arith) converts.1
+      (λ child. converts_closed table (child_as table s tracker i) (field_as (def_of table s) tracker i) here v (tree_nth i ts) child),
+)
+converts_closed table s field (i ∷ here) v _ converts = tt
+
+-- and the tree keeps to what it is to keep to, where the value fits the place's shape
+pub suited_closed : (table : Table) (s : ℕ) (here : Place) (v : Val) (tree : Tree) → HasPlace here tree → IsSuited table s tree
+    → Suits table (shape_in table s here tree) (whole v) → IsSuited table s (closed_at here v tree)
+suited_closed table s here v tree has suited fits = record {
+  suits = suits_change table s here (whole v) tree has suited.suits tt fits;
+  conversions = converts_closed table s None here v tree suited.conversions;
+}

@@ -1,6 +1,6 @@
 -- Laws of the place at which a builder works, for proofs: at the end of deferred mode, nothing being stored, it is finished.
-use Rattle.std.proofs.Common.{◌≡◌, ◌≢◌, ◌⊎◌, ℕ, suc, ◌+◌, ◌≤◌, length, true, false, List, [], ◌∷◌, Option, option_map, Some, None, inl, inr, refl, sym, ◌∙◌, ap, subst, arith}
-use Rattle.std.specs.Prelude.{Bool, IsSomeAnd, if◌then◌else◌}
+use Rattle.std.proofs.Common.{◌≡◌, ◌≢◌, ◌⊎◌, ℕ, suc, ◌+◌, ◌≤◌, length, true, false, List, [], ◌∷◌, Option, option_map, Some, None, inl, inr, refl, sym, ◌∙◌, ap, ap₂, subst, arith}
+use Rattle.std.specs.Prelude.{◌||◌, Bool, IsSomeAnd, if◌then◌else◌}
 use Rattle.fr_shape.specs.declared.error.ReflectErrorKind.{ReflectErrorKind}
 use Rattle.fr_shape.specs.Checked.{IsChecked}
 use Rattle.fr_shape.specs.Hooks.{Meanings}
@@ -9,15 +9,18 @@ use Rattle.fr_shape.specs.Fits.{count_vals}
 use Rattle.fr_shape.specs.Val.{Val, Vals, no_vals, first, list_of}
 use Rattle.fr_model.specs.Complete.{complete, complete_all, failing_child, hole_takes, unless_failing, valid_child, value_as}
 use Rattle.fr_model.specs.Failing.{own_lack}
-use Rattle.fr_model.specs.Finish.{begun_with, finished_here}
+use Rattle.fr_model.specs.Finish.{begun_with, finished_here, is_made_whole}
 use Rattle.fr_model.specs.Places.{Place, entry_of, deferred_column, one_more, vals_nth}
-use Rattle.fr_model.specs.Trackers.{Tracker, as_fields, as_elements, as_content, ContentKind, as_items, ItemsKind, base_of_tracker}
+use Rattle.fr_model.specs.Trackers.{Tracker, as_fields, as_elements, as_content, ContentKind, as_items, ItemsKind, base_of_tracker, is_conversion}
 use Rattle.fr_model.specs.Tree.{Tree, whole, begun, Trees, no_trees, branch, change_at, child_as, count_trees, for_hole, shape_in, tree_at, wholes}
-use Rattle.fr_model.specs.Well.{Suits}
+use Rattle.fr_model.specs.Conversions.{taken}
+use Rattle.fr_store.specs.Suited.{IsSuited}
+use Rattle.fr_plan.specs.ReachLaws.{NodesAreReached, ReachedHaveNodes}
+use Rattle.fr_store.proofs.PlainLaws.{plain_at}
 use Rattle.fr_plan.specs.LookupLaws.{LookupsAgree, LookupPathsAgree}
 use Rattle.fr_plan.specs.TypePlan.{Plan}
 use Rattle.fr_frame.specs.declared.places.Slot.{Slot}
-use Rattle.fr_frame.specs.Bodies.{Body, entered_body, whole_body, begun_body, gathers, own_tree, trees_of, value_of, IsClosed}
+use Rattle.fr_frame.specs.Bodies.{Body, entered_body, whole_body, begun_body, gathers, is_conversion_body, own_tree, trees_of, value_of, IsClosed}
 use Rattle.fr_values.specs.Cells.{Cell, given, values_of}
 use Rattle.fr_frame.specs.Changes.{IfInUse, Shows}
 use Rattle.fr_frame.specs.Completing.{shape_of, FillsAt, IsPlanFor, MayComplete}
@@ -89,21 +92,36 @@ same_made (as_items ItemsKind.Slice) one others v kept count may e f = same_list
 same_made (as_items ItemsKind.ClosedSlice) one others v kept count may e f = same_list one others (cc)
 same_made _ one others v kept count may e f = kept refl
 
+-- of any child but a source its value is taken
+taken_plain : (means : Meanings) (table : Table) (s : ℕ) (tracker : Tracker) (value : Option Val) → is_conversion tracker ≡ false
+    → taken means table s tracker value ≡ value
+taken_plain means table s (as_content (ContentKind.Source conversion)) value plain = cc
+taken_plain means table s _ value plain = refl
+
+-- what has a value is no conversion
+value_plain : (tracker : Tracker) (cells : List Cell) {v : Val} → value_of (begun_body tracker cells) ≡ Some v
+    → is_conversion tracker ≡ false
+value_plain (as_content (ContentKind.Source conversion)) cells e = cc
+value_plain _ cells e = refl
+
 -- where a hole takes nothing, what completes has the value of each child that was there
 none_valid : (failing : Option ReflectErrorKind) → unless_failing failing None ≡ None
 none_valid (Some kind) = refl
 none_valid None = refl
 
-kept_values : (means : Meanings) (table : Table) (s : ℕ) (tracker : Tracker)
+kept_values : (means : Meanings) (table : Table) (s : ℕ) (tracker : Tracker) → is_conversion tracker ≡ false
     → ((i : ℕ) → hole_takes deferred_column table s tracker i ≡ None) → (i : ℕ) (cells others : List Cell) (vs us : Vals)
     → complete_all deferred_column means table s tracker i (trees_of cells) ≡ Some vs → values_of others ≡ Some us
     → length others ≡ length cells → KeepGiven cells others → vs ≡ us
-kept_values means table s tracker none i [] [] vs us e f long keep = cc
-kept_values means table s tracker none i [] (d ∷ ds) vs us e f long keep = absurd (omega (arith, long))
-kept_values means table s tracker none i (c ∷ cells) [] vs us e f long keep = absurd (omega (arith, long))
-kept_values means table s tracker none i (given v ∷ cells) (d ∷ ds) vs us e f long keep =
-    go (failing_child means table s tracker i (Some v)) e
-    (λ ws is. kept_values means table s tracker none (suc i) cells ds ws rest.0 is rest.1 (omega (arith, long)) keep.1)
+kept_values means table s tracker plain none i [] [] vs us e f long keep = cc
+kept_values means table s tracker plain none i [] (d ∷ ds) vs us e f long keep = absurd (omega (arith, long))
+kept_values means table s tracker plain none i (c ∷ cells) [] vs us e f long keep = absurd (omega (arith, long))
+kept_values means table s tracker plain none i (given v ∷ cells) (d ∷ ds) vs us e f long keep =
+    go (failing_child means table s tracker i (Some v)) (ap (λ (value : Option Val).
+    one_more (unless_failing (failing_child means table s tracker i (Some v)) value)
+    (complete_all deferred_column means table s tracker (suc i) (trees_of cells)))
+    (sym (taken_plain means table s tracker (Some v) plain)) ∙ e)
+    (λ ws is. kept_values means table s tracker plain none (suc i) cells ds ws rest.0 is rest.1 (omega (arith, long)) keep.1)
   where
     rest : (ws : Vals) × (values_of ds ≡ Some ws) × (first v ws ≡ us)
     rest = more_is v (values_of ds) (ap (λ (c : Cell). values_of (c ∷ ds)) (sym keep.0) ∙ f)
@@ -116,10 +134,12 @@ kept_values means table s tracker none i (given v ∷ cells) (d ∷ ds) vs us e 
     go None e same =
         let more = more_is v (complete_all deferred_column means table s tracker (suc i) (trees_of cells)) e in
         sym more.2 ∙ ap (λ (ws : Vals). first v ws) (same more.0 more.1) ∙ rest.2
-kept_values means table s tracker none i (_ ∷ cells) (d ∷ ds) vs us e f long keep =
+kept_values means table s tracker plain none i (_ ∷ cells) (d ∷ ds) vs us e f long keep =
     let lost : one_more None (complete_all deferred_column means table s tracker (suc i) (trees_of cells)) ≡ Some vs
     = sym (ap (λ (value : Option Val). one_more value (complete_all deferred_column means table s tracker (suc i) (trees_of cells)))
-    (ap (valid_child means table s tracker i) (none i) ∙ none_valid (failing_child means table s tracker i None))) ∙ e in
+    (ap (valid_child means table s tracker i) (none i)
+    ∙ ap (unless_failing (failing_child means table s tracker i None)) (taken_plain means table s tracker None plain)
+    ∙ none_valid (failing_child means table s tracker i None))) ∙ e in
     absurd (cc)
 
 none_taken : (table : Table) (s : ℕ) (tracker : Tracker) → gathers tracker ≡ true → (i : ℕ) → hole_takes deferred_column table s tracker i ≡ None
@@ -127,15 +147,15 @@ none_taken table s (as_fields selected) gather i = absurd (cc)
 none_taken table s _ gather i = refl
 
 -- what has a value has all its children: of a base none is missing, where there are as many as there were
-given_left : (tracker : Tracker) (i : ℕ) (cells : List Cell) (vs : Vals) (m : ℕ) → m ≡ i + length cells → base_of_tracker tracker ≤ entry_of m
+given_left : (tracker : Tracker) (i : ℕ) (cells : List Cell) (vs : Vals) (m : ℕ) → is_conversion tracker ≡ false → m ≡ i + length cells → base_of_tracker tracker ≤ entry_of m
     → values_of cells ≡ Some vs → AreLeftAll tracker i (kids_in (λ slot. gone) cells)
-given_left tracker i [] vs m long past e =
+given_left tracker i [] vs m plain long past e =
     let same : m ≡ i = omega arith in
     subst (λ (n : ℕ). base_of_tracker tracker ≤ entry_of n) same past
-given_left tracker i (given v ∷ cells) vs m long past e =
+given_left tracker i (given v ∷ cells) vs m plain long past e =
     let rest = more_is v (values_of cells) e in
-    (left_value tracker i v, tt, given_left tracker (suc i) cells rest.0 m (omega arith) past rest.1)
-given_left tracker i (_ ∷ cells) vs m long past e = absurd (cc)
+    (left_value tracker i v plain, tt, given_left tracker (suc i) cells rest.0 m plain (omega arith) past rest.1)
+given_left tracker i (_ ∷ cells) vs m plain long past e = absurd (cc)
 
 -- a place has the children of its base
 abbrev HasBase : Body → Type 0
@@ -145,7 +165,7 @@ HasBase _ = Unit {0}
 value_left : (body : Body) (v : Val) → HasBase body → value_of body ≡ Some v → AreLeftIn (closed_plot body)
 value_left (begun_body tracker cells) v has e =
     let values = made_of tracker (values_of cells) (made_value tracker cells e) in
-    given_left tracker 0 cells values.0 (length cells) (omega arith) has values.1
+    given_left tracker 0 cells values.0 (length cells) (value_plain tracker cells e) (omega arith) has values.1
 value_left _ v has e = tt
 
 left_base : (plot : Plot) → AreLeftIn plot → HasBase (body_in plot)
@@ -171,14 +191,16 @@ finished_as means table s (whole_body w) now v e may tracker makes held = ap (λ
 finished_as means table s (begun_body tracker cells) (begun_body other others) v e may keeps makes held =
     let was = made_of tracker (complete_all deferred_column means table s tracker 0 (trees_of cells)) makes in
     let now = made_of other (values_of others) (made_value other others held) in
+    let plain : is_conversion tracker ≡ false = ap is_conversion (sym keeps.0) ∙ value_plain other others held in
+    let open_still : is_made_whole tracker ≡ false = ap₂ (λ (slice source : Bool). slice || source) e plain in
     let made_count : count_vals was.0 ≡ length cells
     = completed_count means table s tracker 0 (trees_of cells) was.0 was.1 ∙ count_of cells in
     let same : was.0 ≡ now.0 = same_made tracker was.0 now.0 v (λ gather. kept_values
-    means table s tracker (none_taken table s tracker gather) 0 cells others was.0 now.0 was.1 now.1 keeps.1 keeps.2)
+    means table s tracker plain (none_taken table s tracker gather) 0 cells others was.0 now.0 was.1 now.1 keeps.1 keeps.2)
     (made_count ∙ sym keeps.1 ∙ sym (values_count others now.1)) (subst (λ (n : ℕ). MayHave tracker n) (sym made_count) may)
     was.2 (ap (λ (f : Tracker). value_as f now.0) (sym keeps.0) ∙ now.2) in
     ap (option_map (begun_with tracker)) was.1
-    ∙ ap (λ (b : Bool). Some (if b then whole (value_as tracker was.0) else begun tracker (wholes was.0))) e
+    ∙ ap (λ (b : Bool). Some (if b then whole (value_as tracker was.0) else begun tracker (wholes was.0))) open_still
     ∙ ap (λ (vs : Vals). Some (begun tracker (wholes vs))) same
     ∙ ap (λ (ts : Trees). Some (begun tracker ts)) (sym (values_whole others now.0 now.1))
     ∙ ap (λ (f : Tracker). Some (begun f (trees_of others))) (sym keeps.0)
@@ -192,7 +214,7 @@ whole_as means table s (whole_body w) v e makes = absurd (cc)
 whole_as means table s (begun_body tracker cells) v e makes =
     let was = made_of tracker (complete_all deferred_column means table s tracker 0 (trees_of cells)) makes in
     ap (option_map (begun_with tracker)) was.1
-    ∙ ap (λ (b : Bool). Some (if b then whole (value_as tracker was.0) else begun tracker (wholes was.0))) e
+    ∙ ap (λ (b : Bool). Some (if b || is_conversion tracker then whole (value_as tracker was.0) else begun tracker (wholes was.0))) e
     ∙ ap (λ (x : Val). Some (whole x)) was.2
 
 -- The top, before it is completed.
@@ -228,18 +250,25 @@ module _ {plan : Plan} {before : List Slot} {stack : List ℕ} (open_now : IsOpe
   unfolding top_node
   shut = closed
 
-  module _ (agree : LookupsAgree) (paths : LookupPathsAgree) {table : Table} (checked : IsChecked table) (by : IsPlanFor table plan)
-      (suits : Suits table (root_shape plan) tree) where
+  module _ (agree : LookupsAgree) (paths : LookupPathsAgree) (reached : NodesAreReached) (nodes : ReachedHaveNodes) {table : Table}
+      (checked : IsChecked table) (by : IsPlanFor table plan) (suits : IsSuited table (root_shape plan) tree) where
     -- the shape of the place
     abbrev s : ℕ
     s = shape_in table (root_shape plan) place tree
 
     here : Along table plan was.node s (tree_at place tree)
     unfolding top_node
-    here = along_open agree paths checked by (kid_here before stack) suits place (open_reach open_now)
+    here = along_open agree paths reached nodes checked by (kid_here before stack) suits place (open_reach open_now)
+
+    -- it is no conversion
+    plain : is_conversion_body was.body ≡ false
+    unfolding top_node
+    plain =
+        plain_at table (root_shape plan) place (kid_here before stack) suits.suits open_now.stands.left (open_reach open_now)
+        (open_top open_now).is closed
 
     pub top_may_complete : IfInUse before n (MayComplete table plan)
-    top_may_complete = so_top open_now last (λ (x : Node). MayComplete table plan x) (may_complete was here own shut)
+    top_may_complete = so_top open_now last (λ (x : Node). MayComplete table plan x) (may_complete was here own shut plain)
 
     shape : shape_of plan was.node ≡ s
     shape = shape_along here

@@ -202,7 +202,7 @@ module _ {plan : Plan} {heap : Heap} (other : Heap) {stack : List ℕ} {place : 
       = subst (λ (p : Plot). AreLeftIn p) begun_now (subst (λ (x : Kid). AreLeftRightly x) top.is all) in
       left_put_nth tracker 0 i i (at n false (child_plot def (kid_nth i kids))) kids (omega arith)
       (left_as tracker i (kid_nth i kids) (at n false (child_plot def (kid_nth i kids))) (λ h. refl)
-      (λ h there. absurd (vacant h there))) (child_left def (kid_nth i kids)) among
+      (λ h there. absurd (vacant h there)) (λ h there. there)) (child_left def (kid_nth i kids)) among
 
   stands_entered : Stands plan other (stack ++ n ∷ []) (place ++ i ∷ []) (put_at place entered_kid k)
   stands_entered =

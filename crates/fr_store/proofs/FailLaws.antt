@@ -1,7 +1,8 @@
 -- Laws of places that fail at the end of deferred mode, for proofs: what fails beneath a place, and what it lacks by itself.
-use Rattle.std.proofs.Common.{◌≡◌, ◌≢◌, ℕ, zero, suc, ◌+◌, ◌<◌, true, List, [], ◌∷◌, ◌++◌, append-nil, append_assoc, Option, Some, None, refl, sym, ◌∙◌, ap, arith}
-use Rattle.fr_store.specs.Common.{Failure, HasPlace, Meanings, PathStep, Place, ReflectErrorKind, Table, Tracker, Tree, Trees, Val, begun, branch, cause_by, child_as, closed, complete, count_trees, deferred_column, entered, failure_at, failures, failures_among, failures_but, failures_off, first_by_walk, hole, kind_of, lack_of_begun, no_trees, option_map, or_itself, or_missing, own_lack, shape_in, step_as, steps_in, tree_at, tree_nth, whole}
-use Rattle.std.specs.Prelude.{is_none, not}
+use Rattle.std.proofs.Common.{◌≡◌, ◌≢◌, ℕ, zero, suc, ◌+◌, ◌<◌, Bool, true, false, List, [], ◌∷◌, ◌++◌, append-nil, append_assoc, Option, Some, None, refl, sym, ◌∙◌, ap, arith}
+use Rattle.fr_store.specs.Common.{Failure, HasPlace, Meanings, PathStep, Place, ReflectErrorKind, Table, Tracker, Tree, Trees, Val, begun, branch, cause_by, child_as, closed, complete, count_trees, deferred_column, entered, failure_at, failures, failures_among, failures_but, failures_off, first_by_walk, hole, is_conversion, kind_of, lack_of_begun, no_trees, option_map, or_itself, or_missing, own_lack, shape_in, step_as, steps_in, tree_at, tree_nth, whole}
+use Rattle.std.specs.Prelude.{is_none, not, if◌then◌else◌}
+use Rattle.fr_model.specs.Failing.{failing_path}
 use Rattle.fr_shape.specs.Lists.{is_nil}
 use Rattle.fr_model.specs.Laws.{CompletesOrFails}
 
@@ -39,13 +40,35 @@ none_here hooks table s path {to} (i ∷ cursor) (begun tracker ts) has e none =
     has.0 none)
 none_here hooks table s path (i ∷ cursor) _ has e none = absurd has
 
+-- where a place doesn't fail, it lacks nothing
+nothing_lacked : (beneath : List Failure) (to path : List PathStep) (lacks : Option ReflectErrorKind)
+    → or_itself beneath (failure_at to lacks) ≡ [] → failure_at path lacks ≡ []
+nothing_lacked [] to path None e = refl
+nothing_lacked [] to path (Some kind) e = cc
+nothing_lacked (f ∷ fs) to path lacks e = cc
+
 -- then of that place fails what it lacks by itself
 pub fails_itself : (hooks : Meanings) (table : Table) (s : ℕ) (path : List PathStep) (tree : Tree) → tree ≢ hole
     → failures_off hooks table s path [] tree ≡ []
     → failures hooks table s path tree ≡ failure_at path (own_lack hooks table s tree)
 fails_itself hooks table s path hole there none = absurd (there refl)
-fails_itself hooks table s path (begun tracker ts) there none =
-    ap (λ (beneath : List Failure). or_itself beneath (failure_at path (lack_of_begun hooks table s tracker ts))) none
+fails_itself hooks table s path (begun tracker ts) there none = go (is_conversion tracker) refl
+  where
+    here : (b : Bool) → is_conversion tracker ≡ b
+        → (if b then failures hooks table s path (begun tracker ts) else failures_among hooks table s tracker 0 path ts) ≡ []
+    here b e =
+        ap (λ (x : Bool). if x then failures hooks table s path (begun tracker ts) else failures_among hooks table s tracker 0 path ts)
+        (sym e) ∙ none
+
+    go : (b : Bool) → is_conversion tracker ≡ b
+        → failures hooks table s path (begun tracker ts) ≡ failure_at path (lack_of_begun hooks table s tracker ts)
+    go true e =
+        here true e ∙ sym (nothing_lacked (failures_among hooks table s tracker 0 path ts) (failing_path tracker path) path
+        (lack_of_begun hooks table s tracker ts) (here true e))
+    go false e =
+        ap (λ (beneath : List Failure). or_itself beneath (failure_at (failing_path tracker path) (lack_of_begun hooks table s tracker ts)))
+        (here false e)
+        ∙ ap (λ (x : Bool). failure_at (if x then path ++ step_as tracker 0 ∷ [] else path) (lack_of_begun hooks table s tracker ts)) e
 fails_itself hooks table s path _ there none = refl
 
 pub same_lack : (path : List PathStep) (first second : Option ReflectErrorKind) → failure_at path first ≡ failure_at path second
@@ -60,12 +83,18 @@ same_lack path _ _ e = absurd (cc)
 pub fails_beneath : (hooks : Meanings) (table : Table) (s : ℕ) (path : List PathStep) (tree : Tree) {failure : Failure}
     → first_by_walk (failures_off hooks table s path [] tree) ≡ Some failure
     → failures hooks table s path tree ≡ failures_off hooks table s path [] tree
-fails_beneath hooks table s path (begun tracker ts) {failure} first = go (failures_among hooks table s tracker 0 path ts) first
+fails_beneath hooks table s path (begun tracker ts) {failure} first = go (is_conversion tracker) first
   where
-    go : (beneath : List Failure) → first_by_walk beneath ≡ Some failure
-        → or_itself beneath (failure_at path (lack_of_begun hooks table s tracker ts)) ≡ beneath
-    go [] first = absurd (cc)
-    go (f ∷ fs) first = refl
+    itself : (beneath : List Failure) → first_by_walk beneath ≡ Some failure
+        → or_itself beneath (failure_at (failing_path tracker path) (lack_of_begun hooks table s tracker ts)) ≡ beneath
+    itself [] first = absurd (cc)
+    itself (f ∷ fs) first = refl
+
+    go : (b : Bool) → first_by_walk (if b then failures hooks table s path (begun tracker ts)
+        else failures_among hooks table s tracker 0 path ts) ≡ Some failure → failures hooks table s path (begun tracker ts)
+        ≡ (if b then failures hooks table s path (begun tracker ts) else failures_among hooks table s tracker 0 path ts)
+    go true first = refl
+    go false first = itself (failures_among hooks table s tracker 0 path ts) first
 fails_beneath hooks table s path entered first = absurd (cc)
 fails_beneath hooks table s path _ first = refl
 

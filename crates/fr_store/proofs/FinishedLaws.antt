@@ -1,7 +1,7 @@
 -- Laws of the end of deferred mode, for proofs: all stored places had their turn, nothing is stored, and the place at which the
 -- builder works is finished.
 use Rattle.std.proofs.Common.{◌≡◌, ◌≢◌, ℕ, Bool, true, false, List, [], ◌∷◌, ◌++◌, append-nil, option_map, Some, refl, sym, ◌∙◌, ap, subst}
-use Rattle.fr_store.specs.Common.{AreInWalkOrder, Contains, FinishesOrRefuses, HasPlace, IsHeldUp, IsOpen, IsOpenAt, Kid, LacksHere, Leads, Meanings, NoneStored, NothingStored, PathStep, Place, Plan, ReflectErrorKind, Slot, StoppedByTurns, Table, Tree, Walked, at, begun_plot, change_at, cursor_in, failures_off, heap_of, hole, kid_at, leads_at, leads_reach, marked, own_lack, root_shape, shape_in, steps_in, stored_here, strict, tree_at, tree_in_slots, tree_of, tree_of_at}
+use Rattle.fr_store.specs.Common.{AreInWalkOrder, Contains, FinishesOrRefuses, HasPlace, IsHeldUp, IsOpen, IsOpenAt, Kid, LacksHere, Leads, Meanings, NoneStored, NothingStored, PathStep, Place, Plan, ReflectErrorKind, Slot, StoppedByTurns, Table, Tree, Walked, at, begun_plot, change_at, cursor_in, failures_off, heap_of, hole, is_begun_conversion, kid_at, leads_at, leads_reach, marked, own_lack, root_shape, shape_in, steps_in, stored_here, strict, tree_at, tree_in_slots, tree_of, tree_of_at}
 use Rattle.fr_model.specs.FailingLaws.{FinishOfDone, NothingFailsOfDone}
 use Rattle.fr_model.specs.Finish.{finished_here}
 use Rattle.fr_model.specs.Well.{Leads as LeadsIn}
@@ -9,6 +9,8 @@ use Rattle.fr_store.specs.WayLaws.{marked_at}
 use Rattle.fr_store.specs.Turning.{CameByTurns, FinishedHere, kid_here, next_place}
 use Rattle.fr_store.specs.Turns.{IsFinished, KeepThoseLeft}
 use Rattle.fr_store.proofs.FailLaws.{fails_itself, none_here, same_lack}
+use Rattle.fr_store.proofs.FailTurns.{turn_itself}
+use Rattle.fr_store.proofs.PlainLaws.{open_plain}
 use Rattle.fr_store.proofs.HeldLaws.{held_by_last, leads_deferred, leads_strict, walk_over}
 use Rattle.fr_store.proofs.HeadLaws.{stored_among}
 use Rattle.fr_store.proofs.WalkedLaws.{stopped_at}
@@ -53,8 +55,14 @@ module _ {means : Meanings} {table : Table} {plan : Plan} {before : List Slot} {
   leads_now : Leads (cursor_in before stack) (kid_here now stack)
   leads_now = subst (λ (p : Place). Leads p (kid_here now stack)) walked.cursor walked.still.stands.leads
 
+  -- none of the children of the place at which the builder works is in a slot, so that it is no conversion
+  plain_now : is_begun_conversion (tree_at (cursor_in before stack) (tree_in_slots now stack)) ≡ false
+  plain_now =
+      subst (λ (p : Place). is_begun_conversion (tree_at p (tree_in_slots now stack)) ≡ false) walked.cursor
+      (open_plain walked.still nothing_left table walked.suits.suits)
+
   strict_now : LeadsIn strict (cursor_in before stack) (tree_in_slots now stack)
-  strict_now = leads_strict (cursor_in before stack) (kid_here now stack) leads_now none_stored
+  strict_now = leads_strict (cursor_in before stack) (kid_here now stack) plain_now leads_now none_stored
 
   -- said of the place at which the builder works now, it is of the one at which it worked
   module _ (So : Place → Tree → Type 0) where
@@ -153,7 +161,5 @@ module _ {means : Meanings} {table : Table} {plan : Plan} {before : List Slot} {
     -- there it stopped
     pub stopped_here : StoppedByTurns means table plan before stack kind
     stopped_here =
-        stopped_at walked
-        (subst (λ (p : Place). own_lack means table (shape_in table (root_shape plan) p (tree_in_slots now stack))
-        (tree_at p (tree_in_slots now stack)) ≡ Some kind)
-        (sym (ap (λ (l : List Place). next_place l (cursor_in before stack)) none_left)) lacks_now)
+        stopped_at walked (cursor_in before stack) (turn_itself (cursor_in before stack) (tree_in_slots now stack) plain_now
+        ∙ sym (ap (λ (l : List Place). next_place l (cursor_in before stack)) none_left)) lacks_now

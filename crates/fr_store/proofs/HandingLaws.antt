@@ -1,7 +1,7 @@
 -- Laws of handing over the value of the place on top, for proofs: it goes up to the place above or to the set above, whose other children
 -- stay as they are, or it stays where it is.
 use Rattle.std.proofs.Common.{◌≡◌, ◌≢◌, ◌⊎◌, ℕ, suc, ◌+◌, ◌<◌, ◌≤◌, true, false, List, [], ◌∷◌, ◌++◌, append-nil, length, nat_eq, option_map, Option, Some, None, Result, Ok, Err, OnOk, OnErr, inl, inr, refl, sym, ◌∙◌, ap, subst, arith, Bool, if◌then◌else◌}
-use Rattle.fr_store.specs.Common.{AgreeBeside, AllMarkedAmong, AllServe, AllStayPut, AreLeftAll, AreLeftRightly, AreUnplaced, AtTop, Body, Cell, FrameOwner, Heap, Holds, HoldsAll, IfInUse, IsClosed, IsItemOf, IsLast, IsLeftBy, IsOpen, IsOpenAt, IsPlaced, IsSetBody, IsSome, IsSomeAnd, ItemsKind, KeepsChildren, Kid, Kids, Leads, MayHandOver, MayHave, Node, NodeId, Place, Plan, Plot, Reaches, Replaces, Room, SameMarks, Shows, Slot, Stands, StayPutAs, StayPutBut, Taker, Top, Tracker, Tree, Trees, Val, above_append, all_kept_but, and_item, and_item_cell, as_items, at, at_for_at, begun, begun_body, begun_plot, below_root, body_here, body_in, body_occurs, body_other, cell_at, cell_of, cells_in, cells_nth, change_at, child_owner, closed_uses, count_kids, counts_if, counts_other, counts_own, counts_same, cursor_in, given, gone, heap_of, held_by, holds_at, holds_put_nth, is_root, is_set, is_some, keeps_closed, kid_at, kid_here, kid_is, kid_nth, leads_reach, left_at, left_put_nth, left_value, marked, marked_body, may_have_at, may_have_put, node_along, number_in, open_reach, open_top, option_and_then, owner_along, owner_append, owner_below, place_then, placed, put_append, put_at, put_below, put_nth, put_nth_twice, same_front, same_last, same_or_other, slot_at, slot_other, slots_above, so_top, stands_change, stands_reach, stored_in, there, tokens_here, top_found, top_of, top_stands, tree_at, tree_change_at, tree_in_slots, tree_of, tree_of_at, tree_put_at, tree_then, unlinked, unlinked_child, up, up_append, used_mapped, uses, uses_among, uses_at, uses_in, uses_nth, uses_put_nth, value_of, whole_body, whole_plot, with_body, with_cell, with_child, with_ended, with_ended_item, with_slot, within_put, without}
+use Rattle.fr_store.specs.Common.{AgreeBeside, AllMarkedIn, AllServe, AllStayPut, AreLeftAll, AreLeftIn, AreLeftRightly, AreUnplaced, AtTop, Body, Cell, FrameOwner, Heap, Holds, HoldsAll, HoldsIn, IfInUse, IsClosed, IsItemOf, IsLast, IsLeftBy, IsOpen, IsOpenAt, IsPlaced, IsSetBody, IsSome, IsSomeAnd, ItemsKind, KeepsChildren, Kid, Kids, Leads, MayHandOver, MayHave, Node, NodeId, Place, Plan, Plot, Reaches, Replaces, Room, SameMarks, Shows, Slot, Stands, StayPutAs, StayPutBut, Taker, Top, Tracker, Tree, Trees, Val, above_append, all_kept_but, and_item, and_item_cell, as_items, at, at_for_at, begun, begun_body, begun_plot, below_root, body_here, body_in, body_occurs, body_other, cell_at, cell_of, cells_in, cells_nth, change_at, child_owner, closed_uses, count_kids, counts_if, counts_other, counts_own, counts_same, cursor_in, given, gone, heap_of, held_by, holds_at, holds_put_nth, is_begun_conversion, is_conversion, is_root, is_set, is_some, keeps_closed, kid_at, kid_here, kid_is, kid_nth, leads_reach, left_at, left_put_nth, left_value, marked, marked_body, may_have_at, may_have_put, node_along, number_in, open_reach, open_top, option_and_then, owner_along, owner_append, owner_below, place_then, placed, put_append, put_at, put_below, put_nth, put_nth_twice, same_front, same_last, same_or_other, slot_at, slot_other, slots_above, so_top, stands_change, stands_reach, stored_in, there, tokens_here, top_found, top_of, top_stands, tree_at, tree_change_at, tree_in_slots, tree_of, tree_of_at, tree_put_at, tree_then, unlinked, unlinked_child, up, up_append, used_mapped, uses, uses_among, uses_at, uses_in, uses_nth, uses_put_nth, value_of, whole_body, whole_plot, with_body, with_cell, with_child, with_ended, with_ended_item, with_slot, within_put, without}
 use Rattle.fr_frame.specs.Handing.{handed, unhanded, MayTake}
 use Rattle.fr_store.specs.HereLaws.{value_closed}
 use Rattle.fr_store.specs.MoveLaws.{open_at_from, top_changed, top_node, top_room, top_so}
@@ -32,36 +32,36 @@ body_twice heap n first second m =
     once false found other = refl
 
 -- The child of this number of a place is on top, in slot n, and the stack goes on without it.
-record Ending : Type 0 where
-  plan : Plan
-  heap : Heap
-  stack : List ℕ
-  above : Place
-  i : ℕ
-  kid : Kid
-  stands : Stands plan heap stack (above ++ i ∷ []) kid
-  next : List ℕ
-  n : ℕ
-  last : stack ≡ next ++ n ∷ []
+pub record Ending : Type 0 where
+  pub plan : Plan
+  pub heap : Heap
+  pub stack : List ℕ
+  pub above : Place
+  pub i : ℕ
+  pub kid : Kid
+  pub stands : Stands plan heap stack (above ++ i ∷ []) kid
+  pub next : List ℕ
+  pub n : ℕ
+  pub last : stack ≡ next ++ n ∷ []
 
 module _ (e : Ending) where
-  top : Top e.plan e.heap e.stack (e.above ++ e.i ∷ []) e.kid
+  pub top : Top e.plan e.heap e.stack (e.above ++ e.i ∷ []) e.kid
   top = top_of e.stands
 
   -- the place above
-  found : Parent e.above e.i e.kid
+  pub found : Parent e.above e.i e.kid
   found = parent_of e.above e.i e.kid e.stands.leads
 
-  reach : Reaches e.above e.kid
+  pub reach : Reaches e.above e.kid
   reach = leads_reach e.above (e.i ∷ []) e.kid e.stands.leads
 
-  child : kid_nth e.i found.kids ≡ at top.slot false top.plot
+  pub child : kid_nth e.i found.kids ≡ at top.slot false top.plot
   child = sym found.child ∙ top.is
 
-  slot_now : top.slot ≡ e.n
+  pub slot_now : top.slot ≡ e.n
   slot_now = same_last (slots_above (e.above ++ e.i ∷ []) e.kid) e.next top.slot e.n (sym top.last ∙ e.last)
 
-  above_holds : Holds e.plan e.heap (node_along e.plan e.plan.root e.above e.kid) (owner_along FrameOwner.Root e.above e.kid)
+  pub above_holds : Holds e.plan e.heap (node_along e.plan e.plan.root e.above e.kid) (owner_along FrameOwner.Root e.above e.kid)
       (0 + length e.above) (at found.slot false (begun_plot found.tracker found.kids))
   above_holds =
       subst (λ (x : Kid). Holds e.plan e.heap (node_along e.plan e.plan.root e.above e.kid)
@@ -69,7 +69,7 @@ module _ (e : Ending) where
       found.is (holds_at e.plan e.heap e.plan.root FrameOwner.Root 0 e.above e.kid e.stands.holds reach)
 
   -- what is in the top's slot
-  abbrev node_now : Node
+  abbrev pub node_now : Node
   node_now = record {
     node = node_along e.plan e.plan.root (e.above ++ e.i ∷ []) e.kid;
     owner = child_owner found.slot e.i;
@@ -78,7 +78,7 @@ module _ (e : Ending) where
     body = body_in top.plot;
   }
 
-  top_is : e.heap e.n ≡ Some node_now
+  pub top_is : e.heap e.n ≡ Some node_now
   top_is =
       ap e.heap (sym slot_now) ∙ top.here
       ∙ ap (λ (o : FrameOwner). Some (record node_now { owner = o })) (owner_append FrameOwner.Root e.above e.i e.kid
@@ -91,7 +91,7 @@ module _ (e : Ending) where
       ∙ ap (λ (x : Kid). Some (cell_of x)) child ∙ ap (λ (m : ℕ). Some (placed m)) slot_now
 
   -- all slots once the top's is free, with something else put at the place above
-  abbrev heap_then : (Body → Body) → Heap
+  abbrev pub heap_then : (Body → Body) → Heap
   heap_then change = with_body (with_slot e.heap e.n None) found.slot change
 
   -- none is stored that wasn't, nor taken out of the store
@@ -105,7 +105,7 @@ module _ (e : Ending) where
     part : (m : ℕ) → uses (kid_at e.above e.kid) m ≡ counts_if (nat_eq found.slot m) + uses_among found.kids m
     part m = ap (λ (x : Kid). uses x m) found.is
 
-    child_uses : (m : ℕ) → uses (kid_nth e.i found.kids) m ≡ counts_if (nat_eq e.n m)
+    pub child_uses : (m : ℕ) → uses (kid_nth e.i found.kids) m ≡ counts_if (nat_eq e.n m)
     child_uses m =
         let is : uses (kid_nth e.i found.kids) m ≡ counts_if (nat_eq top.slot m) + uses_in top.plot m
         = ap (λ (x : Kid). uses x m) child in
@@ -123,24 +123,24 @@ module _ (e : Ending) where
     beside_top : (m : ℕ) → uses (kid_nth e.i found.kids) m < uses_among found.kids m → m ≢ e.n
     beside_top m h f = absurd (omega (arith, part m, child_uses m, counts_own f, uses_at e.above e.kid m, e.stands.once m))
 
--- What becomes of the place above: it has these children, in the slots in which they were, and the top's serves no more.
-record Outcome (e : Ending) (new : Kids) (change : Body → Body) : Type 0 where
-  cells : change (begun_body (found e).tracker (cells_in (found e).kids)) ≡ begun_body (found e).tracker (cells_in new)
-  fewer : (m : ℕ) → uses_among new m + counts_if (nat_eq e.n m) ≡ uses_among (found e).kids m
-  holds : (other : Heap) → ((m : ℕ) → m ≢ (found e).slot → m ≢ e.n → other m ≡ e.heap m) → (node : NodeId) (depth : ℕ)
+-- What becomes of the place above: this is put there, its children are in the slots in which they were, and the top's serves no more.
+pub record Outcome (e : Ending) (new : Plot) (change : Body → Body) : Type 0 where
+  pub cells : change (begun_body (found e).tracker (cells_in (found e).kids)) ≡ body_in new
+  pub fewer : (m : ℕ) → uses_in new m + counts_if (nat_eq e.n m) ≡ uses_among (found e).kids m
+  pub holds : (other : Heap) → ((m : ℕ) → m ≢ (found e).slot → m ≢ e.n → other m ≡ e.heap m) → (node : NodeId) (depth : ℕ)
       → HoldsAll e.plan e.heap node (found e).slot (found e).tracker 0 depth (found e).kids
-      → HoldsAll e.plan other node (found e).slot (found e).tracker 0 depth new
-  left : AreLeftAll (found e).tracker 0 (found e).kids → AreLeftAll (found e).tracker 0 new
-  marks : AllMarkedAmong true new
+      → HoldsIn e.plan other node (found e).slot depth new
+  pub left : AreLeftAll (found e).tracker 0 (found e).kids → AreLeftIn new
+  pub marks : AllMarkedIn true new
 
 -- the tree's places then
-abbrev kid_then : Ending → Kids → Kid
-kid_then e new = put_at e.above (at (found e).slot false (begun_plot (found e).tracker new)) e.kid
+abbrev pub kid_then : Ending → Plot → Kid
+kid_then e new = put_at e.above (at (found e).slot false new) e.kid
 
-module _ {e : Ending} {new : Kids} {change : Body → Body} (out : Outcome e new change) (shut : IsClosed (body_in (top e).plot))
+module _ {e : Ending} {new : Plot} {change : Body → Body} (out : Outcome e new change) (shut : IsClosed (body_in (top e).plot))
     (other : Heap) (shows : (m : ℕ) → other m ≡ heap_then e change m) where
   abbrev new_kid : Kid
-  new_kid = at (found e).slot false (begun_plot (found e).tracker new)
+  new_kid = at (found e).slot false new
 
   elsewhere : (m : ℕ) → m ≢ (found e).slot → m ≢ e.n → other m ≡ e.heap m
   elsewhere m a b =
@@ -179,7 +179,7 @@ module _ {e : Ending} {new : Kids} {change : Body → Body} (out : Outcome e new
   stands_then =
       subst (λ (p : Place). Stands e.plan other e.next p (kid_then e new)) (append-nil e.above) (stands_change other e.above
       (e.i ∷ []) [] e.stands (ap cell_of (sym (found e).is)) agree replaces once (refl, out.marks) (at_for_at (found e).slot
-      (begun_plot (found e).tracker new) (found e).is) (λ all. out.left (subst (λ (x : Kid). AreLeftRightly x) (found e).is all))
+      new (found e).is) (λ all. out.left (subst (λ (x : Kid). AreLeftRightly x) (found e).is all))
       (sym (same_front (slots_above (e.above ++ e.i ∷ []) e.kid) e.next (top e).slot e.n (sym (top e).last ∙ e.last))
       ∙ above_append e.above e.i e.kid e.stands.leads (found e).is))
 
@@ -214,9 +214,9 @@ module _ (e : Ending) {v : Val} (valued : value_of (body_in (top e).plot) ≡ So
       may_have_at e.plan e.heap e.plan.root FrameOwner.Root 0 e.above e.kid (found e).slot false (found e).tracker (found e).kids
       e.stands.holds (reach e) (found e).is
 
-  -- in the stead of the child
-  goes_above : Outcome e (put_nth e.i (there v) (found e).kids) (λ old. with_cell (unlinked e.n e.i old) e.i (given v))
-  goes_above = record {
+  -- in the stead of the child, where the place above is no conversion
+  goes_above : is_conversion (found e).tracker ≡ false → Outcome e (begun_plot (found e).tracker (put_nth e.i (there v) (found e).kids)) (λ old. with_cell (unlinked e.n e.i old) e.i (given v))
+  goes_above plain = record {
     cells =
         ap (λ (b : Body). with_cell b e.i (given v)) (unlinked_child (found e).tracker e.i e.n (found e).kids may_have_now
         (found e).within (ap cell_of (child e) ∙ ap (λ (x : ℕ). placed x) (slot_now e)))
@@ -231,11 +231,11 @@ module _ (e : Ending) {v : Val} (valued : value_of (body_in (top e).plot) ≡ So
         (λ m h. elsewhere m (beside_above e shut_now m (omega (arith, h))) (beside_top e shut_now m h)) was tt;
     left =
         left_put_nth (found e).tracker 0 e.i e.i (there v) (found e).kids (omega arith)
-        (λ was. left_value (found e).tracker e.i v) tt;
+        (λ was. left_value (found e).tracker e.i v plain) tt;
     marks = all_stored e.i (λ below. Leads [] below) (there v) (found e).kids (found e).others tt;
   }
 
-  stands_there : put_at (e.above ++ e.i ∷ []) (there v) e.kid ≡ kid_then e (put_nth e.i (there v) (found e).kids)
+  stands_there : put_at (e.above ++ e.i ∷ []) (there v) e.kid ≡ kid_then e (begun_plot (found e).tracker (put_nth e.i (there v) (found e).kids))
   stands_there =
       put_append e.above (e.i ∷ []) (there v) e.kid
       ∙ ap (λ (x : Kid). put_at e.above (put_below e.i (there v) x) e.kid) (found e).is
@@ -278,7 +278,7 @@ module _ (e : Ending) {v : Val} (valued : value_of (body_in (top e).plot) ≡ So
         ap (λ (cs : List Cell). begun_body (found e).tracker (and_item_cell cs v)) (sym (cells_without e.i (found e).kids))
         ∙ ap (begun_body (found e).tracker) (sym (cells_item fewer v))
 
-    goes_to_set : Outcome e items (with_ended e.i v)
+    goes_to_set : Outcome e (begun_plot (found e).tracker items) (with_ended e.i v)
     goes_to_set = record {
       cells = cells_then;
       fewer =
@@ -297,7 +297,7 @@ module _ (e : Ending) {v : Val} (valued : value_of (body_in (top e).plot) ≡ So
       marks = unplaced_marked true items items_unplaced;
     }
 
-    tree_with_item : tree_of (kid_then e items) ≡ change_at e.above (with_ended_item e.i v) (tree_of e.kid)
+    tree_with_item : tree_of (kid_then e (begun_plot (found e).tracker items)) ≡ change_at e.above (with_ended_item e.i v) (tree_of e.kid)
     unfolding items fewer
     tree_with_item =
         tree_change_at e.above (with_ended_item e.i v) (at (found e).slot false (begun_plot (found e).tracker items)) e.kid
@@ -306,7 +306,7 @@ module _ (e : Ending) {v : Val} (valued : value_of (body_in (top e).plot) ≡ So
         ∙ ap (with_ended_item e.i v) (ap tree_of (sym (found e).is) ∙ tree_of_at e.above e.kid))
 
     -- no place but the item leaves its slot
-    stays_in_set : StayPutBut (e.above ++ e.i ∷ []) e.kid (kid_then e items)
+    stays_in_set : StayPutBut (e.above ++ e.i ∷ []) e.kid (kid_then e (begun_plot (found e).tracker items))
     stays_in_set place ne =
         stay_at e.above (at (found e).slot false (begun_plot (found e).tracker items)) e.kid (reach e) place
         (λ r is lies. go r (λ f. ne (is ∙ ap (λ (l : Place). e.above ++ l) f))
@@ -329,7 +329,7 @@ IsHanded plan slots after stack next taker v place =
 -- An open builder's top, that isn't the root.
 module _ {plan : Plan} {slots : List Slot} {stack : List ℕ} (open_now : IsOpen plan slots stack)
     (below : is_root (cursor_in slots stack) ≡ false) (next : List ℕ) (n : ℕ) (last : stack ≡ next ++ n ∷ []) where
-  abbrev ending : Ending
+  abbrev pub ending : Ending
   ending = record {
     plan = plan;
     heap = heap_of slots;
@@ -345,19 +345,19 @@ module _ {plan : Plan} {slots : List Slot} {stack : List ℕ} (open_now : IsOpen
     last = last;
   }
 
-  abbrev place : Place
+  abbrev pub place : Place
   place = ending.above ++ ending.i ∷ []
 
-  way : cursor_in slots stack ≡ place
+  pub way : cursor_in slots stack ≡ place
   way = (below_root (cursor_in slots stack) below).2
 
   node_is : {x : Node} → heap_of slots n ≡ Some x → node_now ending ≡ x
   node_is {x} is = let both : Some (node_now ending) ≡ Some x = sym (top_is ending) ∙ is in cc
 
-  so_now : (So : Node → Type 0) → So (node_now ending) → IfInUse slots n So
+  pub so_now : (So : Node → Type 0) → So (node_now ending) → IfInUse slots n So
   so_now So so = subst (λ (o : Option Node). IsSomeAnd o So) (sym (top_is ending)) so
 
-  now_so : (So : Node → Type 0) → IfInUse slots n So → So (node_now ending)
+  pub now_so : (So : Node → Type 0) → IfInUse slots n So → So (node_now ending)
   now_so So so = subst (λ (o : Option Node). IsSomeAnd o So) (top_is ending) so
 
   set_above : is_set (tree_at (up (cursor_in slots stack)) (tree_in_slots slots stack)) ≡ true
@@ -365,6 +365,14 @@ module _ {plan : Plan} {slots : List Slot} {stack : List ℕ} (open_now : IsOpen
   set_above of_set =
       ap (λ (p : Place). is_set (tree_at p (tree_in_slots slots stack))) (sym (ap up way ∙ up_append ending.above ending.i))
       ∙ of_set
+
+  -- the place above is no conversion
+  plain_above : is_begun_conversion (tree_at (up (cursor_in slots stack)) (tree_in_slots slots stack)) ≡ false
+      → is_conversion (found ending).tracker ≡ false
+  plain_above plain =
+      ap is_begun_conversion (sym (ap tree_of (found ending).is) ∙ tree_of_at ending.above (kid_here slots stack))
+      ∙ ap (λ (p : Place). is_begun_conversion (tree_at p (tree_in_slots slots stack)))
+      (sym (ap up way ∙ up_append ending.above ending.i)) ∙ plain
 
   -- the place above is a set
   item_of_set : is_set (tree_at (up (cursor_in slots stack)) (tree_in_slots slots stack)) ≡ true
@@ -374,7 +382,7 @@ module _ {plan : Plan} {slots : List Slot} {stack : List ℕ} (open_now : IsOpen
       (set_tracker (found ending).tracker
       (ap is_set (sym (ap tree_of (found ending).is) ∙ tree_of_at ending.above (kid_here slots stack)) ∙ set_above of_set))
 
-  goes_up : {new : Kids} {change : Body → Body} → Outcome ending new change → IsClosed (body_in (top ending).plot)
+  pub goes_up : {new : Plot} {change : Body → Body} → Outcome ending new change → IsClosed (body_in (top ending).plot)
       → (after : List Slot) {tree : Tree} → Shows after (heap_then ending change) → tree_of (kid_then ending new) ≡ tree
       → StayPutBut place (kid_here slots stack) (kid_then ending new) → IsOpenAt plan after next (up place) tree
       × StayPutBut place (kid_here slots stack) (kid_here after next) × SameMarks slots after
@@ -387,11 +395,12 @@ module _ {plan : Plan} {slots : List Slot} {stack : List ℕ} (open_now : IsOpen
       )
 
   module _ (after : List Slot) {v : Val} (valued : value_of (node_now ending).body ≡ Some v) where
-    to_above : Shows after (handed Taker.Above n (node_now ending).owner v (heap_of slots))
+    to_above : is_begun_conversion (tree_at (up (cursor_in slots stack)) (tree_in_slots slots stack)) ≡ false
+        → Shows after (handed Taker.Above n (node_now ending).owner v (heap_of slots))
         → IsHanded plan slots after stack next Taker.Above v (cursor_in slots stack)
-    to_above shows =
+    to_above plain shows =
         subst (λ (p : Place). IsHanded plan slots after stack next Taker.Above v p)
-        (sym way) (goes_up (goes_above ending valued) (shut_now ending valued) after (λ m. shows m ∙ body_twice
+        (sym way) (goes_up (goes_above ending valued (plain_above plain)) (shut_now ending valued) after (λ m. shows m ∙ body_twice
         (with_slot (heap_of slots) n None) (found ending).slot (unlinked n ending.i) (λ old. with_cell old ending.i (given v)) m)
         (ap tree_of (sym (stands_there ending valued)) ∙ tree_put_at place (there v) (kid_here slots stack))
         (subst (λ (x : Kid). StayPutBut place (kid_here slots stack) x) (stands_there ending valued) (stays_above ending valued)))
@@ -444,7 +453,7 @@ pub last_of : (taker : Taker) (stack : List ℕ) (n : ℕ) (next : List ℕ) →
 last_of Taker.Itself stack n next left = left.0
 last_of _ stack n next left = (next, left)
 
-some_value : (value : Option Val) → IsSome value → (v : Val) × (value ≡ Some v)
+pub some_value : (value : Option Val) → IsSome value → (v : Val) × (value ≡ Some v)
 some_value (Some v) some = (v, refl)
 some_value None some = absurd (cc)
 
@@ -452,8 +461,8 @@ module _ {plan : Plan} {slots : List Slot} {stack : List ℕ} (open_now : IsOpen
   pub may_take : (taker : Taker) (next : List ℕ) (n : ℕ) → IsLeftBy taker stack n next → MayHandOver taker slots stack
       → IfInUse slots n (λ (x : Node). MayTake taker n x.owner (heap_of slots))
   may_take Taker.Above next n left may =
-      so_now open_now may next n left (λ (x : Node). MayTake Taker.Above n x.owner (heap_of slots))
-      (owned (ending open_now may next n left))
+      so_now open_now may.0 next n left (λ (x : Node). MayTake Taker.Above n x.owner (heap_of slots))
+      (owned (ending open_now may.0 next n left))
   may_take Taker.Set next n left may =
       so_now open_now may.0 next n left (λ (x : Node). MayTake Taker.Set n x.owner (heap_of slots))
       (owned (ending open_now may.0 next n left), item_of_set open_now may.0 next n left may.1)
@@ -463,8 +472,8 @@ module _ {plan : Plan} {slots : List Slot} {stack : List ℕ} (open_now : IsOpen
       → (after : List Slot) {x : Node} → heap_of slots n ≡ Some x → {v : Val} → value_of x.body ≡ Some v → Shows after
       (handed taker n x.owner v (heap_of slots)) → IsHanded plan slots after stack next taker v (cursor_in slots stack)
   is_handed Taker.Above next n left may after {x} is {v} valued shows =
-      let same = sym (node_is open_now may next n left is) in
-      to_above open_now may next n left after (subst (λ (y : Node). value_of y.body ≡ Some v) same valued)
+      let same = sym (node_is open_now may.0 next n left is) in
+      to_above open_now may.0 next n left after (subst (λ (y : Node). value_of y.body ≡ Some v) same valued) may.1
       (subst (λ (y : Node). Shows after (handed Taker.Above n y.owner v (heap_of slots))) same shows)
   is_handed Taker.Set next n left may after {x} is {v} valued shows =
       let same = sym (node_is open_now may.0 next n left is) in
@@ -490,7 +499,7 @@ module _ {plan : Plan} {slots : List Slot} {stack : List ℕ} (open_now : IsOpen
   lost Taker.Itself next n left may after shown =
       let shows : Shows after (heap_of slots) = top_so open_now left.0 (λ (x : Node). Shows after (heap_of slots)) shown in
       (λ m. ap stored_in (shows m), λ is. shows)
-  lost Taker.Above next n left may after shown = (same_marks_left next n left may after shown, λ is. absurd (cc))
+  lost Taker.Above next n left may after shown = (same_marks_left next n left may.0 after shown, λ is. absurd (cc))
   lost Taker.Set next n left may after shown = (same_marks_left next n left may.0 after shown, λ is. absurd (cc))
 
   module _ (taker : Taker) (next : List ℕ) (n : ℕ) (left : IsLeftBy taker stack n next)

@@ -2,12 +2,13 @@
 use Rattle.std.proofs.Common.{◌≡◌, ◌≢◌, ◌⊎◌, ℕ, zero, suc, ◌+◌, ◌<◌, ◌≤◌, Bool, true, List, [], ◌∷◌, ◌++◌, length, length-append, get_or, inl, inr, refl, sym, ◌∙◌, ap, subst, arith}
 use Rattle.std.proofs.lemmas.Grind.{common_steps}
 use Rattle.std.proofs.lemmas.List.Elements.{All-contains, All-head, All-tail, Contains-get_or}
-use Rattle.fr_store.specs.Common.{All, AllMarked, AllMarkedAmong, AllMarkedIn, AreInWalkOrder, AreStoredAt, AreUnplaced, ComesBefore, Contains, HasPlace, IsClosed, IsStoredAt, IsWalk, Kid, Kids, Leads, Ordering, PathStep, Place, Plot, Reaches, Tracker, Tree, Val, at, begun_plot, body_in, cells_in, child_tree, count_kids, kid, kid_at, kid_at_append, kid_nth, no_kids, ordering_then, put_at, steps_in, there, tree_of, tree_put_at, uses, uses_among, uses_nth, walk_order}
+use Rattle.fr_store.specs.Common.{All, AllMarked, AllMarkedAmong, AllMarkedIn, AreInWalkOrder, AreStoredAt, AreUnplaced, ComesBefore, Contains, HasPlace, IsClosed, IsStoredAt, IsWalk, Kid, Kids, Leads, Ordering, PathStep, Place, Plot, Reaches, Tracker, Tree, Val, at, begun_plot, body_in, cells_in, change_at, child_tree, closed_at, count_kids, kid, kid_at, kid_at_append, kid_nth, no_kids, ordering_then, put_at, steps_in, tree_of, tree_put_at, uses, uses_among, uses_nth, walk_order}
 use Rattle.std.specs.Ordering.{nat_cmp}
 use Rattle.fr_path.specs.OrderLaws.{walk_itself}
 use Rattle.fr_store.proofs.ClosingLaws.{stays}
+use Rattle.fr_store.proofs.DoneKids.{IsDone}
 use Rattle.fr_store.proofs.PairLaws.{in_cases, pairs_weaker}
-use Rattle.fr_store.proofs.OffLaws.{marked_off, off_stored, reach_place, stored_before, stored_beside, stored_no_more, stored_still}
+use Rattle.fr_store.proofs.OffLaws.{marked_off, off_stored, reach_place}
 
 -- The order of the walk.
 
@@ -137,55 +138,48 @@ module _ (k : Kid) (n : ℕ) (rest : List ℕ) (walk : IsWalk k (n ∷ rest)) (h
       go (begun_plot tracker kids) e marked = closed_children kids marked (below tracker kids e)
       go _ e marked = tt
 
-  -- once a value is in its stead, the others are a walk
-  pub walk_on : (cursor : Place) → Leads cursor k → ((m : ℕ) → uses k m ≤ 1) → (v : Val)
-      → (next : IsWalk (put_at head.place (there v) k) rest) × (next.places ≡ head.places)
-  walk_on cursor leads once v = (record { places = head.places; stored = stored_on; order = order_on; all = all_on }, refl)
+  -- once the place is done that is so at its turn, the others are a walk
+  pub walk_on : {d : Place} {v : Val} {new : Kid} → IsDone k head.place d v new
+      → (next : IsWalk (put_at d new k) rest) × (next.places ≡ head.places)
+  walk_on {d} {v} {new} done = (record { places = head.places; stored = stored_on; order = order_on; all = all_on }, refl)
     where
       not_itself : (place : Place) → ComesBefore (tree_of k) head.place place → place ≢ head.place
       not_itself place before e =
           before_itself (tree_of k) head.place (subst (λ (p : Place). ComesBefore (tree_of k) head.place p) e before)
 
-      still : (m : ℕ) (place : Place) → ComesBefore (tree_of k) head.place place → IsStoredAt k m place
-          → IsStoredAt (put_at head.place (there v) k) m place
-      still m place before stored =
-          stored_still head.place v head.stored.reaches
-          (stored_beside head.place head.stored.is (head_closed cursor leads) stored (not_itself place before)) stored
-
       each : (slots : List ℕ) (places : List Place) → All (λ (other : Place). ComesBefore (tree_of k) head.place other) places
-          → AreStoredAt k slots places → AreStoredAt (put_at head.place (there v) k) slots places
+          → AreStoredAt k slots places → AreStoredAt (put_at d new k) slots places
       each [] [] before stored = tt
       each (slot ∷ slots) (place ∷ places) before stored = (
-        still slot place (All-head (λ (other : Place). ComesBefore (tree_of k) head.place other) place places before) stored.0,
+        done.still stored.0 (not_itself place (All-head (λ (other : Place). ComesBefore (tree_of k) head.place other) place places before)),
         each slots places (All-tail (λ (other : Place). ComesBefore (tree_of k) head.place other) place places before) stored.1,
       )
       each _ _ before stored = absurd stored
 
-      stored_on : AreStoredAt (put_at head.place (there v) k) rest head.places
+      stored_on : AreStoredAt (put_at d new k) rest head.places
       stored_on = each rest head.places head.before head.others
 
-      -- the same steps lead to each of them
-      steps_on : All (λ (q : Place). steps_in q (tree_of (put_at head.place (there v) k)) ≡ steps_in q (tree_of k)) head.places
-      steps_on i d h =
-          let place : Place = get_or head.places i d in
-          let lies = stored_among (put_at head.place (there v) k) rest head.places place stored_on (Contains-get_or head.places i d h) in
-          ap (steps_in place) (tree_put_at head.place (there v) k)
-          ∙ (stays head.place place v (tree_of k) (reach_place head.place k head.stored.reaches)
-          (subst (λ (t : Tree). HasPlace place t) (tree_put_at head.place (there v) k)
-          (reach_place place (put_at head.place (there v) k) lies.1.reaches))).steps
+      tree_then : tree_of (put_at d new k) ≡ closed_at d v (tree_of k)
+      tree_then = tree_put_at d new k ∙ ap (λ (t : Tree). change_at d (λ old. t) (tree_of k)) done.tree
 
-      order_on : AreInWalkOrder (tree_of (put_at head.place (there v) k)) head.places
+      -- the same steps lead to each of them
+      steps_on : All (λ (q : Place). steps_in q (tree_of (put_at d new k)) ≡ steps_in q (tree_of k)) head.places
+      steps_on i e h =
+          let place : Place = get_or head.places i e in
+          let lies = stored_among (put_at d new k) rest head.places place stored_on (Contains-get_or head.places i e h) in
+          ap (steps_in place) tree_then ∙ (stays d place v (tree_of k) (reach_place d k done.reach)
+          (subst (λ (t : Tree). HasPlace place t) tree_then (reach_place place (put_at d new k) lies.1.reaches))).steps
+
+      order_on : AreInWalkOrder (tree_of (put_at d new k)) head.places
       order_on =
-          pairs_weaker (ComesBefore (tree_of k)) (ComesBefore (tree_of (put_at head.place (there v) k)))
-          (λ (q : Place). steps_in q (tree_of (put_at head.place (there v) k)) ≡ steps_in q (tree_of k)) (λ p q one other before.
-          ap (λ (steps : List PathStep). walk_order steps (steps_in q (tree_of (put_at head.place (there v) k)))) one
+          pairs_weaker (ComesBefore (tree_of k)) (ComesBefore (tree_of (put_at d new k)))
+          (λ (q : Place). steps_in q (tree_of (put_at d new k)) ≡ steps_in q (tree_of k)) (λ p q one other before.
+          ap (λ (steps : List PathStep). walk_order steps (steps_in q (tree_of (put_at d new k)))) one
           ∙ ap (walk_order (steps_in p (tree_of k))) other ∙ before) head.places steps_on head.order
 
-      all_on : (slot : ℕ) (place : Place) → IsStoredAt (put_at head.place (there v) k) slot place → Contains head.places place
-      all_on slot place stored = go (later slot place (stored_before head.place k v head.stored.reaches stored))
+      all_on : (slot : ℕ) (place : Place) → IsStoredAt (put_at d new k) slot place → Contains head.places place
+      all_on slot place stored = go (later slot place (done.before stored))
         where
           go : (head.place ≡ place) ⊎ Contains head.places place → Contains head.places place
-          go (inl e) =
-              absurd (stored_no_more k v head.stored.reaches
-              (subst (λ (p : Place). IsStoredAt (put_at head.place (there v) k) slot p) (sym e) stored))
+          go (inl e) = absurd (done.no_more (subst (λ (p : Place). IsStoredAt (put_at d new k) slot p) (sym e) stored))
           go (inr found) = found

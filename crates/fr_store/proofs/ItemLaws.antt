@@ -1,6 +1,6 @@
 -- Laws of items, for proofs: the top has one more child behind the others, which gets a slot and is on top then.
 use Rattle.std.proofs.Common.{◌≡◌, ◌≢◌, ℕ, zero, suc, ◌+◌, ◌<◌, true, false, List, [], ◌∷◌, ◌++◌, Option, Some, None, refl, sym, ◌∙◌, ap, subst, arith}
-use Rattle.fr_store.specs.Common.{AllMarkedAmong, AllServe, AllStayPut, AreLeftAll, Body, Cell, Def, EntriesKind, FrameOwner, HasTracker, Heap, HoldsAll, IfInUse, IsLast, IsOpen, IsPlaced, IsThere, IsUnplaced, ItemsKind, KeepsChildren, Kid, Kids, MayHave, Node, NodeId, Place, Plan, Plot, Reaches, SameMarks, Shows, Slot, Stands, TakesItems, Top, Tracker, Tree, Trees, absent, added, added_entry, all_kept, and_last, as_entries, as_items, at, begun, begun_body, begun_plot, body_here, body_in, body_other, branch, cell_of, cells_count, cells_in, change_at, child_node, child_owner, count_below, count_here, count_in, count_kids, cursor_in, depth_above, depth_below, depth_limit, entry_next, fresh, fresh_plot, fresh_tree, gone, heap_of, hole, is_map, is_map_tracker, item_owner, kid, kid_at, kid_here, kid_nth, kid_put_at, left_past, marked_body, marked_entered, no_kids, node_along, node_here, open_at_from, open_reach, open_top, put_at, put_at_twice, put_nth, slot_here, so_top, stored_in, top_found, top_of, top_slot, top_so, top_stands_in, tree_change_at, tree_here, tree_in, tree_of, tree_of_at, trees_in, used_mapped, uses, uses_among, with_body, with_entered, with_item_of, with_key_of}
+use Rattle.fr_store.specs.Common.{AllMarkedAmong, AllServe, AllStayPut, AreLeftAll, Body, Cell, Def, EntriesKind, FrameOwner, HasTracker, Heap, HoldsAll, IfInUse, IsLast, IsOpen, IsPlaced, IsThere, IsUnplaced, ItemsKind, KeepsChildren, Kid, Kids, MayHave, Node, NodeId, Place, Plan, Plot, Reaches, SameMarks, Shows, Slot, Stands, TakesItems, Top, Tracker, Tree, Trees, absent, added, added_entry, all_kept, and_last, as_entries, as_items, at, begun, begun_body, begun_plot, body_here, body_in, body_other, branch, cell_of, cells_count, cells_in, change_at, child_node, child_owner, count_below, count_here, count_in, count_kids, cursor_in, depth_above, depth_below, depth_limit, entry_next, fresh, fresh_plot, fresh_tree, gone, heap_of, hole, is_map, is_map_tracker, item_owner, kid, kid_at, kid_here, kid_nth, kid_put_at, left_gone, marked_body, marked_entered, no_kids, node_along, node_here, open_at_from, open_reach, open_top, put_at, put_at_twice, put_nth, slot_here, so_top, stored_in, top_found, top_of, top_slot, top_so, top_stands_in, tree_change_at, tree_here, tree_in, tree_of, tree_of_at, trees_in, used_mapped, uses, uses_among, with_body, with_entered, with_item_of, with_key_of}
 use Rattle.fr_store.specs.MoveLaws.{top_node}
 use Rattle.fr_store.proofs.ChildLaws.{plot_formed}
 use Rattle.fr_store.proofs.EnteringLaws.{GoesTo, IsEntered, child_plot, entered_kid, entered_so}
@@ -63,7 +63,7 @@ items_may_have (as_items ItemsKind.Array) count takes = tt
 items_may_have _ count takes = absurd takes
 
 pub left_and_last : (tracker : Tracker) (i : ℕ) (ks : Kids) → AreLeftAll tracker i ks → AreLeftAll tracker i (kids_and_last ks gone)
-left_and_last tracker i no_kids all = (left_past tracker i gone all refl, tt, omega (arith, all, entry_next i))
+left_and_last tracker i no_kids all = (left_gone tracker i all, tt, omega (arith, all, entry_next i))
 left_and_last tracker i (kid k ks) all = (all.0, all.1, left_and_last tracker (suc i) ks all.2)
 
 pub grown_stay : (slot : ℕ) (tracker made : Tracker) (kids : Kids)

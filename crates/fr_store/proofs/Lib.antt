@@ -8,12 +8,16 @@ pub mod ChildLaws
 pub mod ChildWays
 pub mod ChildOrder
 pub mod ClosingLaws
+pub mod ConvertLaws
+pub mod ConvertUp
+pub mod DoneKids
 pub mod DoneLaws
 pub mod DueLaws
 pub mod EarlierLaws
 pub mod EnteringLaws
 pub mod EntryLaws
 pub mod FailLaws
+pub mod FailTurns
 pub mod FinishedLaws
 pub mod HandingLaws
 pub mod HeadLaws
@@ -32,6 +36,7 @@ pub mod OutlineUses
 pub mod PairLaws
 pub mod PathOrder
 pub mod PlaceLaws
+pub mod PlainLaws
 pub mod PruneLaws
 pub mod PruneSteps
 pub mod PruneTurns

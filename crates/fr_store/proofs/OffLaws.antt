@@ -132,11 +132,11 @@ reach_place (i ∷ place) _ reach = absurd reach
 
 -- Stored places.
 
-is_none_at : (place : Place) → ((slot : ℕ) (stored : Bool) (plot : Plot) → kid_at place gone ≡ at slot stored plot → ⊥)
+pub is_none_at : (place : Place) → ((slot : ℕ) (stored : Bool) (plot : Plot) → kid_at place gone ≡ at slot stored plot → ⊥)
 is_none_at [] slot stored plot e = cc
 is_none_at (i ∷ place) slot stored plot e = is_none_at place slot stored plot e
 
-is_none_in : (place : Place) (v : Val) {slot : ℕ} {stored : Bool} {plot : Plot} → kid_at place (there v) ≡ at slot stored plot → ⊥
+pub is_none_in : (place : Place) (v : Val) {slot : ℕ} {stored : Bool} {plot : Plot} → kid_at place (there v) ≡ at slot stored plot → ⊥
 is_none_in [] v e = cc
 is_none_in (i ∷ place) v {slot} {stored} {plot} e = is_none_at place slot stored plot e
 
@@ -167,67 +167,62 @@ stored_beside here {k} {n} {m} {plot} is closed stored ne (j ∷ way) e =
     closed_below j way n true plot closed
     (ap (kid_at (j ∷ way)) (sym is) ∙ sym (kid_at_append here (j ∷ way) k) ∙ ap (λ (p : Place). kid_at p k) (sym e) ∙ stored.is)
 
--- it is stored there just where it is once a value is put here
-stored_both : (here other : Place) (k : Kid) (v : Val) (m : ℕ) → Reaches here k → IsNotBeneath here other
-    → IsStoredAt k m other ↔ IsStoredAt (put_at here (there v) k) m other
-stored_both [] other k v m reach beside = absurd (beside other refl)
-stored_both (i ∷ here) [] (at slot mark (begun_plot tracker kids)) v m reach beside = (
-  λ stored. here_too (begun_plot tracker (put_nth i (put_at here (there v) (kid_nth i kids)) kids)) stored.plot stored.is,
+-- it is stored there just where it is once something else is put here
+pub stored_both : (here other : Place) (k new : Kid) (m : ℕ) → Reaches here k → IsNotBeneath here other
+    → IsStoredAt k m other ↔ IsStoredAt (put_at here new k) m other
+stored_both [] other k new m reach beside = absurd (beside other refl)
+stored_both (i ∷ here) [] (at slot mark (begun_plot tracker kids)) new m reach beside = (
+  λ stored. here_too (begun_plot tracker (put_nth i (put_at here new (kid_nth i kids)) kids)) stored.plot stored.is,
   λ stored. here_too (begun_plot tracker kids) stored.plot stored.is,
 )
   where
-    here_too : {old : Plot} (new plot : Plot) → at slot mark old ≡ at m true plot → IsStoredAt (at slot mark new) m []
-    here_too new plot is =
+    here_too : {old : Plot} (other plot : Plot) → at slot mark old ≡ at m true plot → IsStoredAt (at slot mark other) m []
+    here_too other plot is =
         let same : slot ≡ m = cc in
         let marked : mark ≡ true = cc in
-        record { plot = new; reaches = tt; is = ap (λ (n : ℕ). at n mark new) same ∙ ap (λ (b : Bool). at m b new) marked }
-stored_both (i ∷ here) (j ∷ other) (at slot mark (begun_plot tracker kids)) v m reach beside =
-    go (same_or_other i j) (λ e. stored_both here other (kid_nth i kids) v m reach.1
+        record { plot = other; reaches = tt; is = ap (λ (n : ℕ). at n mark other) same ∙ ap (λ (b : Bool). at m b other) marked }
+stored_both (i ∷ here) (j ∷ other) (at slot mark (begun_plot tracker kids)) new m reach beside =
+    go (same_or_other i j) (λ e. stored_both here other (kid_nth i kids) new m reach.1
     (λ way same. beside way (ap (λ (n : ℕ). n ∷ other) (sym e) ∙ ap (λ (p : Place). i ∷ p) same)))
   where
-    new : Kid
-    new = put_at here (there v) (kid_nth i kids)
+    child : Kid
+    child = put_at here new (kid_nth i kids)
 
     -- so it is of the place where it is of the child on the way to it
-    up : IsStoredAt (kid_nth j kids) m other ↔ IsStoredAt (kid_nth j (put_nth i new kids)) m other
+    up : IsStoredAt (kid_nth j kids) m other ↔ IsStoredAt (kid_nth j (put_nth i child kids)) m other
         → IsStoredAt (at slot mark (begun_plot tracker kids)) m (j ∷ other)
-        ↔ IsStoredAt (at slot mark (begun_plot tracker (put_nth i new kids))) m (j ∷ other)
-    up child = (
-      λ stored. let below = child.0 (record { plot = stored.plot; reaches = stored.reaches.1; is = stored.is }) in
+        ↔ IsStoredAt (at slot mark (begun_plot tracker (put_nth i child kids))) m (j ∷ other)
+    up among = (
+      λ stored. let below = among.0 (record { plot = stored.plot; reaches = stored.reaches.1; is = stored.is }) in
           record {
             plot = below.plot;
-            reaches = (subst (λ (n : ℕ). j < n) (sym (count_put i new kids)) stored.reaches.0, below.reaches);
+            reaches = (subst (λ (n : ℕ). j < n) (sym (count_put i child kids)) stored.reaches.0, below.reaches);
             is = below.is;
           },
-      λ stored. let below = child.1 (record { plot = stored.plot; reaches = stored.reaches.1; is = stored.is }) in
+      λ stored. let below = among.1 (record { plot = stored.plot; reaches = stored.reaches.1; is = stored.is }) in
           record {
             plot = below.plot;
-            reaches = (subst (λ (n : ℕ). j < n) (count_put i new kids) stored.reaches.0, below.reaches);
+            reaches = (subst (λ (n : ℕ). j < n) (count_put i child kids) stored.reaches.0, below.reaches);
             is = below.is;
           },
     )
 
-    go : (i ≡ j) ⊎ (i ≢ j) → (i ≡ j → IsStoredAt (kid_nth i kids) m other ↔ IsStoredAt new m other)
+    go : (i ≡ j) ⊎ (i ≢ j) → (i ≡ j → IsStoredAt (kid_nth i kids) m other ↔ IsStoredAt child m other)
         → IsStoredAt (at slot mark (begun_plot tracker kids)) m (j ∷ other)
-        ↔ IsStoredAt (at slot mark (begun_plot tracker (put_nth i new kids))) m (j ∷ other)
+        ↔ IsStoredAt (at slot mark (begun_plot tracker (put_nth i child kids))) m (j ∷ other)
     go (inl e) below =
-        up (subst (λ (n : ℕ). IsStoredAt (kid_nth n kids) m other ↔ IsStoredAt (kid_nth n (put_nth i new kids)) m other) e
-        (subst (λ (x : Kid). IsStoredAt (kid_nth i kids) m other ↔ IsStoredAt x m other) (sym (nth_put i new kids reach.0)) (below e)))
+        up (subst (λ (n : ℕ). IsStoredAt (kid_nth n kids) m other ↔ IsStoredAt (kid_nth n (put_nth i child kids)) m other) e
+        (subst (λ (x : Kid). IsStoredAt (kid_nth i kids) m other ↔ IsStoredAt x m other) (sym (nth_put i child kids reach.0)) (below e)))
     go (inr ne) below =
-        up (subst (λ (x : Kid). IsStoredAt (kid_nth j kids) m other ↔ IsStoredAt x m other) (sym (nth_other i j new kids ne))
+        up (subst (λ (x : Kid). IsStoredAt (kid_nth j kids) m other ↔ IsStoredAt x m other) (sym (nth_other i j child kids ne))
         (λ stored. stored, λ stored. stored))
-stored_both (i ∷ here) other _ v m reach beside = absurd reach
+stored_both (i ∷ here) other _ new m reach beside = absurd reach
 
--- it is stored still where a value is put there
-pub stored_still : (here : Place) {other : Place} {k : Kid} (v : Val) {m : ℕ} → Reaches here k → IsNotBeneath here other
-    → IsStoredAt k m other → IsStoredAt (put_at here (there v) k) m other
-stored_still here {other} {k} v {m} reach beside stored = (stored_both here other k v m reach beside).0 stored
-
--- and what is stored then was stored before
+-- where a value is put what is stored then was stored before
 pub stored_before : (here : Place) {other : Place} (k : Kid) (v : Val) {m : ℕ} → Reaches here k
     → IsStoredAt (put_at here (there v) k) m other → IsStoredAt k m other
 stored_before here {other} k v {m} reach stored =
-    (stored_both here other k v m reach (λ way e. is_none_in
+    (stored_both here other k (there v) m reach (λ way e. is_none_in
     way v (ap (kid_at way) (sym (kid_put_at here (there v) k reach)) ∙ sym (kid_at_append here way (put_at here (there v) k))
     ∙ ap (λ (p : Place). kid_at p (put_at here (there v) k)) (sym e) ∙ stored.is))).1 stored
 
@@ -236,3 +231,39 @@ pub stored_no_more : {here : Place} (k : Kid) (v : Val) {m : ℕ} → Reaches he
 stored_no_more {here} k v {m} reach stored =
     let both : there v ≡ at m true stored.plot = sym (kid_put_at here (there v) k reach) ∙ stored.is in
     cc
+
+-- Ways in two parts.
+
+pub reaches_append : (place below : Place) (k : Kid) → Reaches (place ++ below) k → Reaches place k × Reaches below (kid_at place k)
+reaches_append [] below k reach = (tt, reach)
+reaches_append (i ∷ place) below (at slot stored (begun_plot tracker kids)) reach =
+    let rest = reaches_append place below (kid_nth i kids) reach.1 in
+    ((reach.0, rest.0), rest.1)
+reaches_append (i ∷ place) below _ reach = absurd reach
+
+pub reaches_both : (place below : Place) (k : Kid) → Reaches place k → Reaches below (kid_at place k) → Reaches (place ++ below) k
+reaches_both [] below k reach rest = rest
+reaches_both (i ∷ place) below (at slot stored (begun_plot tracker kids)) reach rest =
+    (reach.0, reaches_both place below (kid_nth i kids) reach.1 rest)
+reaches_both (i ∷ place) below _ reach rest = absurd reach
+
+-- where something else is put the way leads still
+pub reach_put : (place : Place) (new k : Kid) → Reaches place k → Reaches place (put_at place new k)
+reach_put [] new k reach = tt
+reach_put (i ∷ place) new (at slot stored (begun_plot tracker kids)) reach = (
+  subst (λ (n : ℕ). i < n) (sym (count_put i (put_at place new (kid_nth i kids)) kids)) reach.0,
+  subst (Reaches place) (sym (nth_put i (put_at place new (kid_nth i kids)) kids reach.0)) (reach_put place new (kid_nth i kids) reach.1),
+)
+reach_put (i ∷ place) new _ reach = absurd reach
+
+-- a place is this one or lies beneath it, or it doesn't
+pub beneath_or_not : (above other : Place) → ((way : Place) × (other ≡ above ++ way)) ⊎ IsNotBeneath above other
+beneath_or_not [] other = inl (other, refl)
+beneath_or_not (i ∷ above) [] = inr (λ way e. cc)
+beneath_or_not (i ∷ above) (j ∷ other) = go (same_or_other i j) (beneath_or_not above other)
+  where
+    go : (i ≡ j) ⊎ (i ≢ j) → ((way : Place) × (other ≡ above ++ way)) ⊎ IsNotBeneath above other
+        → ((way : Place) × (j ∷ other ≡ i ∷ above ++ way)) ⊎ IsNotBeneath (i ∷ above) (j ∷ other)
+    go (inl e) (inl found) = inl (found.0, ap (λ (n : ℕ). n ∷ other) (sym e) ∙ ap (λ (p : Place). i ∷ p) found.1)
+    go (inl e) (inr beside) = inr (λ way same. let rest : other ≡ above ++ way = cc in beside way rest)
+    go (inr ne) rest = inr (λ way same. let first : i ≡ j = cc in ne first)

@@ -1,6 +1,6 @@
 -- What is so where a call went well, and where there was no memory.
 use Rattle.std.proofs.Common.{◌⊎◌, inl, inr}
-use Rattle.std.specs.Prelude.{Result, Ok, Err, OnOk, OnErr}
+use Rattle.std.specs.Prelude.{Result, Ok, Err, IfErr, OnOk, OnErr}
 
 module _ {A E So Too Then : Type 0} where
   pub either_way : (result : Result A E) → (So → Then) → (Too → Then) → OnOk result So → OnErr result Too → Then
@@ -21,3 +21,8 @@ on_ok_each So (Err e) so = tt
 pub or_so : {A B C : Type 0} → A ⊎ B → (B → C) → A ⊎ C
 or_so (inl a) so = inl a
 or_so (inr b) so = inr (so b)
+
+-- where a call was refused, what follows from its cause
+pub if_err_each : {A E : Type 0} {So Too : E → Type 0} (result : Result A E) → ((e : E) → So e → Too e) → IfErr result So → IfErr result Too
+if_err_each (Ok x) step so = tt
+if_err_each (Err e) step so = step e so

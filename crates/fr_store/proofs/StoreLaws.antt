@@ -64,7 +64,8 @@ module _ {plan : Plan} {heap : Heap} {stack : List ℕ} {above : Place} {i : ℕ
       subst (λ (x : Kid). AreLeftRightly x) (sym above_is) (left_put_at above k
       (at_for_at found.slot (begun_plot found.tracker (put_nth i (at top.slot true top.plot) found.kids)) found.is) (left_put_nth
       found.tracker 0 i i stored_top found.kids (omega arith) (left_as found.tracker i (kid_nth i found.kids) stored_top
-      (λ is. let apart : true ≡ false = sym is ∙ not_item in absurd (cc)) (λ h there. absurd (subst IsThere child there))) (subst
+      (λ is. let apart : true ≡ false = sym is ∙ not_item in absurd (cc)) (λ h there. absurd (subst IsThere child there))
+      (λ h there. there)) (subst
       (λ (x : Kid). AreLeftRightly x) child (left_nth found.tracker 0 i i found.kids (omega arith) among)) among) stands.left)
 
   leads_stored : Leads above (put_at (above ++ i ∷ []) stored_top k)

@@ -1,15 +1,15 @@
 -- Laws of a turn, for proofs: a stored place that has no child in a slot leaves its slot, and its value goes into the place above.
-use Rattle.std.proofs.Common.{◌≡◌, ◌≢◌, ◌⊎◌, ℕ, suc, ◌+◌, ◌<◌, ◌≤◌, Bool, true, List, [], ◌∷◌, ◌++◌, length, nat_eq, Option, Some, None, inl, inr, refl, sym, ◌∙◌, ap, subst, arith}
-use Rattle.fr_store.specs.Below.{Body, FrameOwner, Heap, Holds, IsClosed, IsOffTheWay, Kid, Kids, MayHave, Node, Place, Plan, Plot, Tracker, Val, at, begun_body, begun_plot, body_in, cell_of, cells_in, child_owner, entered_plot, gone, placed, there, unlinked, whole_plot, with_body, with_cell, with_slot, without}
+use Rattle.std.proofs.Common.{◌≡◌, ◌≢◌, ◌⊎◌, ℕ, suc, ◌+◌, ◌<◌, ◌≤◌, Bool, true, false, List, [], ◌∷◌, ◌++◌, append-nil, append_assoc, length, nat_eq, Option, Some, None, inl, inr, refl, sym, ◌∙◌, ap, subst, arith}
+use Rattle.fr_store.specs.Below.{AreLeftRightly, Body, FrameOwner, Heap, Holds, IsClosed, IsOffTheWay, Kid, Kids, MayHave, Node, Place, Plan, Plot, Tracker, Val, at, begun_body, begun_plot, body_in, cell_of, cells_in, child_owner, entered_plot, gone, is_conversion, kid, no_kids, placed, there, unlinked, whole_body, whole_plot, with_body, with_cell, with_slot, without}
 use Rattle.fr_values.specs.Cells.{given}
 use Rattle.fr_store.specs.HoldLaws.{AgreeBeside, Replaces, holds_at, holds_put_nth, may_have_all, replaces_at}
-use Rattle.fr_store.specs.LeftLaws.{left_put_at, there_for_any}
+use Rattle.fr_store.specs.LeftLaws.{at_for_itself, left_at, left_put_at, left_put_nth, left_value}
 use Rattle.fr_store.specs.LeaveLaws.{below_root, kid_at_append, may_have_put, owner_append, put_append, unlinked_child, with_child, within_put}
-use Rattle.fr_store.proofs.OffLaws.{way_off, off_stored}
+use Rattle.fr_store.proofs.OffLaws.{beneath_or_not, marked_off, way_off, off_stored, reaches_append}
 use Rattle.fr_store.specs.Stands.{Stands}
-use Rattle.fr_store.specs.TopLaws.{body_here, body_other, slot_here, slot_other}
-use Rattle.fr_store.specs.Ways.{count_kids, kid_nth, kid_at, put_nth, put_at, counts_if, uses, uses_in, uses_among, Reaches, node_along, owner_along, owner_below}
-use Rattle.fr_store.specs.WayLaws.{counts_own, counts_same, put_nth_twice, same_or_other, uses_at, uses_nth, uses_put_at}
+use Rattle.fr_store.specs.TopLaws.{body_here, body_other, closed_uses, slot_here, slot_other}
+use Rattle.fr_store.specs.Ways.{count_kids, kid_nth, kid_at, put_nth, put_at, counts_if, uses, uses_in, uses_among, slots_above, slots_along, AllMarked, Leads, Reaches, node_along, owner_along, owner_below}
+use Rattle.fr_store.specs.WayLaws.{along_at, along_put_at, leads_at, leads_put_at, leads_reach, counts_own, counts_same, put_nth_twice, same_or_other, uses_at, uses_nth, uses_put_at}
 
 -- One slot after another.
 
@@ -70,13 +70,6 @@ asked_still {heap} {last} {q} up asks same m ne = go (same_or_other m q)
     go (inr a) = ap asks (up.other m a ne)
 
 -- The place above a stored one.
-
-reaches_append : (place below : Place) (k : Kid) → Reaches (place ++ below) k → Reaches place k × Reaches below (kid_at place k)
-reaches_append [] below k reach = (tt, reach)
-reaches_append (i ∷ place) below (at slot stored (begun_plot tracker kids)) reach =
-    let rest = reaches_append place below (kid_nth i kids) reach.1 in
-    ((reach.0, rest.0), rest.1)
-reaches_append (i ∷ place) below _ reach = absurd reach
 
 -- the place is child i of one that is begun, in slot q
 pub record Over (here : Place) (k : Kid) (n : ℕ) (plot : Plot) : Type 0 where
@@ -200,10 +193,10 @@ module _ {plan : Plan} {heap : Heap} {stack : List ℕ} {cursor : Place} {k : Ki
     due_apart e = absurd (omega (arith, counts_own e, counts_same n, child_uses n, uses_nth over.i over.kids n, once_above n))
 
     -- a value in the stead of the place
-    pub stands_turned : {other : Heap} (v : Val) → IsClosed (body_in plot) → IsHandedUp
+    pub stands_turned : {other : Heap} (v : Val) → is_conversion over.tracker ≡ false → IsClosed (body_in plot) → IsHandedUp
         heap other n over.slot (over_node plan over) (begun_body over.tracker (cells_in (put_nth over.i (there v) over.kids)))
         → Stands plan other stack cursor (put_at here (there v) k)
-    stands_turned {other} v closed up = record {
+    stands_turned {other} v plain closed up = record {
       holds =
           subst (λ (x : Kid). Holds plan other plan.root FrameOwner.Root 0 x) (sym put)
           (replaces_at plan heap other over.above new k (ap cell_of (sym over.is)) agree replaces plan.root
@@ -211,7 +204,11 @@ module _ {plan : Plan} {heap : Heap} {stack : List ℕ} {cursor : Place} {k : Ki
       once = λ m. omega (arith, uses_put_at here (there v) k m reach, stands.once m);
       leads = (way_off cursor here (there v) k stands.leads due_off reach tt).0;
       along = stands.along ∙ sym (way_off cursor here (there v) k stands.leads due_off reach tt).1;
-      left = left_put_at here k (there_for_any (kid_at here k) (there v) tt refl) tt stands.left;
+      left =
+          subst AreLeftRightly (sym put) (left_put_at over.above k (at_for_itself
+          (begun_plot over.tracker (put_nth over.i (there v) over.kids)) over.is) (left_put_nth over.tracker 0 over.i over.i (there v) over.kids
+          (omega arith) (λ was. left_value over.tracker over.i v plain) tt
+          (subst AreLeftRightly over.is (left_at over.above k stands.left))) stands.left);
     }
       where
         new : Kid
@@ -256,3 +253,111 @@ module _ {plan : Plan} {heap : Heap} {stack : List ℕ} {cursor : Place} {k : Ki
             with_kids : Option Node → Option Node
             with_kids (Some x) = Some (record x { body = begun_body over.tracker (cells_in (put_nth over.i (there v) over.kids)) })
             with_kids None = None
+
+    -- Where the place above is a conversion it is whole.
+
+    -- what is beneath it is this place alone
+    alone_uses : (ks : Kids) (m : ℕ) → count_kids ks ≤ 1 → uses_among ks m ≡ uses (kid_nth 0 ks) m
+    alone_uses no_kids m alone = refl
+    alone_uses (kid x no_kids) m alone = omega arith
+    alone_uses (kid x (kid y ks)) m alone = absurd (omega (arith, alone))
+
+    module _ (alone : count_kids over.kids ≤ 1) where
+      first_child : over.i ≡ 0
+      first_child = omega (arith, over.within, alone)
+
+      pub due_alone : (m : ℕ) → IsClosed (body_in plot) → uses_among over.kids m ≡ counts_if (nat_eq n m)
+      due_alone m closed =
+          let child : uses (kid_nth 0 over.kids) m ≡ uses (kid_nth over.i over.kids) m
+          = ap (λ (j : ℕ). uses (kid_nth j over.kids) m) (sym first_child) in
+          omega (arith, alone_uses over.kids m alone, child, child_uses m, closed_uses plot m closed)
+
+      -- the builder works there, or it is off the way
+      pub above_turn : IsOffTheWay cursor over.above ⊎ (cursor ≡ over.above)
+      above_turn = go (beneath_or_not over.above cursor)
+        where
+          go : ((way : Place) × (cursor ≡ over.above ++ way)) ⊎ IsOffTheWay cursor over.above
+              → IsOffTheWay cursor over.above ⊎ (cursor ≡ over.above)
+          go (inr off) = inl off
+          go (inl ([], e)) = inr (e ∙ append-nil over.above)
+          go (inl (j ∷ way, e)) =
+              let reached = reaches_append over.above (j ∷ way) k (subst (λ (p : Place). Reaches p k) e (leads_reach cursor [] k
+              (subst (λ (p : Place). Leads p k) (sym (append-nil cursor)) stands.leads))) in
+              let below = subst (Reaches (j ∷ way)) over.is reached.1 in
+              let same : j ≡ over.i = omega (arith, below.0, alone, first_child) in
+              absurd (due_off way (e ∙ ap (λ (x : ℕ). over.above ++ x ∷ way) same
+              ∙ sym (append_assoc over.above (over.i ∷ []) way) ∙ ap (λ (p : Place). p ++ way) (sym over.is_below)))
+
+      -- with this value
+      pub stands_converted : {other : Heap} (w : Val) → IsClosed (body_in plot)
+          → IsHandedUp heap other n over.slot (over_node plan over) (whole_body w)
+          → Stands plan other stack cursor (put_at over.above (at over.slot over.mark (whole_plot w)) k)
+      stands_converted {other} w closed up = record {
+        holds =
+            replaces_at plan heap other over.above new k (ap cell_of (sym over.is)) agree replaces plan.root FrameOwner.Root 0 stands.holds;
+        once = λ m. omega (arith, uses_put_at over.above new k m over.reach, stands.once m, over_uses m);
+        leads = (on_way above_turn).0;
+        along = stands.along ∙ sym (on_way above_turn).1;
+        left = left_put_at over.above k (at_for_itself (whole_plot w) over.is) tt stands.left;
+      }
+        where
+          new : Kid
+          new = at over.slot over.mark (whole_plot w)
+
+          elsewhere : (m : ℕ) → counts_if (nat_eq over.slot m) ≡ 0 → counts_if (nat_eq n m) ≡ 0 → other m ≡ heap m
+          elsewhere m a b = go (same_or_other m over.slot) (same_or_other m n)
+            where
+              go : (m ≡ over.slot) ⊎ (m ≢ over.slot) → (m ≡ n) ⊎ (m ≢ n) → other m ≡ heap m
+              go (inl e) x = absurd (omega (arith, counts_own e, a))
+              go (inr x) (inl e) = absurd (omega (arith, counts_own e, b))
+              go (inr x) (inr y) = up.other m x y
+
+          agree : AgreeBeside heap other k (kid_at over.above k)
+          agree m h =
+              let part = over_uses m in
+              let child = child_uses m in
+              elsewhere m (omega (arith, part, stands.once m))
+              (omega (arith, part, child, uses_nth over.i over.kids m, stands.once m))
+
+          replaces : Replaces plan heap other (kid_at over.above k) (at over.slot over.mark (whole_plot w))
+          replaces node by depth holds =
+              let was = subst (λ (x : Kid). Holds plan heap node by depth x) over.is holds in
+              let same : Some (record {
+                node = node;
+                owner = by;
+                stored = over.mark;
+                depth = depth;
+                body = begun_body over.tracker (cells_in over.kids);
+              }) ≡ Some (over_node plan over) = sym was.0 ∙ over_found in (
+                up.over ∙ sym (ap (λ (x : Option Node). now_whole x) same),
+                was.1,
+                tt,
+              )
+            where
+              now_whole : Option Node → Option Node
+              now_whole (Some x) = Some (record x { body = whole_body w })
+              now_whole None = None
+
+          at_work : cursor ≡ over.above → Leads over.above (put_at over.above (at over.slot over.mark (whole_plot w)) k)
+              × (slots_along over.above (put_at over.above (at over.slot over.mark (whole_plot w)) k) ≡ slots_along over.above k)
+          at_work e =
+              let now : Kid = at over.slot over.mark (whole_plot w) in
+              let longer : Leads (over.above ++ []) k
+              = subst (λ (p : Place). Leads p k) (e ∙ sym (append-nil over.above)) stands.leads in
+              let here = subst (Leads []) over.is (leads_at over.above [] k longer) in (
+                subst (λ (p : Place). Leads p (put_at over.above now k)) (append-nil over.above)
+                    (leads_put_at over.above [] [] now k longer (here.0, tt)),
+                subst (λ (p : Place). slots_along p (put_at over.above now k) ≡ slots_along p k) (append-nil over.above)
+                    (along_put_at over.above [] now k over.reach ∙ sym (along_at over.above [] k over.reach
+                    ∙ ap (λ (x : Kid). slots_above over.above k ++ slots_along [] x) over.is)),
+              )
+
+          on_way : IsOffTheWay cursor over.above ⊎ (cursor ≡ over.above)
+              → Leads cursor (put_at over.above (at over.slot over.mark (whole_plot w)) k)
+              × (slots_along cursor (put_at over.above (at over.slot over.mark (whole_plot w)) k) ≡ slots_along cursor k)
+          on_way (inl off) =
+              let marked = subst (AllMarked true) over.is (marked_off cursor over.above k stands.leads off over.reach) in
+              way_off cursor over.above (at over.slot over.mark (whole_plot w)) k stands.leads off over.reach (marked.0, tt)
+          on_way (inr e) =
+              subst (λ (p : Place). Leads p (put_at over.above (at over.slot over.mark (whole_plot w)) k)
+              × (slots_along p (put_at over.above (at over.slot over.mark (whole_plot w)) k) ≡ slots_along p k)) (sym e) (at_work e)

@@ -1,15 +1,16 @@
 -- Laws of a walk, for proofs: it begins, goes on by a turn, is refused, or comes to its end.
 use Rattle.std.proofs.Common.{◌≡◌, ◌≢◌, ◌⊎◌, ◌+◌, ◌<◌, drop, length, ℕ, true, false, List, [], ◌∷◌, ◌++◌, append-nil, append_assoc, get_or, Some, None, inl, inr, refl, sym, ◌∙◌, ap, subst}
-use Rattle.fr_store.specs.Common.{All, AreInWalkOrder, AreStoredAt, Contains, EachFailureHasItsPlace, Failure, FinishesOrRefuses, FirstByWalkIs, HasPlace, HasTurned, IsChecked, IsHeldUp, IsLackingAt, IsOpen, IsStoredAt, IsWalk, KeepsTheRest, LackingFails, Leads, MayTurn, Meanings, Place, Plan, ReflectErrorKind, Slot, StoppedByTurns, Suits, Table, Tree, Val, Walked, change_at, closed_at, cursor_in, deferred_column, failures_off, finished, first_by_walk, heap_of, kind_of, leads_reach, marked, own_lack, root_shape, same_or_other, shape_in, steps_in, stored_in, tree_at, tree_in_slots, whole}
+use Rattle.fr_store.specs.Common.{All, AreInWalkOrder, AreStoredAt, Contains, EachFailureHasItsPlace, Failure, FinishesOrRefuses, FirstByWalkIs, HasPlace, HasTurned, IsChecked, IsHeldUp, IsLackingAt, IsLawful, IsOpen, IsStoredAt, IsSuited, IsWalk, KeepsTheRest, LackingFails, Leads, MayTurn, Meanings, Place, Plan, ReflectErrorKind, Slot, StoppedByTurns, Table, Tree, Val, Walked, change_at, closed_at, cursor_in, deferred_column, done_at, failures_off, finished, first_by_walk, heap_of, kind_of, leads_reach, marked, own_lack, root_shape, same_or_other, shape_in, steps_in, stored_in, tree_at, tree_in_slots, turn_of, whole}
 use Rattle.std.proofs.lemmas.List.{drop_more}
 use Rattle.std.proofs.lemmas.List.Elements.{All-tail, Contains-get_or}
 use Rattle.fr_model.specs.Complete.{complete}
 use Rattle.fr_model.specs.Finish.{finish_cause}
-use Rattle.fr_model.specs.Laws.{CompletingFits}
+use Rattle.fr_model.specs.FinishLaws.{ClosingKeepsFailuresOff}
+use Rattle.fr_model.specs.Laws.{CompletesOrFails, CompletingFits}
 use Rattle.fr_store.proofs.ClosingLaws.{stays}
 use Rattle.fr_store.specs.Turning.{kid_here, next_place}
 use Rattle.fr_store.specs.Turns.{CompletesAsBefore, KeepThoseLeft, Turned}
-use Rattle.fr_store.proofs.DueLaws.{due, head as due_head, left_next, only_here, suits_next}
+use Rattle.fr_store.proofs.DueLaws.{done_has, due, head as due_head, left_next, only_here, suits_next}
 use Rattle.fr_store.proofs.HeadLaws.{Head, stored_among}
 use Rattle.fr_store.proofs.HeldLaws.{first_fails, held_by_first, leads_deferred}
 use Rattle.fr_store.proofs.OffLaws.{reach_place}
@@ -36,21 +37,26 @@ still_marked {before = before} {after = after} {n = n} turned m is = go (same_or
     go (inr ne) = sym (turned.marks m ne) ∙ is
 
 module _ (means : Meanings) (table : Table) (s : ℕ) where
-  -- what stands at the place makes this value
+  -- what stands at the place that is done at the turn of this one makes this value
   abbrev Makes : Tree → Place → Val → Type 0
-  Makes tree place v = complete deferred_column means table (shape_in table s place tree) (tree_at place tree) ≡ Some v
+  Makes tree place v =
+      complete deferred_column means table (shape_in table s (done_at place tree) tree) (tree_at (done_at place tree) tree) ≡ Some v
+
+  -- the tree once the place that is done at the turn of this one is whole with the value
+  abbrev with_done : Place → Val → Tree → Tree
+  with_done place v tree = change_at (done_at place tree) (λ old. whole v) tree
 
   -- one place more had its turn
   turned_more : (before : Tree) (done : List Place) (now : Tree) (place : Place) (v : Val) (next : Tree)
-      → Turned means table s before done now → Makes now place v → next ≡ change_at place (λ old. whole v) now
+      → Turned means table s before done now → Makes now place v → next ≡ with_done place v now
       → Turned means table s before (done ++ place ∷ []) next
   turned_more before [] now place v next turned makes is = (
     v,
     subst (λ (t : Tree). Makes t place v) turned makes,
-    is ∙ ap (λ (t : Tree). change_at place (λ old. whole v) t) turned,
+    is ∙ ap (with_done place v) turned,
   )
   turned_more before (first ∷ done) now place v next turned makes is =
-      (turned.0, turned.1, turned_more (change_at first (λ old. whole turned.0) before) done now place v next turned.2 makes is)
+      (turned.0, turned.1, turned_more (with_done first turned.0 before) done now place v next turned.2 makes is)
 
   module _ (start : Tree) where
     -- of the places that are left each completes as at the start
@@ -59,12 +65,12 @@ module _ (means : Meanings) (table : Table) (s : ℕ) where
     kept_now before [] left now kept turned =
         subst (λ (t : Tree). All (CompletesAsBefore means table s start t) left) (sym turned) kept
     kept_now before (first ∷ done) left now kept turned =
-        kept_now (change_at first (λ old. whole turned.0) before) done left now (kept.1 turned.0 turned.1) turned.2
+        kept_now (with_done first turned.0 before) done left now (kept.1 turned.0 turned.1) turned.2
 
     -- so it is after one turn more
     kept_more : (before : Tree) (done left : List Place) (now : Tree) (place : Place) (v : Val) (next : Tree)
         → KeepThoseLeft means table s start before done (place ∷ left) → Turned means table s before done now → Makes now place v
-        → next ≡ change_at place (λ old. whole v) now → All (CompletesAsBefore means table s start next) left
+        → next ≡ with_done place v now → All (CompletesAsBefore means table s start next) left
         → KeepThoseLeft means table s start before (done ++ place ∷ []) left
     kept_more before [] left now place v next kept turned makes is after = (
       kept,
@@ -72,8 +78,7 @@ module _ (means : Meanings) (table : Table) (s : ℕ) where
           let both : Some w ≡ Some v = sym same ∙ subst (λ (t : Tree). Makes t place v) turned makes in
           let value : w ≡ v = cc in
           subst (λ (t : Tree). All (CompletesAsBefore means table s start t) left)
-          (is ∙ ap (λ (x : Val). change_at place (λ old. whole x) now) (sym value)
-          ∙ ap (λ (t : Tree). change_at place (λ old. whole w) t) turned) after,
+          (is ∙ ap (λ (x : Val). with_done place x now) (sym value) ∙ ap (with_done place w) turned) after,
     )
     kept_more before (first ∷ done) left now place v next kept turned makes is after = (
       subst (λ (l : List Place). All (CompletesAsBefore means table s start before) (first ∷ l))
@@ -81,14 +86,14 @@ module _ (means : Meanings) (table : Table) (s : ℕ) where
       λ w same.
           let both : Some turned.0 ≡ Some w = sym turned.1 ∙ same in
           let value : turned.0 ≡ w = cc in
-          subst (λ (x : Val). KeepThoseLeft means table s start (change_at first (λ old. whole x) before) (done ++ place ∷ []) left)
-          value (kept_more (change_at first (λ old. whole turned.0) before) done left now place v next
+          subst (λ (x : Val). KeepThoseLeft means table s start (with_done first x before) (done ++ place ∷ []) left)
+          value (kept_more (with_done first turned.0 before) done left now place v next
           (kept.1 turned.0 turned.1) turned.2 makes is after),
     )
 
 module _ {means : Meanings} {table : Table} {plan : Plan} {before : List Slot} {stack : List ℕ} where
   -- the walk begins
-  pub walk_begins : {walk : List ℕ} → IsOpen plan before stack → Suits table (root_shape plan) (tree_in_slots before stack)
+  pub walk_begins : {walk : List ℕ} → IsOpen plan before stack → IsSuited table (root_shape plan) (tree_in_slots before stack)
       → IsWalk (kid_here before stack) walk → Walked means table plan before stack before walk walk
   walk_begins open_now suits first = record {
     first = first;
@@ -107,13 +112,13 @@ module _ {means : Meanings} {table : Table} {plan : Plan} {before : List Slot} {
     marks = λ n is. is;
   }
 
-  -- it stopped at the first place that is left, which lacks something by itself
+  -- it stopped at the first place that is left, at whose turn something is lacking
   pub stopped_at : {now : List Slot} {walk rest : List ℕ} (walked : Walked means table plan before stack now walk rest)
-      {kind : ReflectErrorKind}
-      → own_lack means table (shape_in table (root_shape plan) (next_place walked.left.places (cursor_in before stack)) (tree_in_slots now stack))
-      (tree_at (next_place walked.left.places (cursor_in before stack)) (tree_in_slots now stack)) ≡ Some kind
-      → StoppedByTurns means table plan before stack kind
-  stopped_at {now} {walk} walked lacks = record {
+      {kind : ReflectErrorKind} (here : Place)
+      → turn_of here (tree_in_slots now stack) ≡ next_place walked.left.places (cursor_in before stack)
+      → own_lack means table (shape_in table (root_shape plan) here (tree_in_slots now stack)) (tree_at here (tree_in_slots now stack))
+      ≡ Some kind → StoppedByTurns means table plan before stack kind
+  stopped_at {now} {walk} walked here turn lacks = record {
     done = walked.done;
     left = walked.left.places;
     order = subst (AreInWalkOrder (tree_in_slots before stack)) walked.split walked.first.order;
@@ -123,6 +128,8 @@ module _ {means : Meanings} {table : Table} {plan : Plan} {before : List Slot} {
     tree = tree_in_slots now stack;
     turned = walked.turned;
     kept = walked.kept;
+    here = here;
+    turn = turn;
     lacks = lacks;
   }
 
@@ -159,13 +166,13 @@ module _ {means : Meanings} {table : Table} {plan : Plan} {before : List Slot} {
     Keeps done left = KeepThoseLeft means table (root_shape plan) start start done left
 
     -- it had its turn
-    pub walk_goes_on : CompletingFits → IsChecked table → {next : List Slot} → HasTurned means table plan now stack next n
+    pub walk_goes_on : CompletingFits → IsLawful means → IsChecked table → {next : List Slot} → HasTurned means table plan now stack next n
         → KeepsTheRest means table plan now stack next → Walked means table plan before stack next walk rest
-    walk_goes_on fitting checked {next} turned keeps = record {
+    walk_goes_on fitting lawful checked {next} turned keeps = record {
       first = walked.first;
       still = turned.stands.open_still;
       cursor = turned.stands.cursor ∙ walked.cursor;
-      suits = suits_next walked.still [] (cursor_in now stack) refl walked.left turned fitting checked walked.suits;
+      suits = suits_next walked.still [] (cursor_in now stack) refl walked.left turned fitting lawful checked walked.suits;
       left = on.0;
       done = walked.done ++ head.place ∷ [];
       split =
@@ -195,14 +202,12 @@ module _ {means : Meanings} {table : Table} {plan : Plan} {before : List Slot} {
         on : (left : IsWalk (kid_here next stack) rest) × (left.places ≡ head.places)
         on = left_next walked.still [] (cursor_in now stack) refl walked.left turned
 
-        makes : complete deferred_column means table (shape_in table (root_shape plan) head.place tree) (tree_at head.place tree)
-            ≡ Some turned.value
-        makes =
-            subst (λ (p : Place). complete deferred_column means table (shape_in table (root_shape plan) p tree) (tree_at p tree)
-            ≡ Some turned.value) same turned.meant
+        makes : Makes means table (root_shape plan) tree head.place turned.value
+        makes = subst (λ (p : Place). Makes means table (root_shape plan) tree p turned.value) same turned.meant
 
-        next_is : tree_in_slots next stack ≡ change_at head.place (λ old. whole turned.value) tree
-        next_is = turned.stands.built ∙ ap (λ (p : Place). change_at p (λ old. whole turned.value) tree) same
+        next_is : tree_in_slots next stack ≡ with_done means table (root_shape plan) head.place turned.value tree
+        next_is =
+            turned.stands.built ∙ ap (λ (p : Place). with_done means table (root_shape plan) p turned.value tree) same
 
         kept_head : Keeps walked.done (head.place ∷ head.places)
         kept_head = subst (Keeps walked.done) head.is walked.kept
@@ -219,53 +224,47 @@ module _ {means : Meanings} {table : Table} {plan : Plan} {before : List Slot} {
             (Contains-get_or head.places i d h) in
             as_before_again (first i d h) (keeps.still lies.0 place lies.1)
 
-        has : HasPlace turned.place tree
-        has = reach_place turned.place (kid_here now stack) turned.stored.reaches
-
         -- the cursor's place is one of the tree still, and the same steps lead there
-        has_cursor : HasPlace cursor (closed_at turned.place turned.value tree)
+        has_cursor : HasPlace cursor (closed_at (done_at turned.place tree) turned.value tree)
         has_cursor =
             subst (λ (t : Tree). HasPlace cursor t) turned.stands.built (reach_place cursor (kid_here next stack)
             (leads_reach cursor [] (kid_here next stack) (subst (λ (p : Place). Leads p (kid_here next stack))
             (turned.stands.cursor ∙ walked.cursor ∙ sym (append-nil cursor)) turned.stands.open_still.stands.leads)))
 
         steps_on : steps_in cursor (tree_in_slots next stack) ≡ steps_in cursor tree
-        steps_on = ap (steps_in cursor) turned.stands.built ∙ (stays turned.place cursor turned.value tree has has_cursor).steps
+        steps_on =
+            ap (steps_in cursor) turned.stands.built ∙ (stays (done_at turned.place tree) cursor turned.value tree
+            (done_has walked.still [] (cursor_in now stack) refl walked.left turned) has_cursor).steps
 
-    -- what it lacks, the first place that is left lacks
-    lacks_first : {kind : ReflectErrorKind} (lacks : IsLackingAt means table plan now stack n kind)
-        → own_lack means table (shape_in table (root_shape plan) head.place tree) (tree_at head.place tree) ≡ Some kind
-    lacks_first {kind} lacks =
-        subst
-        (λ (p : Place). own_lack means table (shape_in table (root_shape plan) p tree) (tree_at p tree) ≡ Some kind)
-        (same_place lacks.place lacks.stored) lacks.lacks
+    -- something is lacking at its turn
+    module _ {kind : ReflectErrorKind} (lacks : IsLackingAt means table plan now stack n kind) where
+      turn_first : turn_of lacks.here tree ≡ head.place
+      turn_first = lacks.turn ∙ same_place lacks.place lacks.stored
 
-    -- it makes no value: it is the first place that fails
-    pub walk_held_up : EachFailureHasItsPlace → LackingFails → FirstByWalkIs → FinishesOrRefuses → IsOpen plan before stack
-        → {kind : ReflectErrorKind} → IsLackingAt means table plan now stack n kind → IsHeldUp means table plan before stack kind
-    walk_held_up each lacking first refuses open_first {kind} lacks = record { unfinished = held.0; cause = held.1 }
-      where
-        fails : kind_of (first_by_walk (failures_off means table (root_shape plan) [] (cursor_in now stack) tree)) ≡ Some kind
-        fails =
-            ap kind_of (first_fails means table (root_shape plan) [] (kid_here now stack) (cursor_in now stack)
-            walked.still.stands.leads n rest walked.left head kind (lacks_first lacks) each lacking first)
+      -- it is what fails first
+      pub walk_held_up : EachFailureHasItsPlace → LackingFails → ClosingKeepsFailuresOff → CompletesOrFails → FirstByWalkIs
+          → FinishesOrRefuses → IsOpen plan before stack → IsHeldUp means table plan before stack kind
+      walk_held_up each lacking closing fails_all first refuses open_first = record { unfinished = held.0; cause = held.1 }
+        where
+          fails : kind_of (first_by_walk (failures_off means table (root_shape plan) [] (cursor_in now stack) tree)) ≡ Some kind
+          fails =
+              ap kind_of (first_fails means table (root_shape plan) [] (kid_here now stack) (cursor_in now stack)
+              walked.still.stands.leads walked.still.stands.left walked.suits.suits n rest walked.left head lacks.here turn_first kind
+              lacks.incomplete lacks.lacks each lacking closing fails_all first)
 
-        as_at_first : failures_off means table (root_shape plan) [] (cursor_in now stack) tree
-            ≡ failures_off means table (root_shape plan) [] cursor start
-        as_at_first =
-            ap (λ (p : Place). failures_off means table (root_shape plan) [] p tree) walked.cursor ∙ walked.failing []
+          as_at_first : failures_off means table (root_shape plan) [] (cursor_in now stack) tree
+              ≡ failures_off means table (root_shape plan) [] cursor start
+          as_at_first =
+              ap (λ (p : Place). failures_off means table (root_shape plan) [] p tree) walked.cursor ∙ walked.failing []
 
-        held : (finished means table (root_shape plan) cursor start ≡ None)
-            × (kind ≡ finish_cause means table (root_shape plan) cursor start)
-        held =
-            held_by_first refuses means table (root_shape plan) cursor start kind
-            (leads_deferred 0 cursor (kid_here before stack) open_first.stands.leads)
-            (ap (λ (fs : List Failure). kind_of (first_by_walk fs)) (sym as_at_first) ∙ fails)
+          held : (finished means table (root_shape plan) cursor start ≡ None)
+              × (kind ≡ finish_cause means table (root_shape plan) cursor start)
+          held =
+              held_by_first refuses means table (root_shape plan) cursor start kind
+              (leads_deferred 0 cursor (kid_here before stack) open_first.stands.leads)
+              (ap (λ (fs : List Failure). kind_of (first_by_walk fs)) (sym as_at_first) ∙ fails)
 
-    -- there it stopped
-    pub walk_stopped : {kind : ReflectErrorKind} → IsLackingAt means table plan now stack n kind
-        → StoppedByTurns means table plan before stack kind
-    walk_stopped {kind} lacks =
-        stopped_at walked (subst
-        (λ (p : Place). own_lack means table (shape_in table (root_shape plan) p tree) (tree_at p tree) ≡ Some kind)
-        (sym (ap (λ (l : List Place). next_place l cursor) head.is)) (lacks_first lacks))
+      -- there it stopped
+      pub walk_stopped : StoppedByTurns means table plan before stack kind
+      walk_stopped =
+          stopped_at walked lacks.here (turn_first ∙ sym (ap (λ (l : List Place). next_place l cursor) head.is)) lacks.lacks

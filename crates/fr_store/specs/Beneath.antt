@@ -11,7 +11,7 @@ use Rattle.fr_model.specs.Finish.{closed_all}
 use Rattle.fr_model.specs.Places.{deferred_column, entry_of}
 use Rattle.fr_model.specs.Step.{cause_by}
 use Rattle.fr_model.specs.Tree.{Tree, hole, entered, whole, begun, change_at, shape_in}
-use Rattle.fr_model.specs.Well.{Suits}
+use Rattle.fr_model.specs.Trackers.{is_conversion}
 use Rattle.fr_plan.specs.TypePlan.{Plan}
 use Rattle.fr_frame.specs.declared.places.Slot.{Slot}
 use Rattle.fr_frame.specs.Bodies.{Body, entered_body, whole_body, begun_body, IsClosed}
@@ -20,6 +20,7 @@ use Rattle.fr_frame.specs.Heap.{Node}
 use Rattle.fr_frame.specs.Kids.{Kid}
 use Rattle.fr_store.specs.StackMoves.{cursor_in, tree_here, tree_in_slots, AtTop, IsOpenAt}
 use Rattle.fr_store.specs.Stands.{kid_here}
+use Rattle.fr_store.specs.Suited.{IsSuited}
 use Rattle.fr_store.specs.Turns.{root_shape, CompletesAsBefore}
 use Rattle.fr_store.specs.Ways.{kid_at}
 
@@ -29,12 +30,15 @@ shape_here table plan slots stack = shape_in table (root_shape plan) (cursor_in 
 
 -- What becomes of a tree whose top has shape s, where everything that is there beneath the top is completed and nothing else
 -- changes: the top stays as it is. Where it is begun each child becomes whole with the value that it makes by the rules of the end of
--- deferred mode, and one that isn't there stays away. None where a child makes no value.
+-- deferred mode, and one that isn't there stays away; a conversion becomes whole itself, as its source is converted. None where a child
+-- makes no value, or the source isn't converted.
 abbrev pub completed_beneath : Meanings → Table → (s : ℕ) → Tree → Option Tree
 completed_beneath means table s hole = Some hole
 completed_beneath means table s entered = Some entered
 completed_beneath means table s (whole v) = Some (whole v)
-completed_beneath means table s (begun tracker ts) = option_map (begun tracker) (closed_all means table s tracker 0 ts)
+completed_beneath means table s (begun tracker ts) =
+    if is_conversion tracker then option_map whole (complete deferred_column means table s (begun tracker ts))
+    else option_map (begun tracker) (closed_all means table s tracker 0 ts)
 
 -- All that was there beneath that place is completed, and what comes of it stands there. That makes the value that was made
 -- there before, or the same places fail in it, nothing beneath it is in a slot, and all else is as it was.
@@ -48,7 +52,7 @@ pub record IsCompleteBeneath (means : Meanings) (table : Table) (plan : Plan) (b
       CompletesAsBefore means table (root_shape plan) (tree_in_slots before stack) (tree_in_slots after stack)
       (cursor_in before stack)
   pub closed : AtTop after stack (λ at. IsClosed at.body)
-  pub suits : Suits table (root_shape plan) (tree_in_slots after stack)
+  pub suits : IsSuited table (root_shape plan) (tree_in_slots after stack)
 
 -- It can't come about, and this is the cause, whatever the path of that place: the first place that fails beneath it.
 pub record IsHeldUpHere (means : Meanings) (table : Table) (plan : Plan) (slots : List Slot) (stack : List ℕ) (kind : ReflectErrorKind) : Type 0 where

@@ -1,6 +1,7 @@
 pub mod Below
 pub mod Beneath
 pub mod Common
+pub mod Converting
 pub mod EnterLaws
 pub mod HereLaws
 pub mod HoldLaws
@@ -11,11 +12,13 @@ pub mod Numbers
 pub mod PlaceOrder
 pub mod Prunes
 pub mod ShapeLaws
+pub mod SourceLaws
 pub mod StackMoves
 pub mod StandLaws
 pub mod Stands
 pub mod StayPut
 pub mod Stored
+pub mod Suited
 pub mod TokenLaws
 pub mod TopLaws
 pub mod TurnedLaws

@@ -1,6 +1,6 @@
 -- What the moves of a builder do, as contracts see it.
 use Rattle.std.specs.Prelude.{◌≡◌, ℕ, ◌<◌, Bool, true, false, ◌||◌, length, List, [], ◌∷◌, ◌++◌, Option, Some, None}
-use Rattle.fr_store.specs.Below.{ChildWay, Def, EntriesKind, FrameOwner, IfInUse, ItemsKind, Node, NodeId, Place, Plan, Slot, Taker, TakesItems, Tracker, Tree, Trees, Val, and_last, as_content, as_elements, as_entries, as_fields, as_items, begun, change_at, change_child, change_nth, child_node, child_tree, count_below, count_trees, enter, entered, entry_found, fresh, heap_of, hole, is_begun_dynamic, is_begun_object, is_dynamic_tracker, is_map, is_root, is_set, is_set_tracker, keys_apart, keys_here, keys_of_tracker, number_in, number_or_last, tree_at, tree_occurs, up, whole, with_ended_item}
+use Rattle.fr_store.specs.Below.{ChildWay, Def, EntriesKind, FrameOwner, IfInUse, ItemsKind, Node, NodeId, Place, Plan, Slot, Taker, TakesItems, Tracker, Tree, Trees, Val, and_last, as_content, as_elements, as_entries, as_fields, as_items, begun, change_at, change_child, change_nth, child_node, child_tree, count_below, count_trees, enter, entered, entry_found, fresh, heap_of, hole, is_begun_conversion, is_begun_dynamic, is_begun_object, is_dynamic_tracker, is_map, is_root, is_set, is_set_tracker, keys_apart, keys_here, keys_of_tracker, number_in, number_or_last, tree_at, tree_occurs, up, whole, with_ended_item}
 use Rattle.fr_store.specs.Numbers.{IsLast}
 use Rattle.fr_store.specs.Stands.{IsOpen, cursor_shown, kid_shown, tree_shown}
 use Rattle.fr_store.specs.Ways.{node_along}
@@ -166,9 +166,12 @@ node_by plan slots stack way =
 
 -- Handing a value over.
 
--- the value of the place on top may go there: up from a place below the root, and to a set from one of its items
+-- the value of the place on top may go there: up from a place below the root, but from the source of a conversion, whose value is
+-- converted as it goes up; and to a set from one of its items
 abbrev pub MayHandOver : Taker → List Slot → List ℕ → Type 0
-MayHandOver Taker.Above slots stack = is_root (cursor_in slots stack) ≡ false
+MayHandOver Taker.Above slots stack =
+    (is_root (cursor_in slots stack) ≡ false)
+    × (is_begun_conversion (tree_at (up (cursor_in slots stack)) (tree_in_slots slots stack)) ≡ false)
 MayHandOver Taker.Set slots stack =
     (is_root (cursor_in slots stack) ≡ false) × (is_set (tree_at (up (cursor_in slots stack)) (tree_in_slots slots stack)) ≡ true)
 MayHandOver Taker.Itself slots stack = Unit {0}

@@ -1,7 +1,8 @@
 -- Laws of places of a plan, for proofs: the shape of its node, and that a place without children in slots may be completed.
-use Rattle.std.proofs.Common.{◌≡◌, ℕ, zero, suc, ◌<◌, List, [], ◌∷◌, length, slice_get, Option, Some, option_map, unwrap_or, refl, sym, ◌∙◌, ap, subst, arith}
-use Rattle.fr_store.specs.Below.{Body, Cell, IsChecked, IsClosed, IsFull, IsFullAs, IsPlanFor, Kid, LookupPathsAgree, LookupsAgree, MayComplete, Node, NodeId, Place, Plan, Suits, Table, Tree, TypePlanNode, begun_body, count_trees, def_of, entered_body, own_tree, shape_in, shape_of, there, tree_at, tree_of, trees_of, whole_body}
-use Rattle.fr_store.specs.ShapeLaws.{IsOfShape, Along, along, root_shaped}
+use Rattle.std.proofs.Common.{◌≡◌, ℕ, zero, suc, ◌<◌, false, List, [], ◌∷◌, length, slice_get, Option, Some, option_map, unwrap_or, refl, sym, ◌∙◌, ap, subst, arith}
+use Rattle.fr_store.specs.Below.{Body, Cell, IsChecked, IsClosed, IsFull, IsFullAs, IsPlanFor, Kid, LookupPathsAgree, LookupsAgree, MayComplete, Node, NodeId, NodesAreReached, Place, Plan, ReachedHaveNodes, Suits, Table, Tree, TypePlanNode, begun_body, count_trees, def_of, entered_body, is_conversion_body, own_tree, shape_in, shape_of, tree_at, tree_of, trees_of, whole_body}
+use Rattle.fr_store.specs.ShapeLaws.{IsOfShape, Along, along_root, root_shaped}
+use Rattle.fr_store.specs.Suited.{IsSuited}
 use Rattle.fr_store.specs.Turns.{root_shape}
 use Rattle.fr_store.specs.Ways.{Reaches, node_along}
 
@@ -27,24 +28,28 @@ full_by table s (begun_body tracker cells) suits =
     subst (λ (count : ℕ). IsFullAs (def_of table s) tracker count) (count_of cells) suits.0.0
 
 -- the plan's node of a place that is reached has the shape that the table has there, which the tree there suits
-pub along_open : LookupsAgree → LookupPathsAgree → {table : Table} {plan : Plan} → IsChecked table → IsPlanFor table plan
-    → (k : Kid) → Suits table (root_shape plan) (tree_of k) → (place : Place) → Reaches place k → Along table
-    plan (node_along plan plan.root place k) (shape_in table (root_shape plan) place (tree_of k)) (tree_at place (tree_of k))
-along_open agree paths {table} {plan} checked by k suits place reach =
+pub along_open : LookupsAgree → LookupPathsAgree → NodesAreReached → ReachedHaveNodes → {table : Table} {plan : Plan}
+    → IsChecked table → IsPlanFor table plan → (k : Kid) → IsSuited table (root_shape plan) (tree_of k) → (place : Place)
+    → Reaches place k → Along table plan (node_along plan plan.root place k)
+    (shape_in table (root_shape plan) place (tree_of k)) (tree_at place (tree_of k))
+along_open agree paths reached nodes {table} {plan} checked by k suits place reach =
     let first = root_shaped agree table by.root plan checked by.inside by.planned paths in
-    let root : IsOfShape plan plan.root (root_shape plan)
-    = subst (λ (s : ℕ). IsOfShape plan plan.root s) (sym (shape_found first)) first in
-    along agree table by.root plan checked by.inside by.planned place k plan.root (root_shape plan) root suits reach
+    let same : root_shape plan ≡ by.root.0 = shape_found first in
+    subst (λ (s : ℕ). Along table plan (node_along plan plan.root place k) (shape_in table s place (tree_of k)) (tree_at place (tree_of k)))
+    (sym same)
+    (along_root agree table by.root plan checked by.inside by.planned reached nodes paths place k
+    (subst (λ (s : ℕ). IsSuited table s (tree_of k)) same suits) reach)
 
 -- so a place may be completed where none of its children is in a slot
 pub may_complete : {table : Table} {plan : Plan} {s : ℕ} (found : Node) {tree : Tree} → Along table plan found.node s tree
-    → own_tree found.body ≡ tree → IsClosed found.body → MayComplete table plan found
-may_complete {table} {plan} {s} found shaped own closed = record {
+    → own_tree found.body ≡ tree → IsClosed found.body → is_conversion_body found.body ≡ false → MayComplete table plan found
+may_complete {table} {plan} {s} found shaped own closed plain = record {
   planned = is_there plan.nodes found.node.0 shaped.node_is.there;
   full =
       subst (λ (n : ℕ). IsFull table n found.body) (sym (shape_found shaped.node_is))
       (full_by table s found.body (subst (λ (t : Tree). Suits table s t) (sym own) shaped.suits));
   closed = closed;
+  unconverted = plain;
 }
 
 pub shape_along : {table : Table} {plan : Plan} {node : NodeId} {s : ℕ} {tree : Tree} → Along table plan node s tree

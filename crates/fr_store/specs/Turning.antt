@@ -1,12 +1,13 @@
 -- One turn of the walk over stored places: what it asks for and what it owes. And all turns of it, one after another.
-use Rattle.std.specs.Prelude.{◌≡◌, ◌≢◌, ℕ, Bool, true, false, List, [], ◌∷◌, ◌++◌, is_some, Some, None}
+use Rattle.std.specs.Prelude.{◌≡◌, ◌≢◌, ℕ, Bool, true, false, List, [], ◌∷◌, ◌++◌, is_some, Some, None, if◌then◌else◌}
 use Rattle.std.specs.List.{Contains}
-use Rattle.fr_store.specs.Below.{Body, IsClosed, Kid, Meanings, PathStep, Place, Plan, Plot, ReflectErrorKind, Slot, Suits, Table, Tree, Val, at, begun_body, body_in, change_at, complete, deferred_column, entered_body, failures_off, finished, finished_here, heap_of, is_closed_slice, marked, own_lack, shape_in, steps_in, there, tree_at, whole, whole_body}
+use Rattle.fr_store.specs.Below.{Body, IsClosed, Kid, Meanings, PathStep, Place, Plan, Plot, ReflectErrorKind, Slot, Table, Tree, Val, at, begun_body, body_in, change_at, complete, deferred_column, entered_body, failures_off, finished, finished_here, gone, heap_of, is_begun_conversion, is_closed_slice, marked, own_lack, shape_in, steps_in, there, tree_at, turn_of, up, whole, whole_body, whole_plot}
 use Rattle.fr_store.specs.StackMoves.{IsOpenAt, cursor_in, tree_in_slots}
 pub use Rattle.fr_store.specs.Stands.{kid_here}
 use Rattle.fr_store.specs.Stands.{IsOpen}
 use Rattle.fr_store.specs.StayPut.{StaysPut}
-use Rattle.fr_store.specs.Turns.{root_shape, CompletesAsBefore, KeepThoseLeft, Turned}
+use Rattle.fr_store.specs.Suited.{IsSuited}
+use Rattle.fr_store.specs.Turns.{done_at, root_shape, CompletesAsBefore, KeepThoseLeft, Turned}
 use Rattle.fr_store.specs.Walks.{IsStoredAt, AreInWalkOrder, IsWalk}
 use Rattle.fr_store.specs.Ways.{kid_at, put_at, Reaches}
 
@@ -24,18 +25,35 @@ pub record MayTurn (slots : List Slot) (stack : List ℕ) (slot : ℕ) : Type 0 
   pub is : kid_at place (kid_here slots stack) ≡ at slot true plot
   pub closed : IsClosed (body_in plot)
 
--- At its own turn the place in this slot made a value by the rules of the end of deferred mode, and became whole with it in the
--- place above. The tree changed at that place alone, the builder works where it did, and one slot fewer is in use.
+-- what lies in a slot, whole with this value where it is; or the value
+abbrev pub made_whole : Val → Kid → Kid
+made_whole v gone = there v
+made_whole v (there u) = there v
+made_whole v (at slot stored plot) = at slot stored (whole_plot v)
+
+-- what lies at the place that became whole with this value at the turn of a place: the value; or that place in its slot, where it is a
+-- conversion
+abbrev pub kid_done : Place → Tree → Val → Kid → Kid
+kid_done place tree v k = if is_begun_conversion (tree_at (up place) tree) then made_whole v (kid_at (up place) k) else there v
+
+-- At the turn of the place in this slot the place that is done then made a value by the rules of the end of deferred mode, and became
+-- whole with it: a conversion in its own slot, any other place in the place above. The tree changed at that place alone, the builder
+-- works where it did, and one slot fewer is in use.
 pub record HasTurned (means : Meanings) (table : Table) (plan : Plan) (before : List Slot) (stack : List ℕ) (after : List Slot) (slot : ℕ) : Type 0 where
   pub place : Place
   pub stored : IsStoredAt (kid_here before stack) slot place
   pub value : Val
   pub meant :
-      complete deferred_column means table (shape_in table (root_shape plan) place (tree_in_slots before stack))
-      (tree_at place (tree_in_slots before stack)) ≡ Some value
+      complete deferred_column means table
+      (shape_in table (root_shape plan) (done_at place (tree_in_slots before stack)) (tree_in_slots before stack))
+      (tree_at (done_at place (tree_in_slots before stack)) (tree_in_slots before stack)) ≡ Some value
   pub stands :
-      IsOpenAt plan after stack (cursor_in before stack) (change_at place (λ old. whole value) (tree_in_slots before stack))
-  pub here : kid_here after stack ≡ put_at place (there value) (kid_here before stack)
+      IsOpenAt plan after stack (cursor_in before stack)
+      (change_at (done_at place (tree_in_slots before stack)) (λ old. whole value) (tree_in_slots before stack))
+  pub here :
+      kid_here after stack
+      ≡ put_at (done_at place (tree_in_slots before stack))
+      (kid_done place (tree_in_slots before stack) value (kid_here before stack)) (kid_here before stack)
   pub free : heap_of after slot ≡ None
   pub others : (n : ℕ) → n ≢ slot → is_some (heap_of after n) ≡ is_some (heap_of before n)
   pub marks : (n : ℕ) → n ≢ slot → marked (heap_of after) n ≡ marked (heap_of before) n
@@ -55,16 +73,19 @@ pub record KeepsTheRest (means : Meanings) (table : Table) (plan : Plan) (before
       → failures_off means table (root_shape plan) path (cursor_in before stack) (tree_in_slots after stack)
       ≡ failures_off means table (root_shape plan) path (cursor_in before stack) (tree_in_slots before stack)
 
--- The place in this slot makes no value, and the refusal is of what it lacks by itself.
+-- At the turn of the place in this slot a place makes no value, and the refusal is of what it lacks by itself: the place in the slot,
+-- or the conversion whose source it is.
 pub record IsLackingAt (means : Meanings) (table : Table) (plan : Plan) (slots : List Slot) (stack : List ℕ) (slot : ℕ) (kind : ReflectErrorKind) : Type 0 where
   pub place : Place
   pub stored : IsStoredAt (kid_here slots stack) slot place
+  pub here : Place
+  pub turn : turn_of here (tree_in_slots slots stack) ≡ place
   pub incomplete :
-      complete deferred_column means table (shape_in table (root_shape plan) place (tree_in_slots slots stack))
-      (tree_at place (tree_in_slots slots stack)) ≡ None
+      complete deferred_column means table (shape_in table (root_shape plan) here (tree_in_slots slots stack))
+      (tree_at here (tree_in_slots slots stack)) ≡ None
   pub lacks :
-      own_lack means table (shape_in table (root_shape plan) place (tree_in_slots slots stack))
-      (tree_at place (tree_in_slots slots stack)) ≡ Some kind
+      own_lack means table (shape_in table (root_shape plan) here (tree_in_slots slots stack))
+      (tree_at here (tree_in_slots slots stack)) ≡ Some kind
 
 -- Some places of a walk had their turn, each at its own turn, and these are left: the builder works where it did, and what becomes
 -- of the tree, or fails, is as at the start.
@@ -72,7 +93,7 @@ pub record Walked (means : Meanings) (table : Table) (plan : Plan) (before : Lis
   pub first : IsWalk (kid_here before stack) walk
   pub still : IsOpen plan now stack
   pub cursor : cursor_in now stack ≡ cursor_in before stack
-  pub suits : Suits table (root_shape plan) (tree_in_slots now stack)
+  pub suits : IsSuited table (root_shape plan) (tree_in_slots now stack)
   pub left : IsWalk (kid_here now stack) rest
   pub done : List Place
   pub split : first.places ≡ done ++ left.places
@@ -130,7 +151,7 @@ next_place [] cursor = cursor
 next_place (place ∷ places) cursor = place
 
 -- The end of deferred mode stopped at a place: of the stored places, in the order of the walk, those before it had their turn, at
--- every turn those still to come completed as at the start, and that place then lacks this by itself.
+-- every turn those still to come completed as at the start, and at that turn a place then lacks this by itself.
 pub record StoppedByTurns (means : Meanings) (table : Table) (plan : Plan) (before : List Slot) (stack : List ℕ) (kind : ReflectErrorKind) : Type 0 where
   pub done : List Place
   pub left : List Place
@@ -140,9 +161,9 @@ pub record StoppedByTurns (means : Meanings) (table : Table) (plan : Plan) (befo
   pub tree : Tree
   pub turned : Turned means table (root_shape plan) (tree_in_slots before stack) done tree
   pub kept : KeepThoseLeft means table (root_shape plan) (tree_in_slots before stack) (tree_in_slots before stack) done left
-  pub lacks :
-      own_lack means table (shape_in table (root_shape plan) (next_place left (cursor_in before stack)) tree)
-      (tree_at (next_place left (cursor_in before stack)) tree) ≡ Some kind
+  pub here : Place
+  pub turn : turn_of here tree ≡ next_place left (cursor_in before stack)
+  pub lacks : own_lack means table (shape_in table (root_shape plan) here tree) (tree_at here tree) ≡ Some kind
 
 -- each place on the way to the one at which the builder works stays in its slot
 abbrev pub OpenStayPut : (before after : Kid) → (cursor : Place) → Type 0

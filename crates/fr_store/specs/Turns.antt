@@ -1,16 +1,21 @@
 -- The walk over stored places at the end of deferred mode, turn by turn, and what comes of it.
-use Rattle.std.specs.Prelude.{◌≡◌, ℕ, List, [], ◌∷◌, ◌++◌, Some, None}
+use Rattle.std.specs.Prelude.{◌≡◌, ℕ, List, [], ◌∷◌, ◌++◌, Some, None, if◌then◌else◌}
 use Rattle.std.specs.List.{All}
-use Rattle.fr_store.specs.Below.{Meanings, PathStep, Place, Plan, ReflectErrorKind, Slot, Table, Tree, Val, change_at, complete, deferred_column, failures, finish_cause, finished, shape_in, shape_of, tree_at, whole}
+use Rattle.fr_store.specs.Below.{Meanings, PathStep, Place, Plan, ReflectErrorKind, Slot, Table, Tree, Val, change_at, complete, deferred_column, failures, finish_cause, finished, is_begun_conversion, shape_in, shape_of, tree_at, up, whole}
 use Rattle.fr_store.specs.StackMoves.{IsOpenAt, cursor_in, tree_in_slots}
 
--- The places that had their turn: each, at its own turn, made a value by the rules of the end of deferred mode, and became whole
--- with it in the place above.
+-- the place that becomes whole at the turn of this one: itself, but where it is the source of a conversion the place above
+abbrev pub done_at : Place → Tree → Place
+done_at place tree = if is_begun_conversion (tree_at (up place) tree) then up place else place
+
+-- The places that had their turn: at each turn the place that is done then made a value by the rules of the end of deferred mode, and
+-- became whole with it.
 abbrev pub Turned : Meanings → Table → ℕ → (before : Tree) → List Place → (after : Tree) → Type 0
 Turned means table s before [] after = after ≡ before
 Turned means table s before (place ∷ places) after =
-    (v : Val) × (complete deferred_column means table (shape_in table s place before) (tree_at place before) ≡ Some v)
-    × Turned means table s (change_at place (λ old. whole v) before) places after
+    (v : Val)
+    × (complete deferred_column means table (shape_in table s (done_at place before) before) (tree_at (done_at place before) before)
+    ≡ Some v) × Turned means table s (change_at (done_at place before) (λ old. whole v) before) places after
 
 -- What stands at a place makes the same value as before, or the same places fail in it.
 pub record CompletesAsBefore (means : Meanings) (table : Table) (s : ℕ) (before after : Tree) (place : Place) : Type 0 where
@@ -25,8 +30,9 @@ abbrev pub KeepThoseLeft : Meanings → Table → ℕ → (start before : Tree) 
 KeepThoseLeft means table s start before [] left = All (CompletesAsBefore means table s start before) left
 KeepThoseLeft means table s start before (place ∷ places) left =
     All (CompletesAsBefore means table s start before) (place ∷ places ++ left)
-    × ((v : Val) → complete deferred_column means table (shape_in table s place before) (tree_at place before) ≡ Some v
-    → KeepThoseLeft means table s start (change_at place (λ old. whole v) before) places left)
+    × ((v : Val)
+    → complete deferred_column means table (shape_in table s (done_at place before) before) (tree_at (done_at place before) before)
+    ≡ Some v → KeepThoseLeft means table s start (change_at (done_at place before) (λ old. whole v) before) places left)
 
 -- the root's shape, by the plan
 abbrev pub root_shape : Plan → ℕ

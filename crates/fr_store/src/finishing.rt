@@ -1,22 +1,35 @@
 //! The end of deferred mode: all that was left is completed, the deepest places first.
-ghost use Rattle.fr_store.specs.Common.{Conserved, HasTurned, IfInUse, IsChecked, IsHeldUp, IsInUse, IsKept, IsLackingAt, IsOpen, IsWalk, KeepsTheRest, LacksHere, MayTurn, NothingStored, OnErr, OnOk, Room, RoseBy, StoppedByTurns, Suits, Walked, [], body_of, cursor_in, root_shape, slots_occur, tokens_in, tree_in_slots, ℕ};
-ghost use Rattle.std.specs.Prelude.{IfErr, ◌≡◌, ◌⊎◌};
+ghost use Rattle.fr_store.specs.Common.{Conserved, HasTurned, IfInUse, IsChecked, IsHeldUp, IsInUse, IsKept, IsLackingAt, IsOpen, IsSuited, IsWalk, KeepsTheRest, LacksHere, MayTurn, NothingStored, OnErr, OnOk, Room, RoseBy, StoppedByTurns, Walked, [], body_of, cursor_in, heap_of, root_shape, slots_occur, tokens_in, tree_in_slots, ℕ};
+ghost use Rattle.std.specs.Prelude.{is_some, IfErr, ◌≡◌, ◌⊎◌};
 ghost use Rattle.fr_shape.specs.declared.error.ReflectErrorKind.{ReflectErrorKind as Kind};
 ghost use Rattle.fr_frame.specs.Completing.{IsPlanFor};
+ghost use Rattle.fr_frame.specs.Converting.{conversion_over};
 ghost use Rattle.fr_store.specs.Turning.{becomes_whole, kid_here, CameByTurns, FinishedHere, OpenStayPut};
 ghost use Rattle.fr_store.specs.Turns.{IsFinished};
 
 use crate::{FrameStore, Stack};
 use fr_frame::{ItemsKind, PartialValue, SlotId, Slots, Taker, Tracker};
 use fr_model::{law_closing, law_completes, law_failing};
-use fr_plan::{TypePlanCore, law_plan_lookups};
-use fr_shape::{Hooks, Ledger, OutOfMemory, ReflectErrorKind, ShapeTable};
+use fr_plan::{TypePlanCore, law_plan_lookups, law_plan_reach};
+use fr_shape::{Hooks, Ledger, OutOfMemory, ReflectErrorKind, ShapeTable, law_hooks};
+
+/// Whether the place is the source of a conversion.
+fn is_source(slots: &Slots, place: SlotId) -> bool
+    ensures { result ≡ is_some (conversion_over (heap_of slots.now) place.0) }
+{
+    match place.conversion_above(slots) {
+        Some(_) => true,
+        None => false,
+    }
+}
 
 impl Stack {
     /// The turn of a stored place that has no child in a slot: it is completed, and its value goes
-    /// into the place above. What a set or a map has twice is released. Where there is no memory
-    /// for the box that a begun option, result or pointer takes, also one to a slice, or for
-    /// putting a set, a map or a dynamic value together, what was put at the place is released.
+    /// into the place above; or it is the source of a conversion, and the place above is whole with
+    /// what that makes of its value. What a set or a map has twice is released. Where there is no
+    /// memory for the box that a begun option, result or pointer takes, also one to a slice, or for
+    /// putting a set, a map or a dynamic value together, or where the source isn't converted, what
+    /// was put at the place is released.
     pub(crate) fn complete_in_turn<H: Hooks>(
         &self,
         slots: &mut Slots,
@@ -29,7 +42,7 @@ impl Stack {
         requires checked { IsChecked table.now }
         requires plan { IsPlanFor table.now plan.now }
         requires is_open { IsOpen plan.now slots.old self.now }
-        requires suits { Suits table.now (root_shape plan.now) (tree_in_slots slots.old self.now) }
+        requires suits { IsSuited table.now (root_shape plan.now) (tree_in_slots slots.old self.now) }
         requires due { MayTurn slots.old self.now place.0 }
         requires room { Room (tokens_in slots.old self.now) ledger.old }
         ensures turned { OnOk result (HasTurned (H.means hooks.now) table.now plan.now
@@ -44,7 +57,11 @@ impl Stack {
         law_closing();
         law_completes();
         law_plan_lookups();
+        law_plan_reach();
         place.complete_by_defaults(slots, table, plan, hooks)?;
+        if is_source(slots, place) {
+            return place.convert(slots, table, plan, hooks, ledger);
+        }
         match place.hand_over(slots, Taker::Above, ledger) {
             Ok(()) => Ok(()),
             Err(OutOfMemory) => Err(ReflectErrorKind::OutOfMemory),
@@ -65,7 +82,7 @@ fn complete_in_order<H: Hooks>(
     requires checked { IsChecked table.now }
     requires plan { IsPlanFor table.now plan.now }
     requires is_open { IsOpen plan.now slots.old stack.now }
-    requires suits { Suits table.now (root_shape plan.now) (tree_in_slots slots.old stack.now) }
+    requires suits { IsSuited table.now (root_shape plan.now) (tree_in_slots slots.old stack.now) }
     requires walk { IsWalk (kid_here slots.old stack.now) walk.now }
     requires room { Room (tokens_in slots.old stack.now) ledger.old }
     ensures walked { OnOk result (Walked (H.means hooks.now) table.now plan.now
@@ -77,8 +94,10 @@ fn complete_in_order<H: Hooks>(
     ensures conserved { Conserved (slots_occur slots.old) ledger.old
         (slots_occur slots.new) ledger.new }
 {
+    law_closing();
     law_completes();
     law_failing();
+    law_hooks::<H>();
     for place in walk {
         let place = SlotId(*place);
         match stack.complete_in_turn(slots, place, table, plan, hooks, ledger) {
@@ -126,7 +145,7 @@ fn complete_top<H: Hooks>(
     requires checked { IsChecked table.now }
     requires plan { IsPlanFor table.now plan.now }
     requires is_open { IsOpen plan.now slots.old stack.now }
-    requires suits { Suits table.now (root_shape plan.now) (tree_in_slots slots.old stack.now) }
+    requires suits { IsSuited table.now (root_shape plan.now) (tree_in_slots slots.old stack.now) }
     requires strict { NothingStored slots.old }
     requires room { Room (tokens_in slots.old stack.now) ledger.old }
     ensures finished { OnOk result (FinishedHere (H.means hooks.now) table.now plan.now
@@ -139,6 +158,7 @@ fn complete_top<H: Hooks>(
 {
     law_completes();
     law_plan_lookups();
+    law_plan_reach();
     let Some(top) = stack.top() else {
         unreachable!()
     };
@@ -169,7 +189,7 @@ impl FrameStore {
         requires plan { IsPlanFor table.now plan.now }
         requires is_open { IsOpen plan.now slots.old stack.now }
         requires kept { IsKept self.old slots.old }
-        requires suits { Suits table.now (root_shape plan.now)
+        requires suits { IsSuited table.now (root_shape plan.now)
             (tree_in_slots slots.old stack.now) }
         requires room { Room (tokens_in slots.old stack.now) ledger.old }
         ensures finished { OnOk result (IsFinished (H.means hooks.now) table.now plan.now
@@ -198,10 +218,12 @@ impl FrameStore {
     }
 
     /// Completes every stored place, the longest path first, then step by step, and then the place
-    /// on top of the stack, which stays begun where it is, but a closed pointer to a slice. What a
-    /// set or a map has twice is released. The first place that fails gives the refusal; all is
-    /// released then. Only templates, boxes for what options, results and pointers hold, and sets,
-    /// maps and dynamic values that are put together want memory.
+    /// on top of the stack, which stays begun where it is, but a closed pointer to a slice. A
+    /// conversion is whole as its source completes, also the one on top. What a set or a map has
+    /// twice is released. The first place that fails gives the refusal, a source where it isn't
+    /// converted; all is released then. Only templates, boxes for what options, results and
+    /// pointers hold, sets, maps and dynamic values that are put together, and hooks that convert
+    /// want memory.
     pub fn finish<H: Hooks>(
         &mut self,
         slots: &mut Slots,
@@ -215,7 +237,7 @@ impl FrameStore {
         requires plan { IsPlanFor table.now plan.now }
         requires is_open { IsOpen plan.now slots.old stack.old }
         requires kept { IsKept self.old slots.old }
-        requires suits { Suits table.now (root_shape plan.now) (tree_in_slots slots.old stack.old) }
+        requires suits { IsSuited table.now (root_shape plan.now) (tree_in_slots slots.old stack.old) }
         requires room { Room (tokens_in slots.old stack.old) ledger.old }
         ensures finished { OnOk result (IsFinished (H.means hooks.now) table.now plan.now
             slots.old stack.old slots.new stack.new) }

@@ -4,6 +4,7 @@
 
 mod ascending;
 mod beneath;
+mod converting;
 mod descending;
 mod finishing;
 mod listing;

@@ -19,8 +19,8 @@ pub returns-in-Err-clause-why : goal.returns-in-Err-clause-why
 returns-in-Err-clause-why g c =
     or_so c.in-Err.ensures.why (λ lacks.
     walk_held_up (walk_next c.args.walk.now c.loop-place.place-index c.loop-place-test.true c.loop-place.invariant.walked)
-    c.law_failing.ensures.places c.law_failing.ensures.lacking c.law_failing.ensures.first c.law_failing.ensures.refuses
-    c.requires.is_open lacks)
+    lacks c.law_failing.ensures.places c.law_failing.ensures.lacking c.law_closing.ensures.failures_off
+    c.law_completes.ensures.or_fails c.law_failing.ensures.first c.law_failing.ensures.refuses c.requires.is_open)
 
 pub returns-in-Err-clause-stopped : goal.returns-in-Err-clause-stopped
 returns-in-Err-clause-stopped g c =
@@ -31,7 +31,7 @@ pub loop-place-preserved : goal.loop-place-preserved
 loop-place-preserved g c = record {
   walked =
       walk_goes_on (walk_next c.args.walk.now c.loop-place.place-index c.loop-place-test.true c.loop-place.invariant.walked)
-      c.law_completes.ensures.fits c.requires.checked c.in-Ok.ensures.turned c.in-Ok.ensures.rest;
+      c.law_completes.ensures.fits (c.law_hooks.ensures.lawful c.args.hooks.now) c.requires.checked c.in-Ok.ensures.turned c.in-Ok.ensures.rest;
   conserved = conserved_on c.loop-place.invariant.conserved c.complete_in_turn.ensures.conserved;
 }
 

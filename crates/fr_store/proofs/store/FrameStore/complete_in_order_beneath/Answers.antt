@@ -31,7 +31,7 @@ pub returns-in-Err-clause-why : goal.returns-in-Err-clause-why
 returns-in-Err-clause-why g c =
     or_so c.in-Err.ensures.why (λ lacks. beneath_held_up c.requires.is_open
     (beneath_next c.args.walk.now c.loop-place.place-index c.loop-place-test.true c.loop-place.invariant.walked)
-    c.law_failing.ensures.places c.law_failing.ensures.lacking c.law_failing.ensures.first c.law_completes.ensures.or_fails lacks)
+    c.law_failing.ensures.places c.law_failing.ensures.lacking c.law_closing.ensures.failures_off c.law_failing.ensures.first c.law_completes.ensures.or_fails lacks)
 
 pub returns-in-Err-clause-conserved : goal.returns-in-Err-clause-conserved
 returns-in-Err-clause-conserved g c = conserved_on c.loop-place.invariant.conserved c.in-Err.ensures.conserved
@@ -41,8 +41,9 @@ loop-place-preserved g c =
     let walked = beneath_next c.args.walk.now c.loop-place.place-index c.loop-place-test.true c.loop-place.invariant.walked in
     record {
       walked =
-          beneath_goes_on c.requires.is_open walked c.in-Ok.ensures.turned c.law_completes.ensures.fits c.requires.checked
-          c.law_closing.ensures.finish c.in-Ok.ensures.rest;
+          beneath_goes_on c.requires.is_open walked c.in-Ok.ensures.turned c.law_completes.ensures.fits
+          (c.law_hooks.ensures.lawful c.args.hooks.now) c.requires.checked c.law_closing.ensures.finish
+          c.law_closing.ensures.completion c.in-Ok.ensures.rest;
       kept =
           beneath_kept c.requires.is_open walked c.in-Ok.ensures.turned c.loop-place.self c.remove.new.self
           c.loop-place.invariant.kept c.remove.ensures.rest;
