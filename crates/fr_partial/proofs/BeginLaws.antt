@@ -1,22 +1,19 @@
 -- Going on to a child: what it is refused for, and what it means.
-use Rattle.std.proofs.Common.{◌≡◌, ℕ, suc, ◌+◌, ◌<◌, Bool, true, false, List, [], ◌∷◌, length, Option, Some, None, Err, nat_lt, if◌then◌else◌, slice_get, inl, refl, sym, ◌∙◌, ap, subst, arith}
-use Rattle.fr_partial.specs.Common.{Call, ComesTo, Def, Describes, Field, IsFullAs, IsRefused, Move, Opening, Operation, ReflectErrorKind, Sees, ShapeId, Site, Table, Tracker, Tree, VariantDef, Way, as_tracker, cursor_tree, def_of, field_found, field_refusal, named_refusal, option_or, selected, shape_at, variant_fields, variants_of}
+use Rattle.std.proofs.Common.{◌≡◌, ℕ, suc, ◌+◌, ◌<◌, Bool, true, false, List, [], ◌∷◌, length, Option, Some, None, Ok, Err, nat_lt, slice_get, inl, refl, sym, ◌∙◌, ap, subst, arith}
+use Rattle.fr_partial.specs.Common.{Call, ComesTo, Def, Describes, Field, IsFullAs, IsRefused, Meanings, Move, Opening, Operation, ReflectErrorKind, Sees, ShapeId, Site, State, Table, Tracker, Tree, VariantDef, Way, as_tracker, cursor_tree, def_of, field_found, field_refusal, named_refusal, option_or, selected, shape_at, step, variant_fields, variants_of}
 use Rattle.std.specs.Str.{bytes_eq}
-use Rattle.std.proofs.lemmas.Bool.{ltb-true, lt-ltb}
+use Rattle.std.proofs.lemmas.Bool.{lt-ltb}
 use Rattle.fr_shape.specs.Named.{first_declared}
 use Rattle.fr_plan.specs.Names.{declared_field}
+use Rattle.fr_model.specs.Entering.{Way as Onward, enters}
+use Rattle.fr_model.specs.Scripts.{value_brought}
+use Rattle.fr_partial.specs.Moving.{child_way}
+use Rattle.fr_partial.proofs.AnewLaws.{below_limit, child_gone, to_child_seen}
 use Rattle.fr_partial.proofs.TrackerLaws.{struct_tracker, array_tracker, enum_tracker, variant_count}
 use Rattle.fr_partial.proofs.DecidingLaws.{goes}
 use Rattle.fr_partial.proofs.SeenLaws.{shape_seen, def_seen, named_seen, refusal_seen, selected_seen}
 
 -- what may be entered is there
-
-below_limit : (i n : ℕ) (operation : Operation) → (if nat_lt i n then None else Some operation) ≡ None → i < n
-below_limit i n operation e = go (nat_lt i n) refl
-  where
-    go : (b : Bool) → nat_lt i n ≡ b → i < n
-    go true h = ltb-true i n h
-    go false h = let some : Some operation ≡ None = rw h at e in cc
 
 neither : (first rest : Option Operation) → option_or first rest ≡ None → first ≡ None
 neither (Some operation) rest e = cc
@@ -30,12 +27,12 @@ opened_within table s t i opening says may = go (def_of table s) says.begun may
     go : (def : Def) → IsFullAs def (as_tracker opening.tracker) opening.count → field_refusal def t i ≡ None → i < opening.count
     go (Def.Struct struct) full none =
         let below : i < length struct.fields = below_limit i (length struct.fields) Operation.FieldIndexOutOfBounds none in
-        omega (arith, below, (struct_tracker struct (as_tracker opening.tracker) opening.count full).1)
+        omega (arith, below, (struct_tracker struct (as_tracker opening.tracker) opening.count says.plain full).1)
     go (Def.Array item n) full none =
         let below : i < n = below_limit i n Operation.ArrayIndexOutOfBounds (neither _ _ none) in
-        omega (arith, below, (array_tracker item n (as_tracker opening.tracker) opening.count full).1)
+        omega (arith, below, (array_tracker item n (as_tracker opening.tracker) opening.count says.plain full).1)
     go (Def.Enum enumeration) full none =
-        let is = enum_tracker enumeration (as_tracker opening.tracker) opening.count full in
+        let is = enum_tracker enumeration (as_tracker opening.tracker) opening.count says.plain full in
         let one : selected t ≡ Some is.variant = says.variant is.variant is.tracker_is in
         let below : i < length (variant_fields (Def.Enum enumeration) is.variant)
         = below_limit i (length (variant_fields (Def.Enum enumeration) is.variant)) Operation.VariantFieldIndexOutOfBounds
@@ -107,7 +104,21 @@ module _ {site : Site} {table : Table} {shape : ShapeId} {seen : Tree} (at : See
   describes_here opening says = record {
     begun = subst (λ (def : Def). IsFullAs def (as_tracker opening.tracker) opening.count) (def_seen at) says.begun;
     variant = λ k is. sym (selected_seen at) ∙ says.variant k is;
+    plain = says.plain;
   }
+
+  -- a call that enters the child goes there
+  pub goes_to_child : (call : Call) (i : ℕ) (opening : Opening) → value_brought call ≡ None → Describes table shape.0 seen opening
+      → field_refusal (def_of site.shapes (shape_at site)) (cursor_tree site.state) i ≡ None
+      → ((hooks : Meanings) → step hooks site.shapes site.root site.state call
+      ≡ Ok (enters site.shapes (shape_at site) site.state (Onward.Child i)))
+      → (way : Way) → way ≡ child_way seen i opening → ComesTo site call (Move.Go way)
+  goes_to_child call i opening none says may means way is =
+      let leads =
+      to_child_seen site.shapes (shape_at site) (cursor_tree site.state) seen i opening at.looks (describes_here opening says) may way
+      is in
+      goes site call way none leads.may (λ hooks.
+      means hooks ∙ ap (λ (next : State). Ok next) (child_gone site.shapes (shape_at site) site.state i way leads))
 
   module _ (name : List ℕ) where
     -- no field is entered by its name there
@@ -144,8 +155,8 @@ module _ {site : Site} {table : Table} {shape : ShapeId} {seen : Tree} (at : See
         pub named_admitted : field_refusal (def_of table shape.0) seen i ≡ None
         named_admitted = refusal_seen at i ∙ admitted_here
 
-        pub named_goes : (opening : Opening) → Describes table shape.0 seen opening
-            → ComesTo site (Call.BeginField name) (Move.Go (Way.Child i opening))
+        pub named_goes : (opening : Opening) → Describes table shape.0 seen opening → (way : Way) → way ≡ child_way seen i opening
+            → ComesTo site (Call.BeginField name) (Move.Go way)
         named_goes opening says =
-            goes site (Call.BeginField name) (Way.Child i opening) refl (describes_here opening says, admitted_here)
+            goes_to_child (Call.BeginField name) i opening refl says admitted_here
             (λ hooks. rw (← (may ∙ named_seen at), ← (sym one ∙ found_here)) refl)

@@ -1,22 +1,23 @@
 -- The place on top, once all that was left beneath it is completed: it is what it was, and no child of it is in a slot.
-use Rattle.std.proofs.Common.{◌≡◌, ◌⊎◌, ℕ, suc, List, [], ◌∷◌, Some, inl, inr, refl, sym, ◌∙◌, ap, subst}
-use Rattle.fr_partial.specs.Common.{Became, Body, Cell, Frames, HoldsItsValue, IsAtWork, IsKept, IsLast, LookupPathsAgree, LookupsAgree, Meanings, Node, PathStep, Place, Plan, ReflectErrorKind, Rules, Slot, StoresNothing, Suits, Table, Tracker, Tree, absent, begun_body, change_at, complete, entered_body, given, mode_of, own_tree, placed, shape_in, shape_of, top_place, top_shape, top_tree, tree_at, trees_of, whole_body, whole_tree}
+use Rattle.std.proofs.Common.{◌≡◌, ◌⊎◌, ℕ, suc, List, [], ◌∷◌, Some, inl, inr, refl, sym, ◌∙◌, ap, subst, false}
+use Rattle.fr_partial.specs.Common.{Became, Body, Cell, Frames, HoldsItsValue, IsAtWork, IsKept, IsLast, LookupPathsAgree, LookupsAgree, Meanings, Node, PathStep, Place, Plan, ReflectErrorKind, Rules, Slot, StoresNothing, IsSuited, Table, Tracker, Tree, absent, begun_body, change_at, complete, entered_body, given, mode_of, own_tree, placed, shape_in, shape_of, top_place, top_shape, top_tree, tree_at, trees_of, whole_body, whole_tree}
 use Rattle.fr_model.specs.Failing.{Failure, failure_at, failures, failures_among, first_by_walk, own_lack}
 use Rattle.fr_model.specs.Finish.{kind_of}
 use Rattle.fr_model.specs.Places.{deferred_column}
 use Rattle.fr_model.specs.Step.{cause_by, or_missing}
-use Rattle.fr_frame.specs.Bodies.{IsClosed}
+use Rattle.fr_frame.specs.Bodies.{IsClosed, is_conversion_body}
 use Rattle.fr_frame.specs.Changes.{IfInUse}
 use Rattle.fr_frame.specs.Defaults.{WhyNotDefault}
 use Rattle.fr_store.specs.Beneath.{IsCompleteBeneath, IsHeldUpHere}
 use Rattle.fr_store.specs.Turns.{root_shape, CompletesAsBefore}
 use Rattle.fr_partial.specs.Ending.{IsHeldUpAt}
-use Rattle.fr_partial.proofs.EndingLaws.{here, here_so, own_is, shape_is, IsTop}
+use Rattle.fr_partial.proofs.EndingLaws.{here, here_so, own_is, plain, shape_is, IsTop}
 use Rattle.fr_partial.proofs.FinishLaws.{root_is}
 use Rattle.fr_partial.proofs.HereLaws.{top_body}
 use Rattle.fr_partial.proofs.KeepLaws.{became_after}
 use Rattle.fr_partial.proofs.PlaceLaws.{here_along}
 use Rattle.fr_partial.proofs.TreeLaws.{changed_twice, shape_stays}
+use Rattle.fr_plan.specs.ReachLaws.{NodesAreReached, ReachedHaveNodes}
 
 -- Where all children of a place are whole or not there, it fails by itself alone.
 
@@ -28,17 +29,18 @@ none_fails hooks table s tracker i path (given v ∷ cells) = none_fails hooks t
 none_fails hooks table s tracker i path (placed n ∷ cells) = none_fails hooks table s tracker (suc i) path cells
 
 fails_itself : (hooks : Meanings) (table : Table) (s : ℕ) (path : List PathStep) (body : Body) (kind : ReflectErrorKind)
-    → own_lack hooks table s (own_tree body) ≡ Some kind
+    → is_conversion_body body ≡ false → own_lack hooks table s (own_tree body) ≡ Some kind
     → failures hooks table s path (own_tree body) ≡ failure_at path (Some kind)
-fails_itself hooks table s path entered_body kind e = ap (failure_at path) e
-fails_itself hooks table s path (whole_body v) kind e = cc
-fails_itself hooks table s path (begun_body tracker cells) kind e =
-    rw (none_fails hooks table s tracker 0 path cells) (ap (failure_at path) e)
+fails_itself hooks table s path entered_body kind plain e = ap (failure_at path) e
+fails_itself hooks table s path (whole_body v) kind plain e = cc
+fails_itself hooks table s path (begun_body tracker cells) kind plain e =
+    rw (none_fails hooks table s tracker 0 path cells, plain) (ap (failure_at path) e)
 
 caused_by_itself : (hooks : Meanings) (table : Table) (s : ℕ) (path : List PathStep) (body : Body) (kind : ReflectErrorKind)
-    → own_lack hooks table s (own_tree body) ≡ Some kind → kind ≡ cause_by deferred_column hooks table s path (own_tree body)
-caused_by_itself hooks table s path body kind e =
-    sym (ap (λ (fs : List Failure). or_missing s (kind_of (first_by_walk fs))) (fails_itself hooks table s path body kind e))
+    → is_conversion_body body ≡ false → own_lack hooks table s (own_tree body) ≡ Some kind
+    → kind ≡ cause_by deferred_column hooks table s path (own_tree body)
+caused_by_itself hooks table s path body kind plain e =
+    sym (ap (λ (fs : List Failure). or_missing s (kind_of (first_by_walk fs))) (fails_itself hooks table s path body kind plain e))
 
 -- Of the place on top, and of the open places once all that was left beneath it is completed: it may be completed then, in this slot; why
 -- it makes no value then is why it makes none; and the value that it holds in the end is the one that it makes.
@@ -61,7 +63,7 @@ module _ (paths : LookupPathsAgree) {plan : Plan} {frames : Frames} (at_work : I
       subst (λ (s : ℕ). IsHeldUpAt means frames.table.now (shape_in frames.table.now s (top_place frames) (whole_tree frames))
       (top_tree frames) kind) root (record { incomplete = held.incomplete; cause_is = held.cause })
 
-  module _ (agree : LookupsAgree) {after : List Slot} (done : IsCompleteBeneath means frames.table.now plan frames.slots frames.stack after)
+  module _ (agree : LookupsAgree) (reached : NodesAreReached) (nodes : ReachedHaveNodes) {after : List Slot} (done : IsCompleteBeneath means frames.table.now plan frames.slots frames.stack after)
       (store : List ℕ) (kept : IsKept store after) (stores : StoresNothing (mode_of frames.mode) store) {n : ℕ}
       (last : IsLast frames.stack n) where
     -- the open places then
@@ -78,7 +80,7 @@ module _ (paths : LookupPathsAgree) {plan : Plan} {frames : Frames} (at_work : I
         checked = at_work.ready.checked;
         planned = at_work.ready.planned;
         shown = done.stands.open_still;
-        suits = subst (λ (s : ℕ). Suits frames.table.now s (whole_tree then)) root done.suits;
+        suits = subst (λ (s : ℕ). IsSuited frames.table.now s (whole_tree then)) root done.suits;
       };
       kept = kept;
       stores = stores;
@@ -90,7 +92,7 @@ module _ (paths : LookupPathsAgree) {plan : Plan} {frames : Frames} (at_work : I
       at_work = at_work_then;
       last = last;
       shut = top_body plan after frames.stack done.stands.open_still IsClosed done.closed;
-      along = here_along agree paths frames.table.now frames.root plan after frames.stack at_work_then.ready;
+      along = here_along agree paths reached nodes frames.table.now frames.root plan after frames.stack at_work_then.ready;
     }
 
     shape_same : top_shape then ≡ top_shape frames
@@ -134,7 +136,7 @@ module _ (paths : LookupPathsAgree) {plan : Plan} {frames : Frames} (at_work : I
                     (sym (shape_is top_then)) ∙ lacking.incomplete;
                 cause_is = λ path.
                     caused_by_itself means frames.table.now (shape_of plan (here top_then).node) path (here top_then).body kind
-                    lacking.lacks ∙ ap
+                    (plain top_then) lacking.lacks ∙ ap
                     (λ (s : ℕ). cause_by deferred_column means frames.table.now s path (own_tree (here top_then).body))
                     (shape_is top_then)
                     ∙ ap (cause_by deferred_column means frames.table.now (top_shape then) path) (own_is top_then)

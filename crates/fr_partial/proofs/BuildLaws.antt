@@ -2,6 +2,7 @@
 use Rattle.std.proofs.Common.{◌≡◌, ◌≢◌, ◌⊎◌, ℕ, Bool, true, false, [], ◌∷◌, Option, Some, None, IsSome, IsErr, Ok, Err, inl, inr, refl, sym, ◌∙◌, ap, subst}
 use Rattle.fr_partial.specs.Common.{IsSound, Meanings, Mode, Parts, Place, ReflectErrorKind, Site, State, Table, Val, Value, WhyNot, complete, cursor_tree, deferred, fits, mode_of, shape_in, site, strict, strict_column, takes_no_memory, top_place, top_shape, top_tree, tree_at, view, whole_tree}
 use Rattle.fr_model.specs.Laws.{CompletingFits}
+use Rattle.fr_shape.specs.Hooks.{IsLawful}
 use Rattle.fr_shape.specs.Invariants.{keeps_invariants}
 use Rattle.fr_shape.specs.declared.error.Invariant.{Invariant}
 use Rattle.fr_model.specs.Step.{build, built, cause, violates}
@@ -86,13 +87,13 @@ module _ {parts : Parts} {seen : Site} (due : IsDue parts seen) (means : Meaning
   module _ {v : Val}
       (made : complete strict_column means parts.frames.table.now (top_shape parts.frames) (top_tree parts.frames) ≡ Some v) where
     -- that fits the root
-    pub fits_root : CompletingFits → fits parts.frames.table.now parts.frames.root.0 v ≡ true
-    fits_root law =
-        law strict_column means parts.frames.table.now parts.frames.root.0 (whole_tree parts.frames) v
-        due.sound.at_work.ready.checked due.sound.at_work.ready.suits (root_made made)
+    pub fits_root : CompletingFits → IsLawful means → fits parts.frames.table.now parts.frames.root.0 v ≡ true
+    fits_root law lawful =
+        law strict_column means parts.frames.table.now parts.frames.root.0 (whole_tree parts.frames) v lawful
+        due.sound.at_work.ready.checked due.sound.at_work.ready.suits.suits (root_made made)
 
-    pub fits_so : CompletingFits → fits seen.shapes seen.root v ≡ true
-    fits_so law = subst (λ (s : Site). fits s.shapes s.root v ≡ true) due.is (fits_root law)
+    pub fits_so : CompletingFits → IsLawful means → fits seen.shapes seen.root v ≡ true
+    fits_so law lawful = subst (λ (s : Site). fits s.shapes s.root v ≡ true) due.is (fits_root law lawful)
 
     -- so it is built if it keeps its invariants, and else that is the refusal
     pub built_so : keeps_invariants means.check parts.frames.table.now parts.frames.root.0 v ≡ true
@@ -121,7 +122,7 @@ module _ {parts : Parts} {seen : Site} (due : IsDue parts seen) (means : Meaning
           × (takes_no_memory (top_tree parts.frames) ≡ false)
       wants =
           only_wants means parts.frames.table.now _ _ kind why wanted
-          (λ none said. subst PassesValidators (builds_so None none) passes (subst IsOfValidator root_cause said))
+          (λ none said. subst PassesValidators (builds_so None none) passes (inl (subst IsOfValidator root_cause said)))
 
       -- one that is refused isn't out of memory, unless the value breaks an invariant
       pub refused_first : IsErr (meant_by_build means seen)

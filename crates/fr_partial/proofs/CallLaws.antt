@@ -1,9 +1,9 @@
 -- What was decided of a call is that call of the builder.
-use Rattle.std.proofs.Common.{◌≡◌, ℕ, List, Result, Ok, Err, IfOk, OnErr, OnOk, inl, inr, refl, ap, subst, arith}
-use Rattle.fr_partial.specs.Common.{Builder, Call, Decides, IsMeant, Meanings, Move, ReflectErrorKind, RoseBy, Site}
+use Rattle.std.proofs.Common.{◌≡◌, ℕ, List, Result, Ok, Err, IfOk, OnErr, OnOk, inl, inr, refl, ap, subst, arith, sym, ◌∙◌, ◌+◌}
+use Rattle.fr_partial.specs.Common.{Builder, Call, Decides, IsMeant, Meanings, Move, ReflectErrorKind, RoseBy, Site, Room, Room_same}
 use Rattle.fr_model.specs.Scripts.{brings}
 use Rattle.fr_partial.specs.Builder.{site_of}
-use Rattle.fr_partial.specs.Moving.{DecidesBy, WasDecided}
+use Rattle.fr_partial.specs.Moving.{DecidesBy, WasDecided, carries}
 
 -- a call that brings nothing has nothing to release as it is decided
 pub nothing_spent : (call : Call) → ((t : ℕ) → brings call t ≡ 0) → (decided : Result Move ReflectErrorKind) (ledger : List ℕ)
@@ -22,6 +22,11 @@ some_call : (site : Site) (call : Call) (decided : Result Move ReflectErrorKind)
 some_call site call (Ok move) comes = (call, comes)
 some_call site call (Err kind) refused = tt
 
+carries_nothing : (site : Site) (call : Call) → ((t : ℕ) → brings call t ≡ 0) → (decided : Result Move ReflectErrorKind)
+    → Decides site call decided → (t : ℕ) → carries decided t ≡ 0
+carries_nothing site call none (Ok move) comes t = sym (comes.same_tokens t) ∙ none t
+carries_nothing site call none (Err kind) refused t = refl
+
 -- what is decided whatever the hooks mean is decided as these mean
 decides_by : (hooks : Meanings) (site : Site) (call : Call) (decided : Result Move ReflectErrorKind) → Decides site call decided
     → DecidesBy hooks site call decided
@@ -39,6 +44,13 @@ module _ {H : Type 0} {h : H} {before : Builder H} {work : Site}
 
   pub decided_of : (hooks : Meanings) → DecidesBy hooks (site_of before) call decided
   decided_of hooks = decides_by hooks (site_of before) call decided decided_here
+
+  -- a call that brings nothing carries nothing
+  pub room_of : ((t : ℕ) → brings call t ≡ 0) → (held : ℕ → ℕ) (ledger : List ℕ) → Room held ledger
+      → Room (λ t. held t + carries decided t) ledger
+  room_of none held ledger =
+      Room_same held (λ t. held t + carries decided t) ledger
+      (λ t. let light = carries_nothing work call none decided told t in omega (arith, light))
 
   -- a call to which some move was decided is meant by a call
   pub meant_of : IfOk decided (IsMeant (site_of before))

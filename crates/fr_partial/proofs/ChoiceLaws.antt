@@ -5,12 +5,14 @@ use Rattle.fr_shape.specs.Plannable.{Reached}
 use Rattle.fr_model.specs.Step.{select_found, selects}
 use Rattle.fr_model.specs.Variants.{is_enum}
 use Rattle.fr_plan.specs.PlanLaws.{PlansAreComplete}
-use Rattle.fr_partial.specs.declared.choosing.Chosen.{Chosen}
-use Rattle.fr_partial.specs.Choosing.{found_refusal, Selects}
+use Rattle.fr_refusals.specs.declared.choosing.Chosen.{Chosen}
+use Rattle.fr_refusals.specs.Choosing.{found_refusal}
+use Rattle.fr_partial.specs.Choosing.{Selects}
 use Rattle.fr_partial.proofs.DecidingLaws.{admitted, cannot, is_not, remains}
 use Rattle.fr_partial.proofs.PlaceLaws.{here_along}
 use Rattle.fr_partial.proofs.ReachLaws.{node_reached}
 use Rattle.fr_partial.proofs.SeenLaws.{def_seen}
+use Rattle.fr_plan.specs.ReachLaws.{NodesAreReached, ReachedHaveNodes}
 
 abbrev any_of : Option ℕ → ℕ
 any_of (Some k) = k
@@ -65,14 +67,15 @@ module _ {site : Site} {table : Table} {shape : ShapeId} {seen : Tree} (at : See
 
 -- Looking up in the plan: the shape of the place at which a builder works is one that the plan has.
 
-module _ (complete : PlansAreComplete) (agree : LookupsAgree) (paths : LookupPathsAgree) {parts : Parts} (sound : IsSound parts)
+module _ (complete : PlansAreComplete) (agree : LookupsAgree) (paths : LookupPathsAgree) (nodes_reached : NodesAreReached)
+    (nodes : ReachedHaveNodes) {parts : Parts} (sound : IsSound parts)
     {seen : Site} (view_is : site parts ≡ seen) (s : ℕ) (shape_is : s ≡ shape_at seen) where
   reached : Reached parts.frames.table.now parts.frames.root.0 s
   reached =
       let ready = sound.at_work.ready in
       subst (λ (n : ℕ). Reached parts.frames.table.now parts.frames.root.0 n) (ap shape_at view_is ∙ sym shape_is)
       (node_reached complete parts.frames.table.now parts.frames.root (plan_in parts.plan) ready.checked ready.inside ready.planned _ _
-      (here_along agree paths parts.frames.table.now parts.frames.root (plan_in parts.plan) parts.frames.slots parts.frames.stack
+      (here_along agree paths nodes_reached nodes parts.frames.table.now parts.frames.root (plan_in parts.plan) parts.frames.slots parts.frames.stack
       ready).node_is)
 
   -- what its lookup tells of the definition that the table has there

@@ -1,18 +1,22 @@
 -- Entering a content, a side or a pointee: what it means.
 use Rattle.std.proofs.Common.{◌≡◌, ℕ, zero, suc, ◌+◌, ◌<◌, Bool, true, false, [], ◌∷◌, Option, Some, None, Ok, inl, inr, refl, sym, ◌∙◌, ap, subst, arith}
-use Rattle.fr_partial.specs.Common.{Beginning, Call, ComesTo, ContentKind, Def, IsFullAs, Leads, Meanings, Mode, Move, OffBut, Operation, Place, Sees, ShapeId, Site, Suits, Table, Tracker, Tree, Trees, Way, as_content, as_tracker, beginning_in, beginning_of_some, begun, branch, child_as, content_shape, count_trees, cursor_tree, def_of, is_around, is_option, is_result, no_trees, pointer_refusal, points_to_slice, shape_at, shape_in, side_call, step, tree_at, tree_nth}
+use Rattle.fr_partial.specs.Common.{Beginning, Call, ComesTo, ContentKind, Def, IsFullAs, Leads, Meanings, Mode, Move, OffBut, Operation, Place, Sees, ShapeId, Site, Suits, Table, Tracker, Tree, Trees, Way, as_content, as_tracker, beginning_in, beginning_of_some, begun, branch, child_as, content_shape, count_trees, cursor_tree, def_of, is_around, is_option, is_result, no_trees, pointer_refusal, points_to_slice, shape_at, shape_in, side_call, step, tree_at, tree_nth, beginning_of_inner}
 use Rattle.fr_model.specs.Entering.{Way as Onward, enters}
 use Rattle.fr_model.specs.Scripts.{value_brought}
-use Rattle.fr_model.specs.Step.{begin_side}
+use Rattle.fr_model.specs.Step.{begin_side, content_kept}
 use Rattle.fr_model.specs.Tree.{shapes_from}
 use Rattle.fr_model.specs.Well.{HasContent, PointsTo, SuitAll}
 use Rattle.fr_frame.specs.declared.places.Tracker.{Tracker as Started}
-use Rattle.fr_partial.specs.Beginnings.{kept_by, IsSide, MayBeginAround}
+use Rattle.fr_refusals.specs.Beginnings.{kept_by}
+use Rattle.fr_partial.specs.Beginnings.{IsSide, MayBeginAround}
 use Rattle.fr_partial.proofs.TrackerLaws.{IsFullTree, full_tree}
 use Rattle.fr_partial.proofs.DecidingLaws.{goes}
-use Rattle.fr_partial.proofs.LookLaws.{begun_some}
+use Rattle.fr_partial.proofs.LookLaws.{begun_inner, begun_some}
 use Rattle.fr_partial.proofs.SeenLaws.{in_seen, seen_by}
 use Rattle.fr_partial.proofs.StateLaws.{IsSiteInOrder}
+use Rattle.fr_model.specs.Trackers.{Conversion}
+use Rattle.fr_partial.specs.Sources.{Begins}
+use Rattle.fr_partial.proofs.KeptLaws.{kept_in_is, may_begin_in}
 
 -- What stands at the cursor suits its shape.
 
@@ -94,6 +98,22 @@ content_goes site call tracker beginning wanted kept none around full is may kep
     ∙ ap (λ (k : Option Tree). Ok (enters site.shapes (shape_at site) site.state (Onward.Content (as_tracker tracker) k)))
     (sym (ap (λ (b : Beginning). kept_by b (as_tracker tracker) (cursor_tree site.state)) is ∙ kept_is)))
 
+-- The source of a conversion is entered.
+pub source_goes : (site : Site) → IsSiteInOrder site → (call : Call) (conversion : Conversion) → Begins site call conversion
+    → (tracker : Started) → as_tracker tracker ≡ as_content (ContentKind.Source conversion) → (beginning : Beginning)
+    → beginning ≡ beginning_in site.state.mode (as_tracker tracker) (cursor_tree site.state)
+    → ComesTo site call (Move.Go (Way.Content tracker beginning))
+source_goes site ordered call conversion begins tracker is beginning wanted =
+    let around : is_around (as_tracker tracker) ≡ true = ap is_around is in
+    content_goes site call tracker beginning (beginning_in site.state.mode (as_tracker tracker) (cursor_tree site.state))
+    (content_kept site.state (as_tracker tracker)) begins.nothing around
+    (subst (λ (f : Tracker). IsFullAs (def_of site.shapes (shape_at site)) f 1) (sym is) refl) wanted
+    (may_begin_in site.state.mode (as_tracker tracker) around (def_of site.shapes (shape_at site)) (cursor_tree site.state)
+    (full_here site ordered)) (kept_in_is site.state.mode (as_tracker tracker) (cursor_tree site.state)) (λ hooks.
+    begins.means hooks
+    ∙ ap (λ (f : Tracker). Ok (enters site.shapes (shape_at site) site.state (Onward.Content f (content_kept site.state f))))
+    (sym is))
+
 -- A place of such a definition has one content.
 
 pub option_full : (def : Def) → is_option def ≡ true → IsFullAs def (as_content ContentKind.Some) 1
@@ -131,6 +151,16 @@ module _ {site : Site} {table : Table} {shape : ShapeId} {seen : Tree} (at : See
         ∙ ap (λ (n : ℕ). beginning_of_some site.state.mode (def_of table n) seen) content_is
         ∙ seen_by at (λ table s. beginning_of_some site.state.mode (def_of table (content_shape (def_of table s))))
         (λ table s. begun_some site.state.mode (def_of table (content_shape (def_of table s))))
+
+    pub inner_wanted : (content : ℕ) → content ≡ content_shape (def_of table shape.0)
+        → beginning ≡ beginning_of_inner mode (def_of table content) seen → beginning
+        ≡ beginning_of_inner site.state.mode (def_of site.shapes (content_shape (def_of site.shapes (shape_at site))))
+        (cursor_tree site.state)
+    inner_wanted content content_is is =
+        is ∙ ap (λ (m : Mode). beginning_of_inner m (def_of table content) seen) same_mode
+        ∙ ap (λ (n : ℕ). beginning_of_inner site.state.mode (def_of table n) seen) content_is
+        ∙ seen_by at (λ table s. beginning_of_inner site.state.mode (def_of table (content_shape (def_of table s))))
+        (λ table s. begun_inner site.state.mode (def_of table (content_shape (def_of table s))))
 
     pub in_wanted : (tracker : Tracker) → beginning ≡ beginning_in mode tracker seen
         → beginning ≡ beginning_in site.state.mode tracker (cursor_tree site.state)

@@ -2,8 +2,8 @@
 use Rattle.std.proofs.Common.{◌≡◌, is_some, unwrap_or, refl}
 use Rattle.fr_partial.specs.Common.{Beginning, EntriesKind, IsWholeWith, ItemsKind, LooksLike, MayHave, Tracker, Tree, Trees, anew_as, as_entries, as_items, base_of_tracker, begun, begun_by, count_trees, holes, kept_as, whole}
 use Rattle.fr_shape.specs.Val.{dyn, dyn_array, dyn_object}
-use Rattle.fr_partial.specs.declared.dynamic_places.DynamicParts.{DynamicParts}
-use Rattle.fr_partial.specs.DynamicBeginnings.{beginning_as, tracker_with}
+use Rattle.fr_refusals.specs.declared.dynamic_places.DynamicParts.{DynamicParts}
+use Rattle.fr_refusals.specs.DynamicBeginnings.{beginning_as, tracker_with}
 use Rattle.fr_partial.proofs.LookLaws.{alike_by}
 
 -- begun so, it keeps what is kept of it

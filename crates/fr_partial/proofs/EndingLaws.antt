@@ -1,7 +1,7 @@
 -- Completing the place on top of the stack: whether it may be, and the value that it comes to hold.
 use Rattle.std.proofs.Common.{◌≡◌, ℕ, ◌+◌, true, false, List, [], Option, Some, None, option_map, Result, Ok, Err, OnErr, OnOk, IfErr, refl, sym, ◌∙◌, ap, subst, arith}
-use Rattle.fr_partial.specs.Common.{Along, AtTop, Body, Conserved, Conserved_same, Frames, HoldsItsValue, IsAtWork, IsLast, IsOpen, IsOpenAt, IsSome, IsSomeAnd, KeepsTracker, LookupPathsAgree, LookupsAgree, MayHaveIts, Meanings, Node, Place, Plan, Plot, ReflectErrorKind, Room, Room_same, RoseBy, RoseBy_same, Rules, SameMarks, Shows, Slot, Tree, Val, WhyNot, body_in, change_at, complete, heap_of, held_in, is_some, mode_of, needs_none_by, occurs, open_top, own_tree, shape_of, slots_tokens, strict, takes_memory, top_place, top_shape, top_tree, tree_at, tree_occurs, value_of, whole_tree}
-use Rattle.fr_frame.specs.Bodies.{body_occurs, IsClosed}
+use Rattle.fr_partial.specs.Common.{Along, AtTop, Body, Conserved, Conserved_same, Frames, HoldsItsValue, IsAtWork, IsLast, IsOpen, IsOpenAt, IsSome, IsSomeAnd, KeepsTracker, LookupPathsAgree, LookupsAgree, MayHaveIts, Meanings, Node, Place, Plan, Plot, ReflectErrorKind, Room, Room_same, RoseBy, RoseBy_same, Rules, SameMarks, Shows, Slot, Tree, Val, WhyNot, body_in, change_at, complete, heap_of, held_in, is_some, mode_of, needs_none_by, occurs, open_top, own_tree, shape_of, slots_tokens, strict, takes_memory, top_place, top_shape, top_tree, tree_at, tree_occurs, value_of, whole_tree, Kid, Suits, kid_shown}
+use Rattle.fr_frame.specs.Bodies.{body_occurs, IsClosed, is_conversion_body}
 use Rattle.fr_frame.specs.Changes.{IfInUse, IsInUse}
 use Rattle.fr_frame.specs.Completing.{FillsAt, MayComplete, WhyNot as WhyNotAt}
 use Rattle.fr_frame.specs.Heap.{slots_occur, stored_in, with_body, with_slot}
@@ -17,6 +17,9 @@ use Rattle.fr_partial.proofs.HereLaws.{top_body}
 use Rattle.fr_partial.proofs.LeftLaws.{held_left}
 use Rattle.fr_partial.proofs.PlaceLaws.{here_along, here_found, node_here, plot_here}
 use Rattle.fr_partial.proofs.StateLaws.{strict_stores}
+use Rattle.fr_plan.specs.ReachLaws.{NodesAreReached, ReachedHaveNodes}
+use Rattle.fr_frame.specs.Kids.{AreLeftIn, AreLeftRightly}
+use Rattle.fr_store.specs.LeftLaws.{closed_plain, left_at}
 
 -- what follows of an answer, and what of a refusal
 pub on_both : {A E P Q R : Type 0} (result : Result A E) → (P → Q → R) → OnOk result P → OnOk result Q → OnOk result R
@@ -45,15 +48,15 @@ pub record IsTop (plan : Plan) (frames : Frames) (n : ℕ) : Type 0 where
   pub along : Along frames.table.now plan (node_on_top plan frames.slots frames.stack) (top_shape frames) (top_tree frames)
 
 -- so it is in strict mode
-pub strict_top : LookupsAgree → LookupPathsAgree → {plan : Plan} {frames : Frames} {n : ℕ} → IsAtWork plan frames
+pub strict_top : LookupsAgree → LookupPathsAgree → NodesAreReached → ReachedHaveNodes → {plan : Plan} {frames : Frames} {n : ℕ} → IsAtWork plan frames
     → mode_of frames.mode ≡ strict → IsLast frames.stack n → IsTop plan frames n
-strict_top agree paths {plan} {frames} {n} at_work mode last = record {
+strict_top agree paths reached nodes {plan} {frames} {n} at_work mode last = record {
   at_work = at_work;
   last = last;
   shut =
       closed_open at_work.ready.shown
       (strict_stores (mode_of frames.mode) frames.store frames.slots mode at_work.stores at_work.kept);
-  along = here_along agree paths frames.table.now frames.root plan frames.slots frames.stack at_work.ready;
+  along = here_along agree paths reached nodes frames.table.now frames.root plan frames.slots frames.stack at_work.ready;
 }
 
 module _ {plan : Plan} {frames : Frames} {n : ℕ} (top : IsTop plan frames n) where
@@ -76,6 +79,18 @@ module _ {plan : Plan} {frames : Frames} {n : ℕ} (top : IsTop plan frames n) w
   pub shape_is : shape_of plan here.node ≡ top_shape frames
   shape_is = shape_along top.along
 
+  -- it is no conversion: the source of one is in a slot
+  left_here : AreLeftIn (open_top top.at_work.ready.shown).plot
+  left_here =
+      subst (λ (k : Kid). AreLeftRightly k) (open_top top.at_work.ready.shown).is
+      (left_at (top_place frames) (kid_shown (heap_of frames.slots) frames.stack) top.at_work.ready.shown.stands.left)
+
+  pub plain : is_conversion_body here.body ≡ false
+  plain =
+      closed_plain frames.table.now (top_shape frames) (open_top top.at_work.ready.shown).plot
+      (subst (λ (t : Tree). Suits frames.table.now (top_shape frames) t)
+      (sym (plot_here plan frames.slots frames.stack top.at_work.ready.shown)) top.along.suits) left_here top.shut
+
   -- the slot is in use, and the place may be completed
   pub in_use : IsInUse frames.slots n
   in_use = ap is_some found
@@ -83,7 +98,7 @@ module _ {plan : Plan} {frames : Frames} {n : ℕ} (top : IsTop plan frames n) w
   pub may_complete : IfInUse frames.slots n (MayComplete frames.table.now plan)
   may_complete =
       subst (λ (node : Option Node). IsSomeAnd node (MayComplete frames.table.now plan)) (sym found)
-      (node_may_complete here top.along own_is top.shut)
+      (node_may_complete here top.along own_is top.shut plain)
 
   -- why it makes no value
   pub why_here : (means : Meanings) (kind : ReflectErrorKind)

@@ -1,10 +1,11 @@
 -- Entering a child: the place may be begun, is begun around it, and the child's node is the plan's.
-use Rattle.std.proofs.Common.{◌≡◌, ℕ, zero, suc, ◌<◌, true, List, [], ◌∷◌, length, Option, Some, None, nat_lt, nat_le, if◌then◌else◌, option_map, unwrap_or, refl, sym, ◌∙◌, ap, subst, arith}
-use Rattle.fr_partial.specs.Common.{Def, Field, HasChild, IsFullAs, IsOfShape, Kid, Leads, MayOpen, Mode, NodeId, Operation, Place, Plan, Plot, Suits, Table, Tracker, Tree, TypePlanNode, Val, Vals, as_fields, at, begun, begun_plot, body_in, change_at, child_node, child_tree, count_trees, def_of, entered_plot, field_refusal, fits, holes, is_some, no_vals, node_along, opened_as, opened_value, option_or, parts_as, selected, shape_of, tree_in, tree_nth, tree_of, trees_in, unit, whole, whole_plot}
+use Rattle.std.proofs.Common.{◌≡◌, ℕ, zero, suc, ◌<◌, true, false, List, [], ◌∷◌, length, Option, Some, None, nat_lt, nat_le, if◌then◌else◌, option_map, unwrap_or, refl, sym, ◌∙◌, ap, subst, arith}
+use Rattle.fr_partial.specs.Common.{Def, Field, HasChild, IsFullAs, IsOfShape, Kid, Leads, MayOpen, Mode, NodeId, Operation, Place, Plan, Plot, Suits, Table, Tracker, Tree, TypePlanNode, Val, Vals, as_fields, at, begun, begun_plot, body_in, change_at, child_node, child_tree, count_trees, def_of, entered_plot, field_refusal, fits, holes, is_begun_conversion, is_some, no_vals, node_along, opened_as, opened_value, option_or, parts_as, selected, shape_of, tree_in, tree_nth, tree_of, trees_in, unit, whole, whole_plot}
 use Rattle.fr_shape.specs.declared.shape.StructDef.{StructDef}
 use Rattle.fr_shape.specs.Fits.{fields_fit, count_vals}
 use Rattle.fr_shape.specs.Val.{product, first}
 use Rattle.fr_model.specs.Places.{array_limit}
+use Rattle.fr_model.specs.Trackers.{is_conversion}
 use Rattle.fr_model.specs.Tree.{wholes}
 use Rattle.fr_store.specs.Ways.{kid_below, node_below}
 use Rattle.fr_store.specs.WayLaws.{tree_of_below}
@@ -46,21 +47,22 @@ struct_parts table s struct is _ h =
     let no = rw (settled_plain table s (Def.Struct struct) is (λ other. cc)) at h in
     cc
 
-whole_parts : (table : Table) (s i : ℕ) (v : Val) (tracker : Tracker) (count : ℕ) → IsFullAs (def_of table s) tracker count
-    → fits table s v ≡ true → field_refusal (def_of table s) (whole v) i ≡ None → HasParts tracker v count
-whole_parts table s i v tracker count full fit may = go (def_of table s) refl full may
+whole_parts : (table : Table) (s i : ℕ) (v : Val) (tracker : Tracker) (count : ℕ) → is_conversion tracker ≡ false
+    → IsFullAs (def_of table s) tracker count → fits table s v ≡ true → field_refusal (def_of table s) (whole v) i ≡ None
+    → HasParts tracker v count
+whole_parts table s i v tracker count plain full fit may = go (def_of table s) refl full may
   where
     go : (def : Def) → def_of table s ≡ def → IsFullAs def tracker count → field_refusal def (whole v) i ≡ None → HasParts tracker v count
     go (Def.Struct struct) e b none =
-        subst (λ (n : ℕ). HasParts tracker v n) (sym (struct_tracker struct tracker count b).1)
-        (subst (λ (f : Tracker). HasParts f v (length struct.fields)) (sym (struct_tracker struct tracker count b).0)
+        subst (λ (n : ℕ). HasParts tracker v n) (sym (struct_tracker struct tracker count plain b).1)
+        (subst (λ (f : Tracker). HasParts f v (length struct.fields)) (sym (struct_tracker struct tracker count plain b).0)
         (struct_parts table s struct e v fit))
     go (Def.Array t n) e b none =
         absurd (both_none (if nat_lt i n then None else Some Operation.ArrayIndexOutOfBounds)
         (if nat_le n array_limit then None else Some Operation.ArrayTooLarge) Operation.ElementOfWholeArray none)
     go _ e b none = cc
 
-count_holes : (n : ℕ) → count_trees (holes n) ≡ n
+pub count_holes : (n : ℕ) → count_trees (holes n) ≡ n
 count_holes zero = refl
 count_holes (suc n) = ap suc (count_holes n)
 
@@ -68,24 +70,25 @@ count_wholes : (vs : Vals) → count_trees (wholes vs) ≡ count_vals vs
 count_wholes no_vals = refl
 count_wholes (first v vs) = ap suc (count_wholes vs)
 
-pub may_open : (table : Table) (s i : ℕ) (tracker : Tracker) (count : ℕ) (plot : Plot) → IsFullAs (def_of table s) tracker count
-    → Suits table s (tree_in plot) → field_refusal (def_of table s) (tree_in plot) i ≡ None → MayOpen tracker (body_in plot)
-may_open table s i tracker count (whole_plot v) full suits may =
-    let parts = whole_parts table s i v tracker count full suits may in
+pub may_open : (table : Table) (s i : ℕ) (tracker : Tracker) (count : ℕ) (plot : Plot) → is_conversion tracker ≡ false
+    → IsFullAs (def_of table s) tracker count → Suits table s (tree_in plot) → field_refusal (def_of table s) (tree_in plot) i ≡ None → MayOpen tracker (body_in plot)
+may_open table s i tracker count (whole_plot v) plain full suits may =
+    let parts = whole_parts table s i v tracker count plain full suits may in
     (ap is_some parts.are, fits_apart table s v suits)
-may_open table s i tracker count _ full suits may = tt
+may_open table s i tracker count _ plain full suits may = tt
 
-pub has_child : (table : Table) (s i : ℕ) (tracker : Tracker) (count : ℕ) (plot : Plot) → IsFullAs (def_of table s) tracker count
-    → ((k : ℕ) → tracker ≡ as_fields (Some k) → selected (tree_in plot) ≡ Some k) → i < count → Suits table s (tree_in plot)
+pub has_child : (table : Table) (s i : ℕ) (tracker : Tracker) (count : ℕ) (plot : Plot) → is_conversion tracker ≡ false
+    → IsFullAs (def_of table s) tracker count → ((k : ℕ) → tracker ≡ as_fields (Some k) → selected (tree_in plot) ≡ Some k)
+    → is_begun_conversion (tree_in plot) ≡ false → i < count → Suits table s (tree_in plot)
     → field_refusal (def_of table s) (tree_in plot) i ≡ None → HasChild tracker i (opened_as tracker count (tree_in plot))
-has_child table s i tracker count entered_plot full variant below suits may = (refl, omega (arith, count_holes count))
-has_child table s i tracker count (begun_plot made kids) full variant below suits may =
-    let same = begun_as (def_of table s) made (trees_in kids) tracker count i full variant suits.0.0 may in
+has_child table s i tracker count entered_plot plain full variant apart below suits may = (refl, omega (arith, count_holes count))
+has_child table s i tracker count (begun_plot made kids) plain full variant apart below suits may =
+    let same = begun_as (def_of table s) made (trees_in kids) tracker count i plain full variant apart suits.0.0 may in
     (sym same.0, omega (arith, same.1))
-has_child table s i tracker count (whole_plot v) full variant below suits may =
-    let parts = whole_parts table s i v tracker count full suits may in
+has_child table s i tracker count (whole_plot v) plain full variant apart below suits may =
+    let parts = whole_parts table s i v tracker count plain full suits may in
     subst (λ (found : Option Vals). HasChild tracker i (opened_value tracker v found)) (sym parts.are)
-    (over_so (def_of table s) (whole v) tracker count i full may v, omega (arith, count_wholes parts.parts, parts.counts))
+    (over_so (def_of table s) (whole v) tracker count i plain full may v, omega (arith, count_wholes parts.parts, parts.counts))
 
 -- The plan's node at a place, by the tree.
 

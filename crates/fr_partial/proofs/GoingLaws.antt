@@ -1,7 +1,7 @@
 -- Going on to a child, whichever way: the plan's node of the child, what the place becomes, and the step to the child.
-use Rattle.std.proofs.Common.{◌≡◌, ℕ, suc, ◌<◌, true, false, List, [], ◌∷◌, ◌++◌, length, None, refl, sym, ◌∙◌, ap, subst, arith, Some}
+use Rattle.std.proofs.Common.{◌≡◌, ℕ, suc, ◌<◌, true, false, List, [], ◌∷◌, ◌++◌, length, None, refl, sym, ◌∙◌, ap, subst, arith, Some, Bool, if◌then◌else◌}
 use Rattle.std.specs.Borrow.{Bor}
-use Rattle.fr_partial.specs.Common.{Along, AtTop, Became, Changed, Def, Describes, Frames, HasChild, HasItems, IsAtWork, IsFullAs, IsOfShape, IsOpen, ItemsKind, Leads, LookupPathsAgree, LookupsAgree, MayGo, MayOpen, Node, NodeId, Opening, Place, Plan, PointsRightly, Suits, Table, Tracker, Tree, Val, Way, as_elements, as_fields, as_items, as_tracker, begun, begun_by, change_at, change_child, child_as, child_node, child_tree, count_below, def_of, deferred, enter, entry_refusal, field_refusal, heap_of, hole, is_map, is_map_tracker, kid_shown, no_trees, node_here, number_told, onward, opened_as, put_child, shape_of, step_as, takes_at_end, top_place, top_shape, top_tree, tracker_at, tree_at, tree_in, whole, whole_tree}
+use Rattle.fr_partial.specs.Common.{Along, AtTop, Became, Changed, Def, Describes, Frames, HasChild, HasItems, IsAtWork, IsFullAs, IsOfShape, IsOpen, ItemsKind, Leads, LookupPathsAgree, LookupsAgree, MayGo, MayOpen, Node, NodeId, Opening, Place, Plan, PointsRightly, Suits, Table, Tracker, Tree, Way, as_elements, as_fields, as_items, as_tracker, begun, begun_by, change_at, change_child, child_as, child_node, child_tree, count_below, def_of, deferred, enter, entry_refusal, field_refusal, heap_of, hole, is_map, is_map_tracker, kid_shown, node_here, number_told, onward, opened_as, shape_of, step_as, top_place, top_shape, top_tree, tracker_at, tree_at, tree_in, whole_tree, entered, fresh, holes, is_begun_conversion, opened, as_entries}
 use Rattle.fr_model.specs.DynamicPlaces.{is_begun_object, keys_here}
 use Rattle.fr_model.specs.Dynamics.{keys_apart}
 use Rattle.fr_model.specs.Entering.{entered_on, number_on}
@@ -9,12 +9,13 @@ use Rattle.fr_model.specs.PathLaws.{step_on, HasBegun, IsAdmittedOn}
 use Rattle.fr_frame.specs.declared.places.ChildWay.{ChildWay}
 use Rattle.fr_store.specs.StackMoves.{child_number, tree_here, with_entry_of, with_item_of, with_key_of}
 use Rattle.fr_store.specs.ShapeLaws.{child_shaped}
-use Rattle.fr_partial.specs.Moving.{step_told}
+use Rattle.fr_partial.specs.Moving.{step_told, IsSourcedOn}
 use Rattle.fr_partial.proofs.BeginLaws.{opened_within}
-use Rattle.fr_partial.proofs.BelowLaws.{changed_takes, never_map}
-use Rattle.fr_partial.proofs.EnterLaws.{def_entered, has_child, may_open, node_stays}
+use Rattle.fr_partial.proofs.AnewLaws.{fresh_entered}
+use Rattle.fr_partial.proofs.BelowLaws.{never_map}
+use Rattle.fr_partial.proofs.EnterLaws.{count_holes, def_entered, has_child, may_open, node_stays}
 use Rattle.fr_partial.proofs.FitLaws.{is_there}
-use Rattle.fr_partial.proofs.TrackerLaws.{tracker_is_at, full_tree, of_fields, opened_same, points_so}
+use Rattle.fr_partial.proofs.TrackerLaws.{tracker_is_at, full_tree, not_begun, of_fields, opened_same, points_so}
 use Rattle.fr_partial.proofs.HereLaws.{body_here, by_plot}
 use Rattle.fr_partial.proofs.KeepLaws.{became_after, changed_as}
 use Rattle.fr_partial.proofs.KeptLaws.{content_so, kept_as_tracker, points_around}
@@ -24,13 +25,21 @@ use Rattle.fr_partial.proofs.ObjectLaws.{apart_here, counted_here, entered_so, e
 use Rattle.fr_partial.proofs.PlaceLaws.{here_along}
 use Rattle.fr_partial.proofs.ReachLaws.{tree_leads}
 use Rattle.fr_partial.proofs.TreeLaws.{changed_at, changed_twice}
+use Rattle.fr_model.specs.Step.{enter_child}
+use Rattle.fr_model.specs.Trackers.{is_conversion}
+use Rattle.fr_plan.specs.ReachLaws.{NodesAreReached, ReachedHaveNodes}
+use Rattle.fr_store.specs.SourceLaws.{IsSourced, sourced_plain}
+use Rattle.fr_frame.specs.Bodies.{TakesItems}
 
 -- what is known where a way is taken from the place on top, as it is met
 pub record Goes (plan : Plan) (frames : Frames) (met way : Way) : Type 0 where
   pub agree : LookupsAgree
   pub paths : LookupPathsAgree
+  pub reached : NodesAreReached
+  pub nodes : ReachedHaveNodes
   pub work : IsAtWork plan frames
   pub may : MayGo frames.table.now (top_shape frames) (top_tree frames) met
+  pub sourced : IsSourcedOn plan met
   pub is : met ≡ way
   pub above : NodeId
   pub above_is : above ≡ node_here plan frames.slots frames.stack
@@ -38,6 +47,7 @@ pub record Goes (plan : Plan) (frames : Frames) (met way : Way) : Type 0 where
 -- as what the place is begun then; each entry of a dynamic object lies as an element lies in an array
 abbrev pub tracker_on : Way → Tracker
 tracker_on (Way.Child i opening) = as_tracker opening.tracker
+tracker_on (Way.Anew i opening) = as_tracker opening.tracker
 tracker_on (Way.Item opening) = as_tracker opening.tracker
 tracker_on (Way.Key opening) = as_tracker opening.tracker
 tracker_on (Way.Value opening) = as_tracker opening.tracker
@@ -47,11 +57,35 @@ tracker_on (Way.Content tracker beginning) = as_tracker tracker
 -- what is made of the place, where the child has this definition
 abbrev pub done_on : Way → Def → Tree → Tree
 done_on (Way.Child i opening) def = λ old. change_child i (enter def) (opened_as (as_tracker opening.tracker) opening.count old)
+done_on (Way.Anew i opening) def = λ old. change_child i (enter def) (begun (as_tracker opening.tracker) (holes opening.count))
 done_on (Way.Item opening) def = with_item_of def
 done_on (Way.Key opening) def = with_key_of def
 done_on (Way.Value opening) def = change_child opening.count (enter def)
 done_on (Way.Entry key) def = with_entry_of def key.now
 done_on (Way.Content tracker beginning) def = λ old. change_child 0 (enter def) (begun_by beginning (as_tracker tracker) 1 old)
+
+-- of a conversion alone it has to be known that the plan has a node for the child
+
+takes_apart : (tracker : Tracker) → TakesItems tracker → is_conversion tracker ≡ false
+takes_apart (as_items kind) takes = refl
+takes_apart _ takes = absurd takes
+
+map_apart : (tracker : Tracker) → is_map_tracker tracker ≡ true → is_conversion tracker ≡ false
+map_apart (as_entries kind) of_map = refl
+map_apart _ of_map = cc
+
+sourced_on : (plan : Plan) (table : Table) (s : ℕ) (tree : Tree) (way : Way) → MayGo table s tree way → IsSourcedOn plan way
+    → IsSourced plan (tracker_on way)
+sourced_on plan table s tree (Way.Child i opening) may sourced = sourced_plain plan (as_tracker opening.tracker) may.0.plain
+sourced_on plan table s tree (Way.Anew i opening) may sourced = sourced_plain plan (as_tracker opening.tracker) may.0.plain
+sourced_on plan table s tree (Way.Item opening) may sourced =
+    sourced_plain plan (as_tracker opening.tracker) (takes_apart (as_tracker opening.tracker) may.1)
+sourced_on plan table s tree (Way.Key opening) may sourced =
+    sourced_plain plan (as_tracker opening.tracker) (map_apart (as_tracker opening.tracker) may.1)
+sourced_on plan table s tree (Way.Value opening) may sourced =
+    sourced_plain plan (as_tracker opening.tracker) (map_apart (as_tracker opening.tracker) may.1)
+sourced_on plan table s tree (Way.Entry key) may sourced = tt
+sourced_on plan table s tree (Way.Content tracker beginning) may sourced = sourced
 
 -- so many children the place may have, and this is one of them
 record HoldsChild (table : Table) (s : ℕ) (tracker : Tracker) (i : ℕ) : Type 0 where
@@ -66,13 +100,41 @@ dynamic_holds table s Def.Dynamic tree is may =
     record { count = 1; full = subst (λ (d : Def). IsFullAs d (as_items ItemsKind.Array) 1) (sym is) tt; points = tt; below = omega arith }
 dynamic_holds table s _ tree is may = cc
 
+-- what starts anew, of which such a field or element may be entered, is begun so
+anew_tracker : (def : Def) (i : ℕ) (tracker : Tracker) (count : ℕ) → is_conversion tracker ≡ false → IsFullAs def tracker count
+    → fresh def ≡ entered → field_refusal def (fresh def) i ≡ None → tracker ≡ tracker_at def (fresh def)
+anew_tracker def i tracker count plain full nothing may =
+    subst (λ (t : Tree). field_refusal def t i ≡ None → tracker ≡ tracker_at def t) (sym nothing)
+    (λ so. (not_begun def entered tracker count i plain full refl so).0) may
+
+-- and then the child is entered, of this definition
+anew_so : (table : Table) (s : ℕ) (place : Def) (i : ℕ) (tracker : Tracker) (count : ℕ) (def : Def) → is_conversion tracker ≡ false
+    → IsFullAs place tracker count → fresh place ≡ entered → field_refusal place (fresh place) i ≡ None
+    → def ≡ def_of table (child_as table s tracker i) → change_child i (enter def) (begun tracker (holes count))
+    ≡ change_child i (enter (def_of table (child_as table s (tracker_at place (fresh place)) i))) (opened place (fresh place))
+anew_so table s place i tracker count def plain full nothing may is =
+    ap (λ (d : Def). change_child i (enter d) (begun tracker (holes count))) (is
+    ∙ ap (λ (f : Tracker). def_of table (child_as table s f i)) (anew_tracker place i tracker count plain full nothing may))
+    ∙ ap (change_child i (enter (def_of table (child_as table s (tracker_at place (fresh place)) i))))
+    (subst (λ (t : Tree). field_refusal place t i ≡ None → begun tracker (holes count) ≡ opened place t) (sym nothing)
+    (opened_same place entered tracker count i plain full) may)
+
 module _ (table : Table) (s : ℕ) (tree : Tree) (suits : Suits table s tree) where
   holds : (way : Way) → MayGo table s tree way → HoldsChild table s (tracker_on way) (number_told way)
   holds (Way.Child i opening) may = record {
     count = opening.count;
     full = may.0.begun;
-    points = points_so table s (def_of table s) tree (as_tracker opening.tracker) opening.count i may.0.begun may.1;
+    points =
+        points_so table s (def_of table s) tree (as_tracker opening.tracker) opening.count i may.0.plain may.0.begun may.1;
     below = opened_within table s tree i opening may.0 may.1;
+  }
+  holds (Way.Anew i opening) may = record {
+    count = opening.count;
+    full = may.0.begun;
+    points =
+        points_so table s (def_of table s) (fresh (def_of table s)) (as_tracker opening.tracker) opening.count i may.0.plain
+        may.0.begun may.1;
+    below = opened_within table s (fresh (def_of table s)) i opening may.0 may.1;
   }
   holds (Way.Item opening) may =
       let room = room_for_all table s (as_tracker opening.tracker) opening.count tree may.0 suits in
@@ -96,9 +158,14 @@ module _ (table : Table) (s : ℕ) (tree : Tree) (suits : Suits table s tree) wh
       let tracker : Tracker = as_tracker opening.tracker in
       ap (λ (d : Def). change_child i (enter d) (opened_as tracker opening.count tree)) (is
       ∙ ap (λ (f : Tracker). def_of table (child_as table s f i))
-      (tracker_is_at (def_of table s) tree tracker opening.count i may.0.begun may.0.variant (full_tree table s tree suits) may.1))
+      (tracker_is_at (def_of table s) tree tracker opening.count i may.0.plain may.0.begun may.0.variant may.2
+      (full_tree table s tree suits) may.1))
       ∙ ap (change_child i (enter (def_of table (child_as table s (tracker_at (def_of table s) tree) i))))
-      (opened_same (def_of table s) tree tracker opening.count i may.0.begun may.1)
+      (opened_same (def_of table s) tree tracker opening.count i may.0.plain may.0.begun may.1)
+      ∙ ap (λ (b : Bool). enter_child table s i (if b then fresh (def_of table s) else tree)) (sym may.2)
+  done_is (Way.Anew i opening) may def is =
+      anew_so table s (def_of table s) i (as_tracker opening.tracker) opening.count def may.0.plain may.0.begun
+      (fresh_entered (def_of table s) i may.1) may.1 is
   done_is (Way.Item opening) may def is = item_so table s def (as_tracker opening.tracker) opening.count tree may.0 is
   done_is (Way.Key opening) may def is = key_so table s def (as_tracker opening.tracker) opening.count tree may.0 is
   done_is (Way.Value opening) may def is =
@@ -128,9 +195,14 @@ module _ (table : Table) (s : ℕ) (tree : Tree) (suits : Suits table s tree) wh
   -- and tells the step
   pub step_is : (way : Way) → MayGo table s tree way → step_on (def_of table s) tree (onward way tree) ≡ step_told way
   step_is (Way.Child i opening) may =
-      ap (λ (f : Tracker). step_as f i) (sym
-      (tracker_is_at (def_of table s) tree (as_tracker opening.tracker) opening.count i may.0.begun may.0.variant
+      ap (λ (b : Bool). step_as (tracker_at (def_of table s) (if b then fresh (def_of table s) else tree)) i) may.2
+      ∙ ap (λ (f : Tracker). step_as f i) (sym
+      (tracker_is_at (def_of table s) tree (as_tracker opening.tracker) opening.count i may.0.plain may.0.begun may.0.variant may.2
       (full_tree table s tree suits) may.1))
+  step_is (Way.Anew i opening) may =
+      ap (λ (f : Tracker). step_as f i) (sym
+      (anew_tracker (def_of table s) i (as_tracker opening.tracker) opening.count may.0.plain may.0.begun
+      (fresh_entered (def_of table s) i may.1) may.1))
   step_is (Way.Item opening) may = item_steps opening may.0
   step_is (Way.Key opening) may = item_steps opening may.0
   step_is (Way.Value opening) may =
@@ -144,8 +216,11 @@ module _ {plan : Plan} {frames : Frames} {met way : Way} (goes : Goes plan frame
   pub may_go : MayGo frames.table.now (top_shape frames) (top_tree frames) way
   may_go = subst (λ (w : Way). MayGo frames.table.now (top_shape frames) (top_tree frames) w) goes.is goes.may
 
+  is_sourced : IsSourcedOn plan way
+  is_sourced = subst (IsSourcedOn plan) goes.is goes.sourced
+
   here : Along frames.table.now plan (node_here plan frames.slots frames.stack) (top_shape frames) (top_tree frames)
-  here = here_along goes.agree goes.paths _ _ _ _ _ goes.work.ready
+  here = here_along goes.agree goes.paths goes.reached goes.nodes _ _ _ _ _ goes.work.ready
 
   module _ {node : NodeId} (is : node ≡ child_node plan goes.above (tracker_on way) (number_told way)) where
     -- the child's node is that of the place on top
@@ -158,7 +233,8 @@ module _ {plan : Plan} {frames : Frames} {met way : Way} (goes : Goes plan frame
         let ready = goes.work.ready in
         subst (λ (n : NodeId). IsOfShape plan n (child_as frames.table.now (top_shape frames) (tracker_on way) (number_told way)))
         (sym node_is) (child_shaped goes.agree frames.table.now frames.root plan ready.checked ready.inside ready.planned _
-        (top_shape frames) (tracker_on way) held.count (number_told way) here.node_is held.full held.points held.below)
+        (top_shape frames) (tracker_on way) held.count (number_told way) here.node_is held.full held.points
+        (sourced_on plan frames.table.now (top_shape frames) (top_tree frames) way may_go is_sourced) held.below)
 
     -- it is one of the plan's
     pub is_planned : node.0 < length plan.nodes
@@ -209,34 +285,41 @@ module _ {plan : Plan} {frames : Frames} {met : Way} {i : ℕ} {opening : Openin
   pub of_opening : (So : Tracker → Type 0) → So (as_fields None) → So as_elements → ((k : ℕ) → So (as_fields (Some k))) → So (as_tracker opening.tracker)
   of_opening So of_struct of_array of_variant =
       of_fields So of_struct of_array of_variant (def_of frames.table.now (top_shape frames)) (top_tree frames)
-      (as_tracker opening.tracker) opening.count i (may_go goes).0.begun (may_go goes).1
+      (as_tracker opening.tracker) opening.count i (may_go goes).0.plain (may_go goes).0.begun (may_go goes).1
 
   -- it may be begun so
   pub opens : AtTop frames.slots frames.stack (λ (at : Node). MayOpen (as_tracker opening.tracker) at.body)
   opens =
       body_here goes.work.ready.shown (λ t. Suits frames.table.now (top_shape frames) t
       × (field_refusal (def_of frames.table.now (top_shape frames)) t i ≡ None)) (MayOpen (as_tracker opening.tracker))
-      (λ plot so. may_open _ _ i (as_tracker opening.tracker) opening.count plot (may_go goes).0.begun so.0 so.1)
+      (λ plot so.
+      may_open _ _ i (as_tracker opening.tracker) opening.count plot (may_go goes).0.plain (may_go goes).0.begun so.0 so.1)
       ((here goes).suits, (may_go goes).1)
 
   -- and has the child then
   pub opened_has : HasChild (as_tracker opening.tracker) i (opened_as (as_tracker opening.tracker) opening.count (top_tree frames))
   opened_has =
       by_plot goes.work.ready.shown (λ t. Describes frames.table.now (top_shape frames) t opening
-      → field_refusal (def_of frames.table.now (top_shape frames)) t i ≡ None → Suits frames.table.now (top_shape frames) t
-      → HasChild (as_tracker opening.tracker) i (opened_as (as_tracker opening.tracker) opening.count t)) (λ plot says may suits.
-      has_child _ _ i (as_tracker opening.tracker) opening.count plot says.begun says.variant
-      (opened_within _ _ (tree_in plot) i opening says may) suits may) (may_go goes).0 (may_go goes).1 (here goes).suits
+      → field_refusal (def_of frames.table.now (top_shape frames)) t i ≡ None → is_begun_conversion t ≡ false
+      → Suits frames.table.now (top_shape frames) t
+      → HasChild (as_tracker opening.tracker) i (opened_as (as_tracker opening.tracker) opening.count t))
+      (λ plot says may apart suits.
+      has_child _ _ i (as_tracker opening.tracker) opening.count plot says.plain says.begun says.variant apart
+      (opened_within _ _ (tree_in plot) i opening says may) suits may) (may_go goes).0 (may_go goes).1 (may_go goes).2
+      (here goes).suits
 
-  -- a value that is put there isn't completed as it is left
-  pub put_no_item : (v : Val)
-      → takes_at_end (put_child (def_of frames.table.now (top_shape frames)) i v (top_tree frames)) ≡ false
-  put_no_item v =
-      changed_takes (as_tracker opening.tracker) i (λ old. whole v) _
-      (subst (λ (t : Tree). HasChild (as_tracker opening.tracker) i t)
-      (opened_same (def_of frames.table.now (top_shape frames)) (top_tree frames) (as_tracker opening.tracker) opening.count i
-      (may_go goes).0.begun (may_go goes).1) opened_has)
-      ∙ of_opening (λ tracker. takes_at_end (begun tracker no_trees) ≡ false) refl refl (λ k. refl)
+-- one of a place that starts anew: it has that child then
+module _ {plan : Plan} {frames : Frames} {met : Way} {i : ℕ} {opening : Opening} (goes : Goes plan frames met (Way.Anew i opening)) where
+  pub of_anew : (So : Tracker → Type 0) → So (as_fields None) → So as_elements → ((k : ℕ) → So (as_fields (Some k))) → So (as_tracker opening.tracker)
+  of_anew So of_struct of_array of_variant =
+      of_fields So of_struct of_array of_variant (def_of frames.table.now (top_shape frames))
+      (fresh (def_of frames.table.now (top_shape frames))) (as_tracker opening.tracker) opening.count i (may_go goes).0.plain
+      (may_go goes).0.begun (may_go goes).1
+
+  pub anew_has : HasChild (as_tracker opening.tracker) i (begun (as_tracker opening.tracker) (holes opening.count))
+  anew_has =
+      let below = opened_within _ _ (fresh (def_of frames.table.now (top_shape frames))) i opening (may_go goes).0 (may_go goes).1 in
+      (refl, omega (arith, count_holes opening.count, below))
 
 -- What stands there after a change.
 module _ {plan : Plan} (frames : Frames) (shown : IsOpen plan frames.slots frames.stack) (change : Tree → Tree) where

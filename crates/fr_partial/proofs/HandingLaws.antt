@@ -1,6 +1,6 @@
 -- Handing over the value that the place on top holds: whether it may be, what comes of it, and the path and the state then.
 use Rattle.std.proofs.Common.{◌≡◌, ℕ, Bool, true, false, List, [], ◌∷◌, ◌++◌, Result, Ok, Err, OnOk, Some, None, Option, IsErr, IsSome, IsOk, inl, inr, refl, sym, ◌∙◌, ap, subst}
-use Rattle.fr_partial.specs.Common.{AreOpen, AtTop, Became, Body, Frames, HoldsItsValue, IsOpen, IsOpenAt, IsSomeAnd, MayReceive, Meanings, Node, PathStep, Place, Plan, ReflectErrorKind, Rules, SameMarks, Slot, State, Table, Tree, Val, body_in, change_at, complete, cursor_tree, heap_of, is_root, is_set, is_some, needs_none_by, one_more_call, open_top, path_of, strict_column, takes_memory, takes_no_memory, top_place, top_shape, top_tree, tree_at, up, value_of, whole, whole_tree}
+use Rattle.fr_partial.specs.Common.{AreOpen, AtTop, Became, Body, Frames, HoldsItsValue, IsOpen, IsOpenAt, IsSomeAnd, MayReceive, Meanings, Node, PathStep, Place, Plan, ReflectErrorKind, Rules, SameMarks, Slot, State, Table, Tree, Val, body_in, change_at, complete, cursor_tree, heap_of, is_root, is_set, is_some, needs_none_by, one_more_call, open_top, path_of, strict_column, takes_memory, takes_no_memory, top_place, top_shape, top_tree, tree_at, up, value_of, whole, whole_tree, is_begun_conversion}
 use Rattle.fr_model.specs.Collections.{number_in, with_ended_item}
 use Rattle.fr_model.specs.PathLaws.{ChangingKeepsThePath, LeadAbove, LeavingDropsAStep, PathIsAsDeep}
 use Rattle.fr_model.specs.Paths.{steps_in}
@@ -14,7 +14,7 @@ use Rattle.fr_partial.specs.Moving.{after_completing, received, received_if, is_
 use Rattle.fr_partial.proofs.HereLaws.{top_body}
 use Rattle.fr_partial.proofs.KeepLaws.{became_after, became_marked}
 use Rattle.fr_partial.proofs.LackLaws.{only_wants}
-use Rattle.fr_partial.proofs.TreeLaws.{changed_twice, item_over, set_stays}
+use Rattle.fr_partial.proofs.TreeLaws.{changed_twice, item_over, set_stays, source_stays}
 use Rattle.fr_partial.proofs.WayLaws.{Ends, below_root as path_below}
 
 -- what is said of what was found
@@ -47,7 +47,12 @@ module _ {rules : Rules} {means : Meanings} {plan : Plan} {before between : Fram
     (holds : HoldsItsValue rules means plan before between) where
   -- it may go there still, once the place is completed
   pub may_receive : (taker : Taker) → MayReceive taker before → MayReceive taker between
-  may_receive Taker.Above may = ap is_root holds.changed.stands.cursor ∙ may
+  may_receive Taker.Above may = (
+    ap is_root holds.changed.stands.cursor ∙ may.0,
+    ap (λ (p : Place). is_begun_conversion (tree_at (up p) (whole_tree between))) holds.changed.stands.cursor
+        ∙ ap (λ (t : Tree). is_begun_conversion (tree_at (up (top_place before)) t)) holds.changed.stands.built
+        ∙ source_stays (top_place before) (λ old. holds.now) (whole_tree before) may.0 ∙ may.1,
+  )
   may_receive Taker.Set may = (
     ap is_root holds.changed.stands.cursor ∙ may.0,
     ap (λ (p : Place). is_set (tree_at (up p) (whole_tree between))) holds.changed.stands.cursor
@@ -146,6 +151,12 @@ module _ (state : State) {steps : List PathStep} (path : steps ≡ path_of state
       sym ((above leave deep may.0 back).changed_above (with_ended_item (number_in state.cursor) v))
   path_then change leave deep Taker.Itself v may back = back ∙ path ∙ sym (change state (λ old. whole v))
 
+  -- the place above is whole with this value
+  pub path_raised : LeavingDropsAStep → PathIsAsDeep → (v : Val) → is_root state.cursor ≡ false → {left : List PathStep}
+      → ((front : List PathStep) (last : PathStep) → steps ≡ front ++ last ∷ [] → left ≡ front)
+      → left ≡ steps_in (up state.cursor) (change_at (up state.cursor) (λ old. whole v) state.tree)
+  path_raised leave deep v below back = sym ((above leave deep below back).changed_above (λ old. whole v))
+
 -- Memory.
 
 module _ (hooks : Meanings) (table : Table) (s : ℕ) (state : State) {kind : ReflectErrorKind}
@@ -154,7 +165,7 @@ module _ (hooks : Meanings) (table : Table) (s : ℕ) (state : State) {kind : Re
   no_message : (taker : Taker) → PassesValidators (after_completing Rules.Strict taker hooks table s state)
       → complete strict_column hooks table s (cursor_tree state) ≡ None → IsOfValidator (cause hooks table s (cursor_tree state)) → ⊥
   no_message taker passes none =
-      subst (λ (made : Option Val). PassesValidators (received_if Rules.Strict taker hooks table s state made)) none passes
+      λ said. subst (λ (made : Option Val). PassesValidators (received_if Rules.Strict taker hooks table s state made)) none passes (inl said)
 
   -- by the rules of strict mode a place that makes no value is refused for that, and never out of memory
   pub refused_first : (rules : Rules) (taker : Taker) → PassesValidators (after_completing rules taker hooks table s state)

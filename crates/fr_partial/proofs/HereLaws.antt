@@ -13,7 +13,7 @@ value_plot _ v e = cc
 
 may_plot : (def : Def) (tracker : Tracker) (count : ℕ) (plot : Plot) → MayOpenAs def tracker count (tree_in plot)
     → MayOpen tracker (body_in plot)
-may_plot def tracker count (whole_plot v) may = (may.1, may.2)
+may_plot def tracker count (whole_plot v) may = may.1
 may_plot def tracker count _ may = tt
 
 -- the body on top, of which this holds

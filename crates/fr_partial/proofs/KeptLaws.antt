@@ -1,42 +1,25 @@
 -- What is kept of a place where it is begun, and what it is then.
-use Rattle.std.proofs.Common.{◌≡◌, ℕ, List, Bool, true, false, ◌&&◌, length, nat_eq, Option, Some, None, option_map, Result, Ok, Err, OnOk, is_some, IsSome, unwrap_or, if◌then◌else◌, refl, sym, ◌∙◌, ap, subst, arith}
-use Rattle.std.proofs.lemmas.Bool.{eqb-true}
-use Rattle.fr_partial.specs.Common.{Beginning, ContentKind, Def, HasChild, HoldsNothingTwice, IsFullAs, IsWholeWith, MayHave, Mode, PointsRightly, Suits, Table, Tracker, Tree, Trees, Val, as_content, as_fields, base_of_tracker, beginning_in, beginning_of_some, beginning_so, begun, begun_by, branch, change_child, child_as, count_trees, def_of, deferred, enter, entered, fresh, hole, holes, is_around, is_begun, kept_so, no_trees, strict, variant_anew, variant_fields, whole}
+use Rattle.std.proofs.Common.{◌≡◌, ℕ, Bool, true, false, length, Option, Some, None, option_map, Result, Ok, Err, OnOk, is_some, IsSome, unwrap_or, if◌then◌else◌, refl, sym, ◌∙◌, ap, subst, arith}
+use Rattle.fr_partial.specs.Common.{Beginning, ContentKind, Def, HasChild, HoldsNothingTwice, IsFullAs, IsWholeWith, MayHave, Mode, PointsRightly, Suits, Table, Tracker, Tree, Trees, Val, as_content, as_fields, beginning_in, beginning_of_some, beginning_so, begun, begun_by, branch, change_child, child_as, count_trees, def_of, deferred, enter, entered, fresh, hole, holes, is_around, is_begun, kept_so, no_trees, strict, variant_anew, variant_fields, whole, State, beginning_of_inner, content_shape, cursor_tree}
 use Rattle.fr_model.specs.Contents.{around, content_anew, content_of, is_entered_in_place, kept_in, kept_option}
-use Rattle.fr_model.specs.StateCode.{tracker_comes_back, tracker_numbered}
 use Rattle.fr_model.specs.PathLaws.{HasBegunAs, IsKeptAs}
-use Rattle.fr_model.specs.Trackers.{tracker_number, same_tracker, keys_of_tracker, same_keys}
+use Rattle.fr_model.specs.Trackers.{same_tracker}
 use Rattle.fr_model.specs.Well.{HasContent, IsBegunRightly, IsContent, PointsTo}
 use Rattle.fr_model.specs.Entering.{opened_as, opened_value, parts_as}
 use Rattle.fr_shape.specs.Val.{first, map_of, no_vals, set_of, some}
-use Rattle.fr_partial.specs.Beginnings.{kept_by, MayBeginAround}
+use Rattle.fr_refusals.specs.Beginnings.{kept_by}
+use Rattle.fr_model.proofs.Becoming.{kept_so_is as kept_just_so}
+use Rattle.fr_partial.specs.Beginnings.{MayBeginAround}
 use Rattle.fr_partial.proofs.BelowLaws.{of_content}
 use Rattle.fr_partial.proofs.TrackerLaws.{IsFullTree}
+use Rattle.fr_model.specs.Step.{inner_option_kept}
 
--- Around one child a number is one tracker.
-
-content_numbered : (kind : ContentKind) (base : ℕ) (keys : List (List ℕ)) → tracker_numbered (tracker_number (as_content kind)) base keys ≡ as_content kind
-content_numbered ContentKind.Some base keys = refl
-content_numbered ContentKind.Ok base keys = refl
-content_numbered ContentKind.Err base keys = refl
-content_numbered ContentKind.Pointer base keys = refl
-
-around_tracker : (one other : Tracker) → is_around other ≡ true → tracker_number one ≡ tracker_number other → one ≡ other
-around_tracker one (as_content kind) h e =
-    sym (tracker_comes_back one)
-    ∙ ap (λ (n : ℕ). tracker_numbered n (base_of_tracker one) (keys_of_tracker one)) e
-    ∙ content_numbered kind (base_of_tracker one) (keys_of_tracker one)
-around_tracker one _ h e = cc
-
-last_true : (a b : Bool) → (a && b) ≡ true → b ≡ true
-last_true true b h = h
-last_true false b h = cc
-
-pub same_is : (one other : Tracker) → is_around other ≡ true → same_tracker one other ≡ true → one ≡ other
-same_is one other h same =
-    around_tracker one other h (eqb-true (tracker_number one) (tracker_number other) (last_true
-    (same_keys (keys_of_tracker one) (keys_of_tracker other) && nat_eq (base_of_tracker one) (base_of_tracker other))
-    (nat_eq (tracker_number one) (tracker_number other)) same))
+-- What is begun just so has that tracker.
+same_is : (made tracker : Tracker) (ts : Trees) → same_tracker made tracker ≡ true → made ≡ tracker
+same_is made tracker ts e =
+    let kept : kept_so tracker (begun made ts) ≡ Some (begun made ts) = rw e refl in
+    let is = (kept_just_so tracker (begun made ts) (begun made ts) kept).is in
+    cc
 
 -- What is kept.
 
@@ -67,9 +50,26 @@ kept_some_is mode content (whole v) = go (is_entered_in_place mode content) (con
     go false held h e = rw h refl
 kept_some_is mode content (begun made ts) = kept_in_is mode (as_content ContentKind.Some) (begun made ts)
 
+pub inner_kept_is : (table : Table) (s : ℕ) (state : State)
+    → kept_by (beginning_of_inner state.mode (def_of table (content_shape (def_of table s))) (cursor_tree state))
+    (as_content ContentKind.Some) (cursor_tree state) ≡ inner_option_kept table s state state.mode
+inner_kept_is table s state = go state.mode refl
+  where
+    content : Def
+    content = def_of table (content_shape (def_of table s))
+
+    go : (mode : Mode) → state.mode ≡ mode
+        → kept_by (beginning_of_inner mode content (cursor_tree state)) (as_content ContentKind.Some) (cursor_tree state)
+        ≡ inner_option_kept table s state mode
+    go strict e = refl
+    go (deferred start) e =
+        kept_some_is (deferred start) content (cursor_tree state)
+        ∙ ap (λ (m : Mode). kept_option m content (cursor_tree state)) (sym e)
+
 -- How it may be begun.
 
 one_content : (def : Def) (kind : ContentKind) (n : ℕ) → HasContent def kind n → n ≡ 1
+one_content def (ContentKind.Source conversion) n full = full
 one_content (Def.Option t) ContentKind.Some n full = full
 one_content (Def.Result t e) ContentKind.Ok n full = full
 one_content (Def.Result t e) ContentKind.Err n full = full
@@ -86,10 +86,11 @@ one_child (as_content kind) h def n full = one_content def kind n full
 one_child _ h def n full = absurd (cc)
 
 pub points_around : (table : Table) (s : ℕ) (tracker : Tracker) → is_around tracker ≡ true → PointsRightly table s tracker
-points_around table s = of_content (PointsRightly table s) tt tt tt tt
+points_around table s = of_content (PointsRightly table s) tt tt tt tt (λ conversion. tt)
 
 pub may_have_one : (tracker : Tracker) → is_around tracker ≡ true → MayHave tracker 1
-may_have_one = of_content (λ tracker. MayHave tracker 1) (omega arith) (omega arith) (omega arith) (omega arith)
+may_have_one =
+    of_content (λ tracker. MayHave tracker 1) (omega arith) (omega arith) (omega arith) (omega arith) (λ conversion. omega arith)
 
 begin_if : (b : Bool) (tracker : Tracker) (tree : Tree) → (b ≡ true → HasChild tracker 0 tree)
     → MayBeginAround (if b then Beginning.AsItIs else Beginning.Anew) tracker tree
@@ -100,7 +101,7 @@ pub may_begin_so : (tracker : Tracker) → is_around tracker ≡ true → (def :
     → MayBeginAround (beginning_so tracker tree) tracker tree
 may_begin_so tracker h def (begun made ts) full =
     begin_if (same_tracker made tracker) tracker (begun made ts) (λ e.
-    let same : made ≡ tracker = same_is made tracker h e in
+    let same : made ≡ tracker = same_is made tracker ts e in
     let one : count_trees ts ≡ 1
     = one_child tracker h def (count_trees ts) (subst (λ (f : Tracker). IsFullAs def f (count_trees ts)) same full) in
     (same, omega (arith, one)))
@@ -129,6 +130,11 @@ may_begin_some mode content def (whole v) full = go (is_entered_in_place mode co
     go true None h e = rw (h, e) tt
     go false held h e = rw h tt
 may_begin_some mode content def (begun made ts) full = may_begin_in mode (as_content ContentKind.Some) refl def (begun made ts) full
+
+pub may_begin_inner : (mode : Mode) (content def : Def) (tree : Tree) → IsFullTree def tree
+    → MayBeginAround (beginning_of_inner mode content tree) (as_content ContentKind.Some) tree
+may_begin_inner strict content def tree full = tt
+may_begin_inner (deferred start) content def tree full = may_begin_some (deferred start) content def tree full
 
 -- nothing is begun in place but a whole value that has parts for that
 pub whole_some : (beginning : Beginning) (tracker : Tracker) (tree : Tree) → MayBeginAround beginning tracker tree
@@ -175,7 +181,7 @@ content_stays : (table : Table) (s : ℕ) (tracker : Tracker) → is_around trac
     → IsBegunRightly table s tracker (branch t ts) → (def : Def) → enter def t ≡ t
 content_stays table s tracker h t ts right def =
     go t (of_content (λ tracker. IsBegunRightly table s tracker (branch t ts) → IsContent (branch t ts)) (λ rightly. rightly)
-    (λ rightly. rightly) (λ rightly. rightly) (λ rightly. rightly.0) tracker h right)
+    (λ rightly. rightly) (λ rightly. rightly) (λ rightly. rightly.0) (λ conversion rightly. rightly.0) tracker h right)
   where
     go : (t : Tree) → IsContent (branch t ts) → enter def t ≡ t
     go hole touch = absurd touch

@@ -1,18 +1,24 @@
--- What a place lacks is a field or a value, or what it has fails a validator: that it makes no value is never for want of memory.
+-- What a place lacks is a field or a value, or what it has fails a validator or isn't converted: that it makes no value is never for want
+-- of memory.
 use Rattle.std.proofs.Common.{◌≡◌, ℕ, zero, suc, Bool, true, false, if◌then◌else◌, List, [], ◌∷◌, Option, Some, None, IsSome, inl, inr, refl, sym, ◌∙◌, ap}
-use Rattle.fr_partial.specs.Common.{Def, Field, Meanings, ReflectErrorKind, Table, Tracker, Tree, Trees, Val, WhyNot, as_fields, begun, branch, child_as, complete, def_of, entered, field_in, hole, no_trees, option_or, preset_of, strict_column, takes_no_memory, whole}
+use Rattle.fr_partial.specs.Common.{Def, Field, Meanings, ReflectErrorKind, Table, Tracker, Tree, Trees, Val, WhyNot, as_fields, begun, branch, child_as, complete, def_of, entered, field_in, hole, no_trees, option_or, preset_of, strict_column, takes_no_memory, whole, ContentKind, as_content}
 use Rattle.fr_model.specs.Complete.{lack, lack_among, lack_of_hole, lack_of_holes, lack_of_entered, lack_by, unless_there, missing_child, missing_value, hole_takes, failing_child, failing_field, first_failing, invalid_field}
 use Rattle.fr_model.specs.Places.{child_count}
 use Rattle.fr_model.specs.Step.{cause}
 use Rattle.fr_shape.specs.Validators.{passes_at, message}
 use Rattle.fr_shape.specs.declared.shape.ValidatorDef.{ValidatorDef}
 use Rattle.fr_frame.specs.Completing.{IsOfValidator}
+use Rattle.fr_model.specs.Conversions.{refusal_through}
+use Rattle.fr_model.specs.Trackers.{Through}
+use Rattle.fr_shape.specs.Hooks.{Meaning, gives, refuses, unsupported}
 
--- a field or a value is lacking, or a field's value fails a validator
+-- a field or a value is lacking, a field's value fails a validator, or a source isn't converted
 abbrev is_lack : ReflectErrorKind → Bool
 is_lack (ReflectErrorKind.UninitializedField field) = true
 is_lack (ReflectErrorKind.UninitializedValue shape) = true
 is_lack (ReflectErrorKind.ValidationFailed field text) = true
+is_lack (ReflectErrorKind.CustomDeserializationError message source target) = true
+is_lack (ReflectErrorKind.TryFromError source target fault) = true
 is_lack _ = false
 
 abbrev AreLacks : Option ReflectErrorKind → Type 0
@@ -41,6 +47,13 @@ there_missing : (value : Option Val) (kind : ReflectErrorKind) → is_lack kind 
 there_missing (Some v) kind h = nothing_missing
 there_missing None kind h = some_missing kind h
 
+refused_missing : (through : Through) (source target : ℕ) (meaning : Meaning) → AreLacks (refusal_through through source target meaning)
+refused_missing through source target (gives v) = nothing_missing
+refused_missing Through.Proxy source target (refuses message) = some_missing _ refl
+refused_missing Through.Proxy source target unsupported = some_missing _ refl
+refused_missing Through.Wrapper source target (refuses message) = some_missing _ refl
+refused_missing Through.Wrapper source target unsupported = some_missing _ refl
+
 module _ (hooks : Meanings) (table : Table) where
   first_missing : (def : Def) (s : ℕ) (selected : Option ℕ) (i : ℕ) (validators : List ValidatorDef) (v : Val)
       → AreLacks (first_failing hooks def s selected i validators v)
@@ -60,6 +73,9 @@ module _ (hooks : Meanings) (table : Table) where
       by_field (Some field) (Some v) = first_missing (def_of table field.shape.0) s selected i field.validators v
       by_field (Some field) None = nothing_missing
       by_field None value = nothing_missing
+  failing_missing s (as_content (ContentKind.Source conversion)) i (Some v) =
+      refused_missing conversion.through conversion.source s (hooks.convert table conversion.hook s v)
+  failing_missing s (as_content (ContentKind.Source conversion)) i None = nothing_missing
   failing_missing s _ i value = nothing_missing
 
   hole_missing : (s : ℕ) (tracker : Tracker) (i : ℕ) → AreLacks (lack_of_hole hooks table s tracker i)
@@ -115,6 +131,10 @@ module _ (hooks : Meanings) (table : Table) where
       go : (lacking : Option ReflectErrorKind) → lack hooks table s t ≡ lacking → is_lack (cause hooks table s t) ≡ true
       go (Some kind) e = rw e (lack_missing s t kind e)
       go None e = rw e (value_missing s)
+
+  -- so its cause is
+  pub lacks_named : (s : ℕ) (t : Tree) → cause hooks table s t ≡ ReflectErrorKind.OutOfMemory → ⊥
+  lacks_named s t out = let no : true ≡ false = sym (cause_missing s t) ∙ ap is_lack out in cc
 
   -- where a place isn't completed since there is no memory, and fails no validator, it makes a value and takes a template
   pub only_wants : (s : ℕ) (t : Tree) (kind : ReflectErrorKind) → WhyNot hooks table s t kind → kind ≡ ReflectErrorKind.OutOfMemory

@@ -1,4 +1,5 @@
 pub mod AboveLaws
+pub mod AnewLaws
 pub mod BeginLaws
 pub mod BelowLaws
 pub mod BeneathLaws
@@ -8,6 +9,7 @@ pub mod CallLaws
 pub mod ChildLaws
 pub mod ChoiceLaws
 pub mod ContentLaws
+pub mod ConvertLaws
 pub mod DecidingLaws
 pub mod DefaultLaws
 pub mod DynamicLaws
@@ -19,6 +21,7 @@ pub mod FitLaws
 pub mod GoingLaws
 pub mod HandingLaws
 pub mod HereLaws
+pub mod InnerLaws
 pub mod KeepLaws
 pub mod KeptLaws
 pub mod LackLaws
@@ -30,11 +33,13 @@ pub mod ObjectLaws
 pub mod OpeningLaws
 pub mod ParseLaws
 pub mod PlaceLaws
+pub mod ProxyLaws
 pub mod PutLaws
 pub mod ReachLaws
 pub mod RemovedLaws
 pub mod SeenLaws
 pub mod SliceLaws
+pub mod SourcedLaws
 pub mod StartLaws
 pub mod StateLaws
 pub mod StayingLaws

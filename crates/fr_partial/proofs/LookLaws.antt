@@ -1,10 +1,7 @@
 -- What is known of a place by its looks: which of its children may be entered, how many it has, and what of it is kept.
-use Rattle.std.proofs.Common.{◌≡◌, ℕ, zero, suc, List, length, is_some, refl, sym, ◌∙◌, ap, subst}
-use Rattle.fr_partial.specs.Common.{Cell, Def, HasItems, ItemsKind, LooksLike, Mode, Tracker, Tree, Trees, as_items, as_tracker, beginning_in, beginning_of_some, beginning_so, begun, body_of, count_trees, deferred, field_refusal, holes, init_array_refusal, is_begun, kept_slice, named_refusal, own_tree, set_item_refusal, strict}
-use Rattle.fr_frame.specs.declared.places.Tracker.{Tracker as Started}
-use Rattle.fr_frame.specs.declared.places.PartialValue.{PartialValue}
-use Rattle.fr_partial.specs.Looks.{bare}
-use Rattle.fr_partial.proofs.BodyLaws.{count_of}
+use Rattle.std.proofs.Common.{◌≡◌, ℕ, zero, suc, is_some, refl, sym, ◌∙◌, ap, subst}
+use Rattle.fr_partial.specs.Common.{Def, HasItems, ItemsKind, LooksLike, Mode, Tracker, Tree, Trees, as_items, beginning_in, beginning_of_some, beginning_so, begun, count_trees, deferred, field_refusal, holes, init_array_refusal, is_begun, kept_slice, named_refusal, set_item_refusal, strict, is_begun_conversion, beginning_of_inner}
+use Rattle.fr_refusals.specs.Looks.{bare}
 
 -- of a place that is begun it tells the same whatever the children are
 abbrev pub AsBegun : {A : Type 0} → (Tree → A) → Type 0
@@ -42,6 +39,10 @@ pub begun_some : (mode : Mode) (content : Def) → AsBegun (beginning_of_some mo
 begun_some strict content made ts = refl
 begun_some (deferred start) content made ts = refl
 
+pub begun_inner : (mode : Mode) (content : Def) → AsBegun (beginning_of_inner mode content)
+begun_inner strict content made ts = refl
+begun_inner (deferred start) content made ts = refl
+
 begun_slice : (mode : Mode) → AsBegun (λ tree. is_some (kept_slice mode tree))
 begun_slice strict tracker ts = refl
 begun_slice (deferred start) (as_items ItemsKind.Slice) ts = refl
@@ -63,6 +64,9 @@ module _ (one other : Tree) (alike : LooksLike one other) where
   pub so_alike : (tracker : Tracker) → beginning_so tracker one ≡ beginning_so tracker other
   so_alike tracker = alike_by (beginning_so tracker) (λ made ts. refl) one other alike
 
+  pub converts_alike : is_begun_conversion one ≡ is_begun_conversion other
+  converts_alike = alike_by is_begun_conversion (λ tracker ts. refl) one other alike
+
   pub begun_alike : is_begun one ≡ is_begun other
   begun_alike = alike_by is_begun (λ tracker ts. refl) one other alike
 
@@ -72,10 +76,3 @@ module _ (one other : Tree) (alike : LooksLike one other) where
   pub items_alike : (tracker : Tracker) (count : ℕ) → HasItems tracker count one → HasItems tracker count other
   items_alike tracker count has =
       items_there tracker count other (subst (HasItems tracker count) alike (items_told tracker count one has))
-
--- what is begun has as many items as it has children
-pub begun_items : (partial : PartialValue) (made : Started) (children : List Cell) (count : ℕ) → partial ≡ PartialValue.Begun made children
-    → count ≡ length children → HasItems (as_tracker made) count (own_tree (body_of partial))
-begun_items partial made children count is counted =
-    subst (λ (p : PartialValue). HasItems (as_tracker made) count (own_tree (body_of p))) (sym is)
-    (refl, count_of children ∙ sym counted)

@@ -1,12 +1,10 @@
 -- Maps and sets: how they come to be begun, what a key, a value and an item add, and what each is refused for.
-use Rattle.std.proofs.Common.{◌≡◌, ℕ, zero, suc, ◌-◌, ◌%◌, Bool, true, false, List, [], ◌∷◌, length, slice_get, Some, None, refl, ◌∙◌, ap, arith}
-use Rattle.fr_partial.specs.Common.{Cell, Def, EntriesKind, HasChild, HasItems, IsFullAs, Operation, Table, Tracker, Tree, Trees, Val, absent, and_last, as_entries, begun, branch, change_child, child_as, child_tree, count_below, count_trees, def_of, ends_absent, enter, fresh, hole, is_map, is_map_tracker, lacks_value, no_trees, tree_nth, value_refusal}
+use Rattle.std.proofs.Common.{◌≡◌, ℕ, zero, suc, ◌%◌, Bool, true, false, Some, None, refl, ap, arith}
+use Rattle.fr_partial.specs.Common.{Def, EntriesKind, HasChild, HasItems, IsFullAs, Operation, Table, Tracker, Tree, Trees, and_last, as_entries, begun, branch, change_child, child_as, child_tree, count_below, count_trees, def_of, enter, fresh, hole, is_map, is_map_tracker, lacks_value, no_trees, tree_nth, value_refusal}
 use Rattle.fr_model.specs.Collections.{ends_in_hole, is_hole, last_of, with_key}
 use Rattle.fr_model.specs.Places.{is_key}
 use Rattle.fr_model.specs.Step.{enter_child}
-use Rattle.fr_values.specs.Cells.{slot_of_cell, value_of_cell}
 use Rattle.fr_store.specs.StackMoves.{with_key_of}
-use Rattle.fr_partial.specs.Looks.{is_absent}
 use Rattle.fr_partial.proofs.ListLaws.{by_items}
 
 -- A tracker.
@@ -88,32 +86,3 @@ pub odd_value : (i : ℕ) → ¬ (i % 2 ≡ 0) → is_key i ≡ false
 odd_value zero odd = absurd (odd refl)
 odd_value (suc zero) odd = refl
 odd_value (suc (suc i)) odd = odd_value i (λ even. odd (omega arith))
-
--- Whether the last child is there.
-
-pub ends_so : (cells : List Cell) (count : ℕ) → count ≡ length cells → ¬ (count ≡ 0)
-    → (c : Cell) × (slice_get cells (count - 1) ≡ Some c) × (ends_absent cells ≡ is_absent c)
-ends_so [] count is some = absurd (some is)
-ends_so (c ∷ []) count is some =
-    let first : count - 1 ≡ 0 = omega (arith, is) in
-    (c, ap (slice_get (c ∷ [])) first, refl)
-ends_so (c ∷ d ∷ cells) count is some =
-    let rest = ends_so (d ∷ cells) (length (d ∷ cells)) refl (λ none. absurd (omega (arith, none))) in
-    let next : count - 1 ≡ suc (length (d ∷ cells) - 1) = omega (arith, is) in
-    (rest.0, ap (slice_get (c ∷ d ∷ cells)) next ∙ rest.1, rest.2)
-
-pub ends_some : (cells : List Cell) → ends_absent cells ≡ true → suc (length cells - 1) ≡ length cells
-ends_some [] h = cc
-ends_some (c ∷ cells) h = omega arith
-
-pub absent_cell : (c : Cell) → value_of_cell c ≡ None → slot_of_cell c ≡ None → is_absent c ≡ true
-absent_cell absent v s = refl
-absent_cell _ v s = cc
-
-pub given_cell : (c : Cell) (u : Val) → value_of_cell c ≡ Some u → is_absent c ≡ false
-given_cell absent u v = cc
-given_cell _ u v = refl
-
-pub placed_cell : (c : Cell) (n : ℕ) → slot_of_cell c ≡ Some n → is_absent c ≡ false
-placed_cell absent n s = cc
-placed_cell _ n s = refl

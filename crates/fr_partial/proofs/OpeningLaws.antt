@@ -1,6 +1,6 @@
 -- Beginning a list, an array, a map or a set, as a place's definition tells: what it comes to.
-use Rattle.std.proofs.Common.{◌≡◌, ℕ, Bool, true, false, Option, Some, None, IsSome, refl, sym, ◌∙◌, ap, subst}
-use Rattle.fr_partial.specs.Common.{Call, Change, ComesTo, Def, EntriesKind, ItemsKind, MayOpenAs, Move, Operation, Sees, ShapeId, Site, Suits, Table, Tracker, Tree, Val, as_elements, as_entries, as_items, at_shape, begun, cursor_tree, def_of, entered, fits, hole, init_array_refusal, init_list_refusal, init_map_refusal, init_set_refusal, is_begun, is_dynamic, list_of, option_or, parts_as, shape_at, tracker_of, unit, whole}
+use Rattle.std.proofs.Common.{◌≡◌, ℕ, Bool, true, false, Option, Some, None, IsSome, Result, Ok, if◌then◌else◌, refl, sym, ◌∙◌, ap, subst}
+use Rattle.fr_partial.specs.Common.{Call, Change, ComesTo, Def, EntriesKind, ItemsKind, MayOpenAs, Move, Operation, Sees, ShapeId, Site, Suits, Table, Tracker, Tree, Val, as_elements, as_entries, as_items, at_shape, begun, cursor_tree, def_of, entered, fits, hole, init_array_refusal, init_list_refusal, init_map_refusal, init_set_refusal, is_begun, is_dynamic, list_of, option_or, parts_as, shape_at, tracker_of, unit, whole, ContentKind, ReflectErrorKind, State, as_content, change_at, fresh, is_begun_conversion, one_more_call, opened}
 use Rattle.fr_shape.specs.Val.{map_of, set_of}
 use Rattle.fr_model.specs.Collections.{unless_map, unless_set}
 use Rattle.fr_model.specs.Items.{unless_list}
@@ -9,13 +9,15 @@ use Rattle.fr_model.specs.Well.{HasElements}
 use Rattle.fr_frame.specs.declared.places.EntriesKind.{EntriesKind as MadeEntries}
 use Rattle.fr_frame.specs.declared.places.ItemsKind.{ItemsKind as MadeItems}
 use Rattle.fr_frame.specs.declared.places.Tracker.{Tracker as Made}
-use Rattle.fr_partial.specs.declared.dynamic_places.DynamicParts.{DynamicParts}
+use Rattle.fr_refusals.specs.declared.dynamic_places.DynamicParts.{DynamicParts}
 use Rattle.fr_partial.proofs.ContentLaws.{suits_here}
 use Rattle.fr_values.proofs.MadeDynamic.{settled_plain}
 use Rattle.fr_partial.proofs.DecidingLaws.{remains}
 use Rattle.fr_partial.proofs.FitLaws.{fits_apart}
 use Rattle.fr_partial.proofs.SeenLaws.{array_seen, def_seen, dynamic_seen, list_seen, map_seen, set_seen}
+use Rattle.fr_partial.specs.Moving.{opened_here}
 use Rattle.fr_partial.proofs.StateLaws.{IsSiteInOrder}
+use Rattle.fr_partial.proofs.TreeLaws.{alike_here}
 
 -- Which may be opened.
 
@@ -79,10 +81,25 @@ of_set table s e = go (def_of table s) refl e
     go _ is e = cc
 
 opens : (table : Table) (s : ℕ) (tracker : Tracker) (tree : Tree) → (is_begun tree ≡ false → Gathers table s tracker)
-    → Suits table s tree → MayOpenAs (def_of table s) tracker 0 tree
-opens table s tracker entered gathers suits = ((gathers refl).tracker_is, (gathers refl).none_yet)
-opens table s tracker (whole v) gathers suits = ((gathers refl).tracker_is, (gathers refl).parts v suits, fits_apart table s v suits)
-opens table s tracker _ gathers suits = tt
+    → is_begun_conversion tree ≡ false → Suits table s tree → MayOpenAs (def_of table s) tracker 0 tree
+opens table s tracker entered gathers apart suits = ((gathers refl).tracker_is, (gathers refl).none_yet)
+opens table s tracker (whole v) gathers apart suits =
+    ((gathers refl).tracker_is, ((gathers refl).parts v suits, fits_apart table s v suits))
+opens table s tracker (begun made ts) gathers apart suits = λ converts. let no : true ≡ false = sym converts ∙ apart in cc
+opens table s tracker hole gathers apart suits = tt
+
+-- no conversion is begun so
+list_apart : (s : ℕ) (def : Def) (tree : Tree) → None ≡ init_list_refusal s def tree → is_begun_conversion tree ≡ false
+list_apart s def (begun (as_content (ContentKind.Source conversion)) ts) may = cc
+list_apart s def _ may = refl
+
+map_apart : (s : ℕ) (def : Def) (tree : Tree) → None ≡ init_map_refusal s def tree → is_begun_conversion tree ≡ false
+map_apart s def (begun (as_content (ContentKind.Source conversion)) ts) may = cc
+map_apart s def _ may = refl
+
+set_apart : (s : ℕ) (def : Def) (tree : Tree) → None ≡ init_set_refusal s def tree → is_begun_conversion tree ≡ false
+set_apart s def (begun (as_content (ContentKind.Source conversion)) ts) may = cc
+set_apart s def _ may = refl
 
 list_opens : (table : Table) (s : ℕ) (tree : Tree) → is_dynamic (def_of table s) ≡ false
     → None ≡ init_list_refusal s (def_of table s) tree → is_begun tree ≡ false → Gathers table s (as_items ItemsKind.List)
@@ -108,8 +125,8 @@ array_opens : (def : Def) (count : ℕ) (tree : Tree) → HasElements def count 
     → MayOpenAs def as_elements count tree
 array_opens (Def.Array t n) count entered has may = (refl, has)
 array_opens (Def.Array t n) count (whole v) has may = absurd (never_whole _ Operation.InitArrayOfBegun may)
-array_opens def count hole has may = tt
-array_opens def count (begun made ts) has may = tt
+array_opens (Def.Array t n) count (begun made ts) has may = λ converts. (refl, has)
+array_opens (Def.Array t n) count hole has may = tt
 array_opens _ count _ has may = absurd has
 
 -- What it comes to, by what the site sees.
@@ -129,17 +146,37 @@ module _ {site : Site} {table : Table} {shape : ShapeId} {seen : Tree} (at : See
   -- a set, a list or a map, where the state is in order
   module _ (ordered : IsSiteInOrder site) where
     opens_here : (tracker : Tracker) → (is_begun (cursor_tree site.state) ≡ false → Gathers site.shapes (shape_at site) tracker)
+        → is_begun_conversion (cursor_tree site.state) ≡ false
         → MayOpenAs (def_of site.shapes (shape_at site)) tracker 0 (cursor_tree site.state)
-    opens_here tracker gathers =
-        opens site.shapes (shape_at site) tracker (cursor_tree site.state) gathers (suits_here site ordered)
+    opens_here tracker gathers apart =
+        opens site.shapes (shape_at site) tracker (cursor_tree site.state) gathers apart (suits_here site ordered)
+
+    -- where it is no conversion, nothing starts anew
+    opened_so : is_begun_conversion (cursor_tree site.state) ≡ false → ◌≡◌ {A = Result State ReflectErrorKind}
+        (Ok (record site.state {
+          tree = change_at site.state.cursor (opened (def_of site.shapes (shape_at site))) site.state.tree;
+          calls = one_more_call site.state.calls;
+        })) (Ok (record site.state {
+          tree = change_at site.state.cursor (opened_here (def_of site.shapes (shape_at site))) site.state.tree;
+          calls = one_more_call site.state.calls;
+        }))
+    opened_so apart =
+        let def : Def = def_of site.shapes (shape_at site) in
+        ap (λ (t : Tree). Ok (record site.state { tree = t; calls = one_more_call site.state.calls }))
+        (alike_here site.state.cursor (opened def) (opened_here def) site.state.tree
+        (ap (λ (b : Bool). opened def (if b then fresh def else cursor_tree site.state)) (sym apart)))
 
     pub set_begins : None ≡ init_set_refusal shape.0 (def_of table shape.0) seen
         → ComesTo site Call.InitSet (Move.Stay (Change.Open (record { tracker = Made.Items MadeItems.Set; count = 0 })))
     set_begins is =
         let may = is ∙ set_seen at in
-        remains site Call.InitSet _ refl (λ t. refl)
-        (opens_here (as_items ItemsKind.Set) (set_opens site.shapes (shape_at site) (cursor_tree site.state) may), tt, refl)
-        (λ hooks. rw (← may) refl)
+        remains site Call.InitSet _ refl (λ t. refl) (
+          opens_here (as_items ItemsKind.Set) (set_opens site.shapes (shape_at site) (cursor_tree site.state) may)
+              (set_apart (shape_at site) _ (cursor_tree site.state) may),
+          tt,
+          refl,
+        )
+        (λ hooks. rw (← may) (opened_so (set_apart (shape_at site) _ (cursor_tree site.state) may)))
 
     of_dynamic : (known : Bool) → known ≡ is_dynamic (def_of table shape.0)
         → is_dynamic (def_of site.shapes (shape_at site)) ≡ known
@@ -150,18 +187,26 @@ module _ {site : Site} {table : Table} {shape : ShapeId} {seen : Tree} (at : See
     list_begins other is =
         let may = is ∙ list_seen at in
         let plain = of_dynamic false other in
-        remains site Call.InitList _ refl (λ t. refl)
-        (opens_here (as_items ItemsKind.List) (list_opens site.shapes (shape_at site) (cursor_tree site.state) plain may), tt, refl)
-        (λ hooks. rw (← may, plain) refl)
+        remains site Call.InitList _ refl (λ t. refl) (
+          opens_here (as_items ItemsKind.List) (list_opens site.shapes (shape_at site) (cursor_tree site.state) plain may)
+              (list_apart (shape_at site) _ (cursor_tree site.state) may),
+          tt,
+          refl,
+        )
+        (λ hooks. rw (← may, plain) (opened_so (list_apart (shape_at site) _ (cursor_tree site.state) may)))
 
     pub map_begins : false ≡ is_dynamic (def_of table shape.0) → None ≡ init_map_refusal shape.0 (def_of table shape.0) seen
         → ComesTo site Call.InitMap (Move.Stay (Change.Open (record { tracker = Made.Entries (MadeEntries.Map 0); count = 0 })))
     map_begins other is =
         let may = is ∙ map_seen at in
         let plain = of_dynamic false other in
-        remains site Call.InitMap _ refl (λ t. refl)
-        (opens_here (as_entries (EntriesKind.Map 0)) (map_opens site.shapes (shape_at site) (cursor_tree site.state) plain may), tt, refl)
-        (λ hooks. rw (← may, plain) refl)
+        remains site Call.InitMap _ refl (λ t. refl) (
+          opens_here (as_entries (EntriesKind.Map 0)) (map_opens site.shapes (shape_at site) (cursor_tree site.state) plain may)
+              (map_apart (shape_at site) _ (cursor_tree site.state) may),
+          tt,
+          refl,
+        )
+        (λ hooks. rw (← may, plain) (opened_so (map_apart (shape_at site) _ (cursor_tree site.state) may)))
 
     -- a dynamic place gathers elements or entries instead
     pub elements_begin : true ≡ is_dynamic (def_of table shape.0) → None ≡ init_list_refusal shape.0 (def_of table shape.0) seen

@@ -17,10 +17,10 @@ unparsing (ParseInput.Text codes) = Operation.NoParsing
 unparsing (ParseInput.Bytes bytes) = Operation.NoParsingOfBytes
 
 -- a place takes a value of its own shape as it is
-takes_own : (table : Table) (s : ℕ) → takes_shape table s s ≡ true
+pub takes_own : (table : Table) (s : ℕ) → takes_shape table s s ≡ true
 takes_own table s = ap (λ (b : Bool). b || (is_str (def_of table s) && is_owned_string (def_of table s))) (eq-eqb s s refl)
 
-keeps_own : (table : Table) (s : ℕ) → converts_at table s s ≡ false
+pub keeps_own : (table : Table) (s : ℕ) → converts_at table s s ≡ false
 keeps_own table s = ap (λ (b : Bool). is_dynamic (def_of table s) && not b) (eq-eqb s s refl) ∙ none (is_dynamic (def_of table s))
   where
     none : (b : Bool) → (b && false) ≡ false

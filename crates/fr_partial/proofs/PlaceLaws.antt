@@ -14,10 +14,12 @@ use Rattle.fr_store.specs.MoveLaws.{open_reach, top_slot}
 use Rattle.fr_store.specs.Ways.{owner_along}
 use Rattle.fr_store.specs.TurnedLaws.{count_of}
 use Rattle.fr_store.specs.WayLaws.{tree_of_at}
-use Rattle.fr_partial.specs.Looks.{bare, is_absent}
+use Rattle.fr_refusals.specs.Looks.{bare, is_absent}
 use Rattle.fr_partial.specs.Underway.{shape_here, IsReady}
 use Rattle.fr_partial.proofs.FitLaws.{is_there}
 use Rattle.fr_store.specs.ShapeLaws.{along, root_shaped}
+use Rattle.fr_plan.specs.ReachLaws.{NodesAreReached, ReachedHaveNodes}
+use Rattle.fr_store.specs.SourceLaws.{none_sourced}
 
 -- what was put at a place tells what is in the slot, but of a list not what its children are
 abbrev pub Tells : List Slot → ℕ → Entry → Type 0
@@ -119,15 +121,17 @@ module _ {plan : Plan} {slots : List Slot} {stack : List ℕ} (shown : IsOpen pl
       (map_lists_not top.plot (ap is_map here ∙ of_map)) in
       ap lacks_last same ∙ plot_told top.plot ∙ ap lacks_value here
 
-module _ (agree : LookupsAgree) (paths : LookupPathsAgree) (table : Table) (root : ShapeId) (plan : Plan) (slots : List Slot)
-    (stack : List ℕ) (ready : IsReady table root plan slots stack) where
+module _ (agree : LookupsAgree) (paths : LookupPathsAgree) (reached : NodesAreReached) (nodes : ReachedHaveNodes) (table : Table)
+    (root : ShapeId) (plan : Plan) (slots : List Slot) (stack : List ℕ) (ready : IsReady table root plan slots stack) where
   -- the plan's node of the place at which the builder works, and the tree there
   pub here_along : Along table plan (node_along plan plan.root (cursor_in slots stack) (kid_shown (heap_of slots) stack))
       (shape_here table root.0 slots stack) (tree_here slots stack)
   here_along =
       along agree table root
-      plan ready.checked ready.inside ready.planned (cursor_in slots stack) (kid_shown (heap_of slots) stack) plan.root root.0
-      (root_shaped agree table root plan ready.checked ready.inside ready.planned paths) ready.suits (open_reach ready.shown)
+      plan ready.checked ready.inside ready.planned reached nodes (cursor_in slots stack) (kid_shown (heap_of slots) stack) plan.root
+      root.0 None (none_sourced reached nodes table root plan ready.checked ready.inside ready.planned)
+      (root_shaped agree table root plan ready.checked ready.inside ready.planned paths) ready.suits.suits ready.suits.conversions
+      (open_reach ready.shown)
 
   -- so is that of the place that is found there
   module _ {n : ℕ} (last : IsLast stack n) (place : Entry) (is : Tells slots n place) where

@@ -5,7 +5,7 @@ use Rattle.fr_partial.specs.Common.{Call, Change, ComesTo, Def, IsChecked, IsRef
 use Rattle.fr_shape.specs.Fits.{keys_once}
 use Rattle.fr_shape.specs.Val.{Dynamic, dyn, text}
 use Rattle.fr_model.specs.Step.{is_str, is_owned_string, set, set_refusal, puts, puts_default, puts_dynamic}
-use Rattle.fr_partial.specs.SettingDynamic.{copies_at}
+use Rattle.fr_refusals.specs.SettingDynamic.{copies_at}
 use Rattle.fr_values.proofs.MadeDynamic.{settled_plain}
 use Rattle.fr_values.proofs.ConvertedLaws.{converted_once}
 use Rattle.fr_model.proofs.Templates.{IsTemplate, preset_template, template_holds}
@@ -18,7 +18,7 @@ pub admits : {A E : Type 0} {made : Result A E} {a : A} → made ≡ Ok a → Is
 admits {A} {E} {made} {a} e = rw e refl
 
 -- it is put as it is, if it may, where the place doesn't convert it
-set_is : (table : Table) (s given : ℕ) (state : State) (v : Val) → set table s state given v
+pub set_is : (table : Table) (s given : ℕ) (state : State) (v : Val) → set table s state given v
     ≡ (if converts_at table s given then puts_dynamic state given (converted table s (def_of table given) v)
     else unless_refused (set_refusal table s given) (puts state v))
 set_is table s given state v = go (is_dynamic (def_of table s)) (nat_eq s given) refl refl

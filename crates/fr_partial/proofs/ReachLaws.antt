@@ -54,7 +54,7 @@ leads_but start zero place (kid k ks) leads each = (each k leads.0, none_off sta
 leads_but start (suc i) place (kid k ks) leads each = (tt, leads_but start i place ks leads.1 each)
 
 pub tree_leads : (start : ℕ) (place : Place) (k : Kid) → SlotsLead place k → Leads (deferred start) place (tree_of k)
-tree_leads start [] (at slot stored (begun_plot tracker kids)) leads = none_off start (trees_in kids)
+tree_leads start [] (at slot stored (begun_plot tracker kids)) leads = (tt, none_off start (trees_in kids))
 tree_leads start [] gone leads = absurd leads
 tree_leads start [] (there v) leads = absurd leads
 tree_leads start [] _ leads = tt

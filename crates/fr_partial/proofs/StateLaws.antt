@@ -1,8 +1,8 @@
 -- A builder as its open places give it: it is in order and at rest, and stays so from state to state.
-use Rattle.std.proofs.Common.{◌≡◌, ℕ, suc, Bool, true, false, List, [], ◌∷◌, length, Result, Ok, refl, sym, ◌∙◌, ap, subst, arith}
-use Rattle.fr_partial.specs.Common.{AreOpen, Became, Call, Frames, IsInOrder, IsKept, IsMade, IsMeant, IsOpen, IsOpenAt, IsSound, Kid, Meanings, Move, NothingStored, Parts, PathStep, Place, Plan, ReflectErrorKind, RestsAround, Site, Slot, State, StoresNothing, Tree, at, begun_plot, cursor_in, deferred, heap_of, is_root, kid_shown, meant_by, mode_of, one_more_call, path_of, plan_in, site, step, strict}
+use Rattle.std.proofs.Common.{◌≡◌, ℕ, suc, Bool, true, false, List, [], ◌∷◌, length, None, Result, Ok, refl, sym, ◌∙◌, ap, subst, arith}
+use Rattle.fr_partial.specs.Common.{AreOpen, Became, Call, ConversionsSuit, Frames, IsInOrder, IsKept, IsMade, IsMeant, IsOpen, IsOpenAt, IsSound, Kid, Meanings, Move, NothingStored, Parts, PathStep, Place, Plan, ReflectErrorKind, RestsAround, Site, Slot, State, StoresNothing, Tree, at, begun_plot, cursor_in, deferred, heap_of, is_root, kid_shown, meant_by, mode_of, one_more_call, path_of, plan_in, site, step, strict}
 use Rattle.fr_shape.specs.Hooks.{IsLawful}
-use Rattle.fr_model.specs.Laws.{StepKeepsOrder, StepKeepsRest}
+use Rattle.fr_model.specs.Laws.{StepKeepsConversions, StepKeepsOrder, StepKeepsRest}
 use Rattle.fr_model.specs.Paths.{steps_in}
 use Rattle.fr_model.specs.Scripts.{IsFitting}
 use Rattle.fr_model.specs.Tree.{Mode as StateMode}
@@ -10,8 +10,8 @@ use Rattle.fr_frame.specs.Heap.{marked}
 use Rattle.fr_store.specs.Stored.{StoresNoMore}
 use Rattle.fr_store.specs.Ways.{kid_nth, slots_along, Leads}
 use Rattle.fr_store.specs.WayLaws.{leads_at}
-use Rattle.fr_partial.specs.declared.mode.Mode.{Mode}
-use Rattle.fr_partial.specs.Modes.{IsBelowStart}
+use Rattle.fr_refusals.specs.declared.mode.Mode.{Mode}
+use Rattle.fr_refusals.specs.Modes.{IsBelowStart}
 use Rattle.fr_partial.specs.Underway.{state_of}
 
 -- what a builder works with is in order
@@ -36,76 +36,78 @@ state_is {plan} {slots} {stack} {place} {tree} mode calls count is same =
     ∙ ap (λ (p : Place). record { tree = tree; cursor = p; mode = mode; calls = calls }) is.cursor
     ∙ ap (λ (n : ℕ). record { tree = tree; cursor = place; mode = mode; calls = n }) same
 
+-- a well state, but for its tokens
+pub record IsWellThen (parts : Parts) (next : State) : Type 0 where
+  pub in_order : IsInOrder parts.frames.table.now parts.frames.root.0 next
+  pub rests : RestsAround next.cursor next.tree
+  pub conversions : ConversionsSuit parts.frames.table.now parts.frames.root.0 None next.tree
+
 module _ {parts : Parts} (sound : IsSound parts) where
   -- the state itself
   pub order : IsSiteInOrder (site parts)
-  order = record { suits = sound.at_work.ready.suits; leads = sound.leads; began = sound.began }
+  order = record { suits = sound.at_work.ready.suits.suits; leads = sound.leads; began = sound.began }
 
-  -- an admitted command that is fitting keeps the order
-  pub order_after : StepKeepsOrder → (hooks : Meanings) → IsLawful hooks → (next : State) (command : Call) → IsFitting parts.frames.table.now command
-      → step hooks parts.frames.table.now parts.frames.root.0 (site parts).state command ≡ Ok next
-      → IsInOrder parts.frames.table.now parts.frames.root.0 next
-  order_after law hooks lawful next command fitting is =
-      law hooks parts.frames.table.now parts.frames.root.0 (site parts).state next command lawful sound.at_work.ready.checked order
-      fitting is
-
-  -- and what rests around the place
-  pub rest_after : StepKeepsRest → (hooks : Meanings) (next : State) (command : Call) → IsFitting parts.frames.table.now command
-      → step hooks parts.frames.table.now parts.frames.root.0 (site parts).state command ≡ Ok next
-      → RestsAround next.cursor next.tree
-  rest_after law hooks next command fitting is =
-      law hooks parts.frames.table.now parts.frames.root.0 (site parts).state next command sound.at_work.ready.checked order
-      sound.rests fitting is
+  -- an admitted command that is fitting keeps the order, what rests around the place, and conversions that suit their places
+  pub well_after : StepKeepsOrder → StepKeepsRest → StepKeepsConversions → (hooks : Meanings) → IsLawful hooks → (next : State) (command : Call)
+      → IsFitting parts.frames.table.now command
+      → step hooks parts.frames.table.now parts.frames.root.0 (site parts).state command ≡ Ok next → IsWellThen parts next
+  well_after keeps_order keeps_rest keeps_conversions hooks lawful next command fitting is = record {
+    in_order =
+        keeps_order hooks parts.frames.table.now parts.frames.root.0 (site parts).state next command lawful
+        sound.at_work.ready.checked order fitting is;
+    rests =
+        keeps_rest hooks parts.frames.table.now parts.frames.root.0 (site parts).state next command sound.at_work.ready.checked order
+        sound.rests fitting is;
+    conversions =
+        keeps_conversions hooks parts.frames.table.now parts.frames.root.0 (site parts).state next command lawful
+        sound.at_work.ready.checked order sound.at_work.ready.suits.conversions is;
+  }
 
   -- the same table, root and plan with other slots, another stack, store and mode
   pub sound_so : (slots : List Slot) (stack store : List ℕ) (mode : Mode) (path : List PathStep) (calls : ℕ) (state : State)
       → IsOpen (plan_in parts.plan) slots stack → IsKept store slots → StoresNothing (mode_of mode) store
-      → state_of slots stack (mode_of mode) calls ≡ state → IsInOrder parts.frames.table.now parts.frames.root.0 state
-      → RestsAround state.cursor state.tree → path ≡ path_of state
+      → state_of slots stack (mode_of mode) calls ≡ state → IsWellThen parts state → path ≡ path_of state
       → IsSound (record parts {
         frames = record parts.frames { slots = slots; stack = stack; store = store; mode = mode };
         path = path;
         calls = calls;
       })
-  sound_so slots stack store mode path calls state shown kept stores is ordered rests way =
+  sound_so slots stack store mode path calls state shown kept stores is well way =
       let now : State = state_of slots stack (mode_of mode) calls in
-      let reached : IsInOrder parts.frames.table.now parts.frames.root.0 now
-      = subst (λ (s : State). IsInOrder parts.frames.table.now parts.frames.root.0 s) (sym is) ordered in
+      let reached : IsWellThen parts now = subst (IsWellThen parts) (sym is) well in
       record {
         numbered = sound.numbered;
-        served = sound.served;
         at_work = record {
           ready = record {
             inside = sound.at_work.ready.inside;
             checked = sound.at_work.ready.checked;
             planned = sound.at_work.ready.planned;
             shown = shown;
-            suits = reached.suits;
+            suits = record { suits = reached.in_order.suits; conversions = reached.conversions };
           };
           kept = kept;
           stores = stores;
         };
-        leads = reached.leads;
-        began = reached.began;
-        rests = subst (λ (s : State). RestsAround s.cursor s.tree) (sym is) rests;
+        leads = reached.in_order.leads;
+        began = reached.in_order.began;
+        rests = reached.rests;
         path = way ∙ ap path_of (sym is);
       }
 
   -- One more call came to a move, and the open places became so: then it is sound, where that is what the move means.
   module _ {plan : Plan} (same : plan ≡ plan_in parts.plan) {place : Place} {tree : Tree} {frames : Frames}
       (became : Became plan place tree parts.frames frames) {calls : ℕ} (more : calls ≡ one_more_call parts.calls) where
-    pub sound_moved : StepKeepsOrder → StepKeepsRest → (hooks : Meanings) → IsLawful hooks → {move : Move} → IsMeant (site parts) move
+    pub sound_moved : StepKeepsOrder → StepKeepsRest → StepKeepsConversions → (hooks : Meanings) → IsLawful hooks → {move : Move} → IsMeant (site parts) move
         → meant_by hooks (site parts) move ≡ Ok (state_then parts place tree) → (path : List PathStep)
         → path ≡ steps_in place tree → IsSound (record parts { frames = frames; path = path; calls = calls })
-    sound_moved keeps_order keeps_rest hooks lawful {move} meant is path way =
+    sound_moved keeps_order keeps_rest keeps_conversions hooks lawful {move} meant is path way =
         let next : State = state_then parts place tree in
         let steps = meant.1.means hooks ∙ is in
         subst (λ (f : Frames). IsSound (record parts { frames = f; path = path; calls = calls })) (sym became.same)
         (sound_so frames.slots frames.stack frames.store parts.frames.mode path calls next
         (subst (λ (p : Plan). IsOpen p frames.slots frames.stack) same became.stands.open_still) became.kept became.stores
         (state_is (mode_of parts.frames.mode) calls next.calls became.stands more)
-        (order_after keeps_order hooks lawful next meant.0 meant.1.fitting steps)
-        (rest_after keeps_rest hooks next meant.0 meant.1.fitting steps) way)
+        (well_after keeps_order keeps_rest keeps_conversions hooks lawful next meant.0 meant.1.fitting steps) way)
 
     -- and so the contracts see it
     pub site_moved : (path : List PathStep) → site (record parts { frames = frames; path = path; calls = calls })

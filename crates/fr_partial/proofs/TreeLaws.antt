@@ -1,8 +1,9 @@
 -- Changes at one place of a tree, and how often a token stands there.
-use Rattle.std.proofs.Common.{◌≡◌, ℕ, zero, suc, ◌+◌, false, [], ◌∷◌, ◌++◌, refl, sym, ◌∙◌, ap, arith}
-use Rattle.fr_partial.specs.Common.{Leads, Mode, OffBut, Place, Table, Tree, Trees, Val, begun, branch, change_at, change_child, child_as, holes, is_root, is_set, no_trees, shape_in, tree_at, tree_nth, tree_occurs, up, whole}
+use Rattle.std.proofs.Common.{◌≡◌, ℕ, zero, suc, ◌+◌, false, [], ◌∷◌, ◌++◌, refl, sym, ◌∙◌, ap, arith, Option}
+use Rattle.fr_partial.specs.Common.{Leads, Mode, OffBut, Place, Table, Tree, Trees, Val, begun, branch, change_at, change_child, child_as, holes, is_root, is_set, no_trees, shape_in, tree_at, tree_nth, tree_occurs, up, whole, Field, Tracker, def_of, is_begun_conversion}
 use Rattle.fr_model.specs.Collections.{and_item, number_in, with_ended_item, without_nth}
-use Rattle.fr_model.specs.Tree.{change_nth, trees_occur}
+use Rattle.fr_model.specs.Tree.{change_nth, trees_occur, field_along, field_as}
+use Rattle.fr_store.specs.StackMoves.{tracker_in}
 
 nth_same : (i : ℕ) (f : Tree → Tree) → ((t : Tree) → f t ≡ t) → (ts : Trees) → change_nth i f ts ≡ ts
 nth_same i f same no_trees = refl
@@ -126,16 +127,64 @@ shape_stays table s (i ∷ place) f (begun tracker ts) =
     (shape_stays table (child_as table s tracker i) place f (tree_nth i ts)) refl
 shape_stays table s (i ∷ place) f _ = refl
 
--- what stands above is a set as before
+-- nor does the field that it is
+pub field_stays : (table : Table) (s : ℕ) (field : Option Field) (place : Place) (f : Tree → Tree) (t : Tree)
+    → field_along table s field place (change_at place f t) ≡ field_along table s field place t
+field_stays table s field [] f t = refl
+field_stays table s field (i ∷ place) f (begun tracker ts) =
+    nth_kept i (λ (child : Tree). field_along table (child_as table s tracker i) (field_as (def_of table s) tracker i) place child
+    ≡ field_along table (child_as table s tracker i) (field_as (def_of table s) tracker i) place (tree_nth i ts))
+    (λ child. change_at place f child) ts
+    (field_stays table (child_as table s tracker i) (field_as (def_of table s) tracker i) place f (tree_nth i ts)) refl
+field_stays table s field (i ∷ place) f _ = refl
+
+-- what stands above is what it was, as far as its children don't tell
+above_stays : {A : Type 0} (tells : Tree → A) → ((tracker : Tracker) (ts us : Trees) → tells (begun tracker ts) ≡ tells (begun tracker us))
+    → (place : Place) (f : Tree → Tree) (t : Tree) → is_root place ≡ false
+    → tells (tree_at (up place) (change_at place f t)) ≡ tells (tree_at (up place) t)
+above_stays {A} tells formed [] f t below = cc
+above_stays {A} tells formed (i ∷ j ∷ place) f (begun tracker ts) below =
+    nth_kept i (λ (child : Tree). tells (tree_at (up (j ∷ place)) child) ≡ tells (tree_at (up (j ∷ place)) (tree_nth i ts)))
+    (λ child. change_at (j ∷ place) f child) ts (above_stays tells formed (j ∷ place) f (tree_nth i ts) refl) refl
+above_stays {A} tells formed (i ∷ j ∷ place) f _ below = refl
+above_stays {A} tells formed (i ∷ []) f (begun tracker ts) below = formed tracker (change_nth i f ts) ts
+above_stays {A} tells formed (i ∷ []) f _ below = refl
+
+-- as what it is begun
+pub tracker_stays : (place : Place) (f : Tree → Tree) (t : Tree) → is_root place ≡ false
+    → tracker_in (tree_at (up place) (change_at place f t)) ≡ tracker_in (tree_at (up place) t)
+tracker_stays = above_stays tracker_in (λ tracker ts us. refl)
+
+-- a set
 pub set_stays : (place : Place) (f : Tree → Tree) (t : Tree) → is_root place ≡ false
     → is_set (tree_at (up place) (change_at place f t)) ≡ is_set (tree_at (up place) t)
-set_stays [] f t below = cc
-set_stays (i ∷ j ∷ place) f (begun tracker ts) below =
-    nth_kept i (λ (child : Tree). is_set (tree_at (up (j ∷ place)) child) ≡ is_set (tree_at (up (j ∷ place)) (tree_nth i ts)))
-    (λ child. change_at (j ∷ place) f child) ts (set_stays (j ∷ place) f (tree_nth i ts) refl) refl
-set_stays (i ∷ j ∷ place) f _ below = refl
-set_stays (i ∷ []) f (begun tracker ts) below = refl
-set_stays (i ∷ []) f _ below = refl
+set_stays = above_stays is_set (λ tracker ts us. refl)
+
+-- a conversion
+pub source_stays : (place : Place) (f : Tree → Tree) (t : Tree) → is_root place ≡ false
+    → is_begun_conversion (tree_at (up place) (change_at place f t)) ≡ is_begun_conversion (tree_at (up place) t)
+source_stays = above_stays is_begun_conversion (λ tracker ts us. refl)
+
+-- its shape
+pub shape_above_stays : (table : Table) (s : ℕ) (place : Place) (f : Tree → Tree) (t : Tree)
+    → shape_in table s (up place) (change_at place f t) ≡ shape_in table s (up place) t
+shape_above_stays table s [] f t = refl
+shape_above_stays table s (i ∷ []) f t = refl
+shape_above_stays table s (i ∷ j ∷ place) f (begun tracker ts) =
+    nth_kept i (λ (child : Tree). shape_in table (child_as table s tracker i) (up (j ∷ place)) child
+    ≡ shape_in table (child_as table s tracker i) (up (j ∷ place)) (tree_nth i ts)) (λ child. change_at (j ∷ place) f child) ts
+    (shape_above_stays table (child_as table s tracker i) (j ∷ place) f (tree_nth i ts)) refl
+shape_above_stays table s (i ∷ j ∷ place) f _ = refl
+
+-- and a value that is put there is put over whatever became of the child
+pub put_above : (place : Place) (v : Val) (f : Tree → Tree) (t : Tree) → is_root place ≡ false
+    → change_at (up place) (λ old. whole v) (change_at place f t) ≡ change_at (up place) (λ old. whole v) t
+put_above [] v f t below = cc
+put_above (i ∷ []) v f t below = refl
+put_above (i ∷ j ∷ place) v f (begun tracker ts) below =
+    ap (begun tracker) (nth_both i (λ child. change_at (up (j ∷ place)) (λ old. whole v) child) (λ child. change_at (j ∷ place) f child)
+    (λ child. change_at (up (j ∷ place)) (λ old. whole v) child) (λ child. put_above (j ∷ place) v f child refl) ts)
+put_above (i ∷ j ∷ place) v f _ below = refl
 
 -- Tokens.
 

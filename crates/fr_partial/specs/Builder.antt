@@ -84,7 +84,7 @@ TellsPlaceBefore before result = IfErr result (λ error. error.path ≡ path_of 
 abbrev pub IsNotOutOfMemory : {A : Type 0} → Result A ReflectError → Type 0
 IsNotOutOfMemory result = IfErr result (λ error. error.kind ≢ ReflectErrorKind.OutOfMemory)
 
--- a call that means a refusal other than that a value fails a validator is refused so, and not out of memory
+-- a call that means a refusal other than that a value fails a validator, or isn't converted, is refused so, and not out of memory
 abbrev pub RefusesBeforeMemory : {H : Type 0} → Meanings → Builder H → Call → Result (Builder H) ReflectError → Type 0
 RefusesBeforeMemory hooks before call result =
     IsErr (meaning hooks before call) → PassesValidators (meaning hooks before call) → IsNotOutOfMemory result
@@ -148,7 +148,7 @@ pub record IsCall {H : Type 0} (hooks : Meanings) (before : Builder H) (call : C
   -- Released was just what the call drops.
   pub removed : RisesByRemoved hooks before call result old new
   -- A call that means a refusal is refused so, and never out of memory, unless it completes what was left beneath a place, or says which
-  -- validator a value fails, or asks a hook that parses.
+  -- validator a value fails, or asks a hook that parses or one that refuses to convert.
   pub refused :
       completes_late before.state call ≡ false → parses_by_hook before.shapes (here before) call ≡ false
       → RefusesBeforeMemory hooks before call result

@@ -18,32 +18,33 @@ pub use Rattle.fr_model.specs.Items.{closed_slice, init_array_refusal, is_open_s
 pub use Rattle.fr_model.specs.Paths.{path_of, step_as}
 pub use Rattle.fr_model.specs.Places.{Place, content_shape, is_root, strict_column, up}
 pub use Rattle.fr_model.specs.Run.{unsized_refusal}
-pub use Rattle.fr_model.specs.Served.{IsServed}
 pub use Rattle.fr_model.specs.Step.{at_shape, enter, field_default, field_refusal, init_list_refusal, init_map_refusal, init_set_refusal, named_refusal, opened, opened_as, opened_value, operation_failed, parts_as, put_child, step, takes_shape, unless_refused}
-pub use Rattle.fr_model.specs.Trackers.{ContentKind, EntriesKind, ItemsKind, Tracker, as_content, as_elements, as_entries, as_fields, as_items, base_of_tracker, keys_of_tracker}
-pub use Rattle.fr_model.specs.Tree.{Mode, State, Tree, Trees, and_last, begun, branch, change_at, change_child, child_as, child_tree, count_below, count_trees, cursor_tree, deferred, entered, fresh, hole, holes, no_trees, one_more_call, selected, shape_in, strict, tracker_at, tracker_of, tree_at, tree_nth, tree_occurs, whole}
+pub use Rattle.fr_model.specs.Trackers.{ContentKind, EntriesKind, ItemsKind, Tracker, as_content, as_elements, as_entries, as_fields, as_items, base_of_tracker}
+pub use Rattle.fr_model.specs.Tree.{Mode, State, Tree, Trees, and_last, begun, branch, change_at, change_child, child_as, child_tree, count_below, count_trees, cursor_tree, deferred, entered, fresh, hole, holes, is_begun_conversion, no_trees, one_more_call, selected, shape_in, strict, tracker_at, tracker_of, tree_at, tree_nth, tree_occurs, whole, without_source}
 pub use Rattle.fr_model.specs.Variants.{field_found, variant_fields, variant_named, variant_told_by}
-pub use Rattle.fr_model.specs.Well.{IsFullAs, IsInOrder, Leads, OffBut, RestsAround, Suits}
-pub use Rattle.fr_partial.specs.Beginnings.{IsWholeWith, beginning_in, beginning_of_some, beginning_so, begun_by, side_call}
+pub use Rattle.fr_model.specs.Well.{ConversionsSuit, IsFullAs, IsInOrder, Leads, OffBut, RestsAround, Suits}
+pub use Rattle.fr_refusals.specs.Beginnings.{beginning_in, beginning_of_inner, beginning_of_some, beginning_so, begun_by}
+pub use Rattle.fr_partial.specs.Beginnings.{IsWholeWith, side_call}
 pub use Rattle.fr_partial.specs.Builder.{Builder, IsCall, IsNotOutOfMemory, holds}
 pub use Rattle.fr_values.specs.ConversionNeeds.{IsUnconverted, are_octets, copies_to_convert}
-pub use Rattle.fr_partial.specs.DynamicBeginnings.{anew_as, kept_as}
+pub use Rattle.fr_refusals.specs.DynamicBeginnings.{anew_as, kept_as}
 pub use Rattle.fr_partial.specs.Ending.{HoldsItsValue, MayReceive, WhyNot, needs_none_by}
 pub use Rattle.fr_frame.specs.Admitting.{Describes}
 pub use Rattle.fr_partial.specs.WithoutMemory.{takes_no_memory}
 pub use Rattle.fr_partial.specs.HeldPlan.{plan_in}
-pub use Rattle.fr_partial.specs.Looks.{LooksLike, Sees, ends_absent, lacks_last}
+pub use Rattle.fr_refusals.specs.Looks.{LooksLike, ends_absent, lacks_last}
+pub use Rattle.fr_partial.specs.Looks.{Sees}
 pub use Rattle.fr_partial.specs.Making.{IsMade}
-pub use Rattle.fr_partial.specs.Modes.{mode_of}
+pub use Rattle.fr_refusals.specs.Modes.{mode_of}
 pub use Rattle.fr_partial.specs.Moving.{ComesTo, Decides, IsMeant, IsRefused, MayGo, MayStay, NeedsNone, carried, carried_by, changed, meant_by, number_told, onward}
-pub use Rattle.fr_partial.specs.Openings.{HasItems, MayOpenAs, is_begun}
-pub use Rattle.fr_partial.specs.SettingDynamic.{converts_at}
+pub use Rattle.fr_refusals.specs.Openings.{HasItems, MayOpenAs, is_begun}
+pub use Rattle.fr_refusals.specs.SettingDynamic.{converts_at}
 pub use Rattle.fr_partial.specs.Sites.{Site, held_at, shape_at}
 pub use Rattle.fr_partial.specs.Starting.{IsPlanFrom}
 pub use Rattle.fr_partial.specs.Underway.{AreOpen, AreOpened, Became, Changed, IsAtWork, StoresNothing, held_in, top_place, top_shape, top_tree, whole_tree}
 pub use Rattle.fr_partial.specs.Works.{IsSound, site}
 pub use Rattle.fr_frame.specs.declared.admitting.Opening.{Opening}
-pub use Rattle.fr_partial.specs.declared.beginning.Beginning.{Beginning}
+pub use Rattle.fr_refusals.specs.declared.beginning.Beginning.{Beginning}
 pub use Rattle.fr_partial.specs.declared.moves.Change.{Change}
 pub use Rattle.fr_partial.specs.declared.moves.Move.{Move}
 pub use Rattle.fr_partial.specs.declared.moves.Rules.{Rules}
@@ -83,8 +84,8 @@ pub use Rattle.fr_store.specs.Numbers.{IsLast}
 pub use Rattle.fr_store.specs.ShapeLaws.{Along, IsOfShape, PointsRightly}
 pub use Rattle.fr_store.specs.Stands.{IsOpen, kid_shown}
 pub use Rattle.fr_store.specs.Stored.{IsKept, NothingStored}
+pub use Rattle.fr_store.specs.Suited.{IsSuited}
 pub use Rattle.fr_store.specs.TopLaws.{MayHaveIts}
 pub use Rattle.fr_store.specs.Ways.{node_along}
 pub use Rattle.std.specs.Option.{option_map, option_or}
 pub use Rattle.std.specs.Prelude.{IfErr, IfOk, IfSome, IsErr, IsOk, IsSome, IsSomeAnd, List, None, Ok, OnErr, OnOk, Some, [], false, if◌then◌else◌, is_some, length, true, unwrap_or, ℕ, ◌+◌, ◌≡◌, ◌≢◌}
-pub use Rattle.std.specs.Result.{result_err}

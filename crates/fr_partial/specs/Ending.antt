@@ -19,7 +19,7 @@ use Rattle.fr_partial.specs.declared.moves.Rules.{Rules}
 use Rattle.fr_frame.specs.declared.places.Taker.{Taker}
 use Rattle.fr_partial.specs.declared.work.Frames.{Frames}
 use Rattle.fr_partial.specs.WithoutMemory.{takes_no_memory}
-use Rattle.fr_partial.specs.Modes.{is_below_start, IsBelowStart}
+use Rattle.fr_refusals.specs.Modes.{is_below_start, IsBelowStart}
 use Rattle.fr_partial.specs.Underway.{top_place, top_shape, top_tree, whole_tree, Became, Changed}
 use Rattle.fr_store.specs.StackMoves.{AtTop, place_then, tree_then, MayHandOver}
 
@@ -91,9 +91,20 @@ completes_late state Call.End = completes_beneath state
 completes_late state Call.FinishDeferred = is_deferred state.mode
 completes_late state _ = false
 
--- what is meant isn't that a value fails a validator, which takes memory to say
+-- the refusal is that a source isn't converted
+abbrev pub IsOfConversion : ReflectErrorKind → Type 0
+IsOfConversion (ReflectErrorKind.CustomDeserializationError message source target) = Unit {0}
+IsOfConversion (ReflectErrorKind.TryFromError source target fault) = Unit {0}
+IsOfConversion _ = ⊥
+
+-- the refusal is that a value isn't taken: it fails a validator, or is a source's and isn't converted
+abbrev pub IsOfUntaken : ReflectErrorKind → Type 0
+IsOfUntaken kind = IsOfValidator kind ⊎ IsOfConversion kind
+
+-- what is meant isn't that a value fails a validator, which takes memory to say, nor that a source isn't converted, which may take some to
+-- find out
 abbrev pub PassesValidators : {A : Type 0} → (meant : Result A ReflectErrorKind) → Type 0
-PassesValidators meant = IfErr meant (λ kind. IsOfValidator kind → ⊥)
+PassesValidators meant = IfErr meant (λ kind. IsOfUntaken kind → ⊥)
 
 -- what stands at a place of shape s makes no value, and this is the cause
 pub record IsLacking (means : Meanings) (table : Table) (s : ℕ) (t : Tree) (kind : ReflectErrorKind) : Type 0 where

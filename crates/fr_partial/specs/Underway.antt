@@ -5,15 +5,15 @@ use Rattle.fr_shape.specs.Checked.{IsChecked}
 use Rattle.fr_shape.specs.Look.{Table, IsIn}
 use Rattle.fr_model.specs.Places.{Place}
 use Rattle.fr_model.specs.Tree.{change_at, shape_in, Mode, strict, deferred, State, Tree}
-use Rattle.fr_model.specs.Well.{Suits}
 use Rattle.fr_plan.specs.TypePlan.{Plan, IsPlanOf}
 use Rattle.fr_frame.specs.declared.places.Slot.{Slot}
 use Rattle.fr_frame.specs.Heap.{slots_occur}
 use Rattle.fr_store.specs.StackMoves.{cursor_in, tree_here, tree_in_slots, IsOpenAt}
 use Rattle.fr_store.specs.Stands.{IsOpen}
 use Rattle.fr_store.specs.Stored.{IsKept}
+use Rattle.fr_store.specs.Suited.{IsSuited}
 use Rattle.fr_partial.specs.declared.work.Frames.{Frames}
-use Rattle.fr_partial.specs.Modes.{mode_of}
+use Rattle.fr_refusals.specs.Modes.{mode_of}
 
 -- the shape of the place at which it works
 abbrev pub shape_here : Table → (root : ℕ) → List Slot → List ℕ → ℕ
@@ -28,14 +28,14 @@ state_of slots stack mode calls = record {
   calls = calls;
 }
 
--- Slots and stack stand for a tree that suits a root of this shape, and for a place in it, by a plan of that shape over a
--- checked table, in whatever mode.
+-- Slots and stack stand for a tree that suits a root of this shape, with conversions that suit their places, and for a place in it, by a
+-- plan of that shape over a checked table, in whatever mode.
 pub record IsReady (table : Table) (root : ShapeId) (plan : Plan) (slots : List Slot) (stack : List ℕ) : Type 0 where
   pub inside : IsIn table root.0
   pub checked : IsChecked table
   pub planned : IsPlanOf table root plan
   pub shown : IsOpen plan slots stack
-  pub suits : Suits table root.0 (tree_in_slots slots stack)
+  pub suits : IsSuited table root.0 (tree_in_slots slots stack)
 
 -- in strict mode nothing is stored
 abbrev pub StoresNothing : Mode → (store : List ℕ) → Type 0

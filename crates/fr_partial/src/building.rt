@@ -10,14 +10,14 @@ ghost use Rattle.fr_partial.specs.Building.{build_refusal, meant_by_build, IsBui
 ghost use Rattle.fr_partial.specs.Ending.{PassesValidators};
 
 use crate::ending::take_root;
-use crate::mode::Mode;
 use crate::work::{Parts, Work};
 use crate::{Built, ReflectError};
 use fr_model::law_completes;
 use fr_plan::TypePlanCore;
+use fr_refusals::Mode;
 use fr_shape::{
     Hooks, Invariant, Ledger, ReflectErrorKind, ShapeId, ShapeTable, Value, keeps_invariants,
-    law_invariants, release,
+    law_hooks, law_invariants, release,
 };
 
 /// Whether a value of the root keeps its invariants. Nothing is asked where the root reaches none.
@@ -98,6 +98,7 @@ impl<'t> Work<'t> {
             → PassesValidators (meant_by_build (H.means hooks.now) self.entry)
             → IfErr result (λ error. error.kind ≢ Kind.OutOfMemory) }
     {
+        law_hooks::<H>();
         law_completes();
         let Work { parts } = self;
         let Parts {

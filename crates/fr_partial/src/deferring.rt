@@ -3,10 +3,10 @@ ghost use Rattle.std.specs.Prelude.{◌≡◌};
 ghost use Rattle.fr_partial.specs.Common.{Conserved, IfErr, IsMade, IsMeant, IsSound, Ok, OnErr, OnOk, Room, deferred, held_in, length, meant_by, one_more_call, site};
 ghost use Rattle.fr_partial.specs.declared.moves.Move.{Move as Moves};
 
-use crate::mode::Mode;
 use crate::work::Parts;
 use fr_model::{law_paths, law_well};
 use fr_plan::law_plan_lookups;
+use fr_refusals::Mode;
 use fr_shape::{Hooks, Ledger, ReflectErrorKind, law_hooks};
 
 /// From now on places that are left stay as they are. Takes no memory, and is never refused.

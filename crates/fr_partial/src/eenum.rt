@@ -1,10 +1,11 @@
 //! `select_nth_variant`, `select_variant_named` and `select_variant`: the variant of an enum.
 ghost use Rattle.fr_partial.specs.Common.{Call, Decides, IsCall, Room, holds};
 
-use crate::choosing::{nth_variant, select};
+use crate::choosing::select;
 use crate::moves::Move;
 use crate::work::Work;
 use crate::{Partial, ReflectError};
+use fr_refusals::nth_variant;
 use fr_shape::{Hooks, Ledger, Operation, ReflectErrorKind};
 
 impl<'t> Work<'t> {

@@ -5,7 +5,7 @@ ghost use Rattle.fr_shape.specs.declared.error.ReflectErrorKind.{ReflectErrorKin
 ghost use Rattle.fr_model.specs.Step.{leaves};
 ghost use Rattle.fr_partial.specs.declared.moves.Move.{Move as Moves};
 ghost use Rattle.fr_partial.specs.Ending.{IsCompleted, IsHandedOver, IsPathThen, IsUncompleted, PassesValidators, RulesServe};
-ghost use Rattle.fr_partial.specs.Modes.{IsBelowStart};
+ghost use Rattle.fr_refusals.specs.Modes.{IsBelowStart};
 ghost use Rattle.fr_partial.specs.Moving.{is_late_by};
 
 use crate::kept_path::step_back;
@@ -14,7 +14,7 @@ use crate::work::{Frames, Parts};
 use fr_frame::Taker;
 use fr_model::{law_paths, law_well};
 use fr_path::Path;
-use fr_plan::{TypePlanCore, law_plan_lookups};
+use fr_plan::{TypePlanCore, law_plan_lookups, law_plan_reach};
 use fr_shape::{Hooks, Ledger, OutOfMemory, ReflectErrorKind, Value, law_hooks};
 
 /// Goes up from the place at which the builder works, which is left as it is.
@@ -57,6 +57,7 @@ fn complete_strictly<H: Hooks>(
     ensures tokens { SameTokens frames.old.slots frames.new.slots }
 {
     law_plan_lookups();
+    law_plan_reach();
     let Some(top) = frames.stack.top() else {
         unreachable!()
     };
@@ -81,6 +82,7 @@ fn complete_wholly<H: Hooks>(
     ensures tokens { Conserved (held_in frames.old) ledger.old (held_in frames.new) ledger.new }
 {
     law_plan_lookups();
+    law_plan_reach();
     let table = frames.table;
     let (slots, stack) = (&mut frames.slots, &frames.stack);
     let store = &mut frames.store;
@@ -139,7 +141,7 @@ fn hand_over(frames: &mut Frames, taker: Taker, ledger: &mut Ledger) -> Result<(
 /// Completes the place on top by these rules, all that was left beneath it before where they are
 /// those of deferred mode, and hands its value over. Where that can't be, what was put is still
 /// there, but for what is released.
-fn complete_here<H: Hooks>(
+pub fn complete_here<H: Hooks>(
     plan: &TypePlanCore,
     hooks: &H,
     frames: &mut Frames,

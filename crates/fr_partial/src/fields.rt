@@ -2,7 +2,7 @@
 //! works; and `set_nth_field_to_default`.
 ghost use Rattle.fr_partial.specs.Common.{Call, Decides, IsCall, Room, holds};
 
-use crate::moves::{Change, Move, Way};
+use crate::moves::{Change, Move, child_way};
 use crate::set::copy_template;
 use crate::work::Work;
 use crate::{Partial, ReflectError};
@@ -20,7 +20,10 @@ impl<'t> Work<'t> {
             return Err(ReflectErrorKind::OperationFailed { shape, operation });
         }
         match self.field_named(shape, selected(partial), name) {
-            Some(i) => Ok(Move::Go(Way::Child(i, opening_at(table, shape, partial, i)))),
+            Some(i) => {
+                let opening = opening_at(table, shape, partial, i);
+                Ok(Move::Go(child_way(partial, i, opening)))
+            }
             None => Err(ReflectErrorKind::FieldError { shape }),
         }
     }
@@ -32,7 +35,7 @@ impl<'t> Work<'t> {
     {
         let (table, shape, partial) = self.place();
         match nth_opening(table, shape, partial, idx) {
-            Ok(opening) => Ok(Move::Go(Way::Child(idx, opening))),
+            Ok(opening) => Ok(Move::Go(child_way(partial, idx, opening))),
             Err(operation) => Err(ReflectErrorKind::OperationFailed { shape, operation }),
         }
     }
@@ -57,8 +60,9 @@ impl<'t> Work<'t> {
 
 impl<'t, H: Hooks> Partial<'t, H> {
     /// Enters the first field that is declared under this name, of a struct or of the variant that
-    /// is selected. One that holds something already keeps it. Where no field has the name, or the
-    /// place has no such fields, that is the refusal, and never out of memory.
+    /// is selected. One that holds something already keeps it; a place that is begun as a conversion
+    /// starts anew first. Where no field has the name, or the place has no such fields, that is the
+    /// refusal, and never out of memory.
     pub fn begin_field(
         self,
         field_name: &str,
@@ -73,7 +77,8 @@ impl<'t, H: Hooks> Partial<'t, H> {
     }
 
     /// Enters the field or element of this number, counted from 0. One that holds something already
-    /// keeps it. Where it can't be entered, that is the refusal, and never out of memory.
+    /// keeps it; a place that is begun as a conversion starts anew first. Where it can't be entered,
+    /// that is the refusal, and never out of memory.
     pub fn begin_nth_field(
         self,
         idx: usize,
@@ -90,8 +95,8 @@ impl<'t, H: Hooks> Partial<'t, H> {
     /// Sets the field of this number, counted from 0, of a struct or of the variant that is
     /// selected, to its default: a copy of its own template where it is marked with one, else of
     /// its shape's default. What was put at the field is released, and the builder stays where it
-    /// is; it is one call. Where the field has no default, or there is no such field, that is the
-    /// refusal, and never out of memory.
+    /// is; it is one call. A place that is begun as a conversion starts anew first. Where the field
+    /// has no default, or there is no such field, that is the refusal, and never out of memory.
     #[inline(never)]
     pub fn set_nth_field_to_default(
         self,

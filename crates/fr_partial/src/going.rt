@@ -4,7 +4,7 @@ ghost use Rattle.std.specs.Prelude.{◌<◌, ◌^◌, ◌∷◌, ◌++◌, ◌�
 ghost use Rattle.fr_frame.specs.Kids.{entry_node_found, slice_item_found};
 ghost use Rattle.fr_model.specs.Places.{is_key};
 ghost use Rattle.fr_partial.specs.declared.moves.Move.{Move as Moves};
-ghost use Rattle.fr_partial.specs.Moving.{gone};
+ghost use Rattle.fr_partial.specs.Moving.{gone, IsSourcedOn};
 ghost use Rattle.fr_model.specs.Entering.{entered_on, number_on};
 
 use crate::beginning::begin_so;
@@ -12,7 +12,8 @@ use crate::moves::Way;
 use crate::work::{Frames, Parts};
 use fr_frame::{ChildWay, ContentKind, EntriesKind, ItemsKind, Tracker};
 use fr_model::{law_paths, law_well};
-use fr_plan::{NodeId, TypePlanCore, law_plan_lookups};
+use fr_plan::{NodeId, TypePlanCore, law_plan_lookups, law_plan_reach};
+use fr_refusals::Beginning;
 use fr_shape::{Ledger, OutOfMemory, ReflectErrorKind};
 
 /// The plan's node of the place on top of the stack.
@@ -61,6 +62,7 @@ fn child_node(plan: &TypePlanCore, node: NodeId, tracker: &Tracker, i: usize) ->
         Tracker::Content(ContentKind::Ok) => plan.result_nodes_id(node).map(|sides| sides.0),
         Tracker::Content(ContentKind::Err) => plan.result_nodes_id(node).map(|sides| sides.1),
         Tracker::Content(ContentKind::Pointer) => plan.pointer_inner_node_id(node),
+        Tracker::Content(ContentKind::Source(conversion)) => plan.own_node_id(conversion.source),
         Tracker::Items(ItemsKind::Slice | ItemsKind::ClosedSlice) => slice_item(plan, node),
         Tracker::Items(ItemsKind::Set) => plan.set_item_node_id(node),
         Tracker::Entries(EntriesKind::Map(_)) => entry_node(plan, node, i),
@@ -83,6 +85,7 @@ pub fn enter(
 ) -> Result<(), OutOfMemory>
     requires at_work { IsAtWork plan.now frames.old }
     requires may { MayGo frames.old.table.now (top_shape frames.old) (top_tree frames.old) way }
+    requires sourced { IsSourcedOn plan.now way }
     requires small { number_told way < 2 ^ 32 }
     requires room { Room (held_in frames.old) ledger.old }
     ensures entered { OnOk result (Became plan.now
@@ -93,6 +96,7 @@ pub fn enter(
     ensures tokens { Conserved (held_in frames.old) ledger.old (held_in frames.new) ledger.new }
 {
     law_plan_lookups();
+    law_plan_reach();
     let above = node_here(frames);
     let table = frames.table;
     let (slots, stack, store) = (&mut frames.slots, &mut frames.stack, &mut frames.store);
@@ -101,6 +105,15 @@ pub fn enter(
             let node = child_node(plan, above, &opening.tracker, i);
             stack.begin(slots, opening.tracker, opening.count)?;
             stack.enter(slots, store, table, plan, node, ChildWay::Child(i as u32))
+        }
+        Way::Anew(i, opening) => {
+            let node = child_node(plan, above, &opening.tracker, i);
+            let (tracker, count) = (opening.tracker, opening.count);
+            begin_so(frames, Beginning::Anew, tracker, count, ledger)?;
+            let (slots, store) = (&mut frames.slots, &mut frames.store);
+            frames
+                .stack
+                .enter(slots, store, table, plan, node, ChildWay::Child(i as u32))
         }
         Way::Item(opening) => {
             let node = child_node(plan, above, &opening.tracker, opening.count);
@@ -170,6 +183,8 @@ fn go_on(parts: &mut Parts, way: Way, ledger: &mut Ledger) -> Result<(), OutOfMe
         (held_in parts.new.frames) ledger.new }
 {
     law_paths();
+    law_plan_lookups();
+    law_plan_reach();
     law_well();
     let step = way.step(parts.alloc)?;
     enter(parts.plan.core(), &mut parts.frames, way, ledger)?;

@@ -5,6 +5,7 @@ ghost use Rattle.fr_shape.specs.declared.error.ReflectErrorKind.{ReflectErrorKin
 ghost use Rattle.fr_partial.specs.Ending.{PassesValidators};
 ghost use Rattle.fr_partial.specs.Moving.{is_late, needs_message_alone, needs_none};
 
+use crate::converting::convert_up;
 use crate::deferring::{defer, finish};
 use crate::ending::{complete, leave};
 use crate::going::go;
@@ -46,6 +47,7 @@ pub fn make<H: Hooks>(
         Move::Stay(change) => stay(parts, change, ledger),
         Move::Leave => leave(parts),
         Move::Complete(rules, taker) => complete(parts, hooks, rules, taker, ledger),
+        Move::Convert => convert_up(parts, hooks, ledger),
         Move::Defer => defer(parts),
         Move::Finish => finish(parts, hooks, ledger),
     }

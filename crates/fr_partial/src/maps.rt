@@ -1,123 +1,13 @@
 //! `init_map`, `begin_key` and `begin_value`: a map, entry by entry.
-ghost use Rattle.fr_partial.specs.Common.{Call, Decides, HasItems, IfOk, IfSome, IsCall, IsNotOutOfMemory, NeedsNone, Room, as_tracker, body_of, cursor_tree, def_of, ends_absent, holds, init_map_refusal, is_begun, is_map_tracker, lacks_last, own_tree, result_err, true};
-ghost use Rattle.std.specs.Prelude.{suc, ◌≡◌, ◌≢◌};
-ghost use Rattle.fr_shape.specs.declared.error.ReflectErrorKind.{ReflectErrorKind as Kind};
-ghost use Rattle.fr_model.specs.Collections.{unless_map};
-ghost use Rattle.fr_partial.specs.KeyRefusals.{key_refusal_by, value_refusal_by};
+ghost use Rattle.fr_partial.specs.Common.{Call, Decides, IsCall, IsNotOutOfMemory, NeedsNone, Room, cursor_tree, holds, is_begun, true};
+ghost use Rattle.std.specs.Prelude.{◌≡◌};
 
-use crate::dynamic_places::{DynamicParts, is_dynamic};
-use crate::lists::{at_shape, unexpected};
 use crate::moves::{Change, Move, Way};
 use crate::work::Work;
 use crate::{Partial, ReflectError};
-use fr_frame::{Children, EntriesKind, ItemsKind, Opening, PartialValue, Tracker};
-use fr_shape::{
-    Def, Hooks, InitCall, Ledger, Operation, ReflectErrorKind, Shape, ShapeId, ShapeTable,
-};
-
-/// Nothing, where the shape is a map or a dynamic one; else this refusal.
-fn unless_map(table: &ShapeTable, shape: ShapeId, refusal: Operation) -> Option<Operation>
-    ensures { result ≡ unless_map refusal (def_of table.now shape.0) }
-{
-    match table.get(shape) {
-        Some(
-            Shape {
-                def: Def::Map(_, _) | Def::Dynamic,
-                ..
-            },
-        ) => None,
-        _ => Some(refusal),
-    }
-}
-
-/// Why no map can be begun at a place of this shape at which this stands, if none can.
-fn init_map_refusal(
-    table: &ShapeTable,
-    shape: ShapeId,
-    partial: &PartialValue,
-) -> Option<ReflectErrorKind>
-    ensures refused { result
-        ≡ init_map_refusal shape.0 (def_of table.now shape.0) (own_tree (body_of partial.now)) }
-    ensures named { IfSome result (λ kind. kind ≢ Kind.OutOfMemory) }
-{
-    match partial {
-        PartialValue::Begun(Tracker::Entries(_) | Tracker::Items(ItemsKind::Array), _) => None,
-        PartialValue::Begun(tracker, _) => Some(unexpected(InitCall::Map, tracker)),
-        PartialValue::Entered | PartialValue::Whole(_) => at_shape(
-            shape,
-            unless_map(table, shape, Operation::InitMapOfOther),
-        ),
-    }
-}
-
-/// Whether the last of these children isn't there.
-fn lacks_last(children: &Children) -> bool
-    ensures { result ≡ ends_absent children.now }
-{
-    let count = children.len();
-    if count == 0 {
-        return false;
-    }
-    let last = count - 1;
-    match (children.value(last), children.slot(last)) {
-        (None, None) => true,
-        (Some(_), _) | (None, Some(_)) => false,
-    }
-}
-
-/// As what a begun map is entered at one more key, and how many children it has, or why none can be
-/// begun.
-#[tactic(auto, using(crate::proofs::LookLaws::begun_items))]
-#[inline]
-fn key_opening(partial: &PartialValue) -> Result<Opening, Operation>
-    ensures items { IfOk result (λ opening.
-        HasItems (as_tracker opening.tracker) opening.count (own_tree (body_of partial.now))) }
-    ensures map { IfOk result (λ opening. is_map_tracker (as_tracker opening.tracker) ≡ true) }
-    ensures refused { result_err result
-        ≡ key_refusal_by (own_tree (body_of partial.now)) (lacks_last (body_of partial.now)) }
-{
-    let PartialValue::Begun(made, children) = partial else {
-        return Err(Operation::KeyBeforeInitMap);
-    };
-    let count = children.len();
-    match made {
-        Tracker::Entries(EntriesKind::Map(_)) if lacks_last(children) => Err(
-            Operation::KeyBeforeValue,
-        ),
-        Tracker::Entries(EntriesKind::Map(base)) => {
-            let tracker = Tracker::Entries(EntriesKind::Map(*base));
-            Ok(Opening { tracker, count })
-        }
-        _ => Err(Operation::KeyBeforeInitMap),
-    }
-}
-
-/// As what a begun map is entered at the value that its last entry lacks, and the number of that
-/// child, or why it can't be begun.
-#[inline]
-fn value_opening(partial: &PartialValue) -> Result<Opening, Operation>
-    ensures items { IfOk result (λ opening.
-        HasItems (as_tracker opening.tracker) (suc opening.count) (own_tree
-        (body_of partial.now))) }
-    ensures map { IfOk result (λ opening. is_map_tracker (as_tracker opening.tracker) ≡ true) }
-    ensures refused { result_err result
-        ≡ value_refusal_by (own_tree (body_of partial.now)) (lacks_last (body_of partial.now)) }
-{
-    let PartialValue::Begun(made, children) = partial else {
-        return Err(Operation::ValueBeforeKey);
-    };
-    let Tracker::Entries(kind) = made else {
-        return Err(Operation::ValueBeforeKey);
-    };
-    match kind {
-        EntriesKind::Map(base) if lacks_last(children) => {
-            let tracker = Tracker::Entries(EntriesKind::Map(*base));
-            let count = children.len() - 1;
-            Ok(Opening { tracker, count })
-        }
-        EntriesKind::Map(_) | EntriesKind::Object(_) => Err(Operation::ValueBeforeKey),
-    }
-}
+use fr_frame::{EntriesKind, Opening, Tracker};
+use fr_refusals::{DynamicParts, init_map_refusal, is_dynamic, key_opening, value_opening};
+use fr_shape::{Hooks, Ledger, ReflectErrorKind};
 
 impl<'t> Work<'t> {
     /// A map is begun, or a dynamic object.

@@ -1,18 +1,17 @@
 //! `end`, `build` and `abandon`, and deferred mode: `begin_deferred` and `finish_deferred`.
 ghost use Rattle.std.specs.Prelude.{◌≡◌};
 ghost use Rattle.fr_partial.specs.Common.{Call, Decides, IsCall, IsNotOutOfMemory, NeedsNone, None, Room, RoseBy, Some, cursor_tree, false, holds, is_open_slice, is_root, length, strict, takes_no_memory, true};
-ghost use Rattle.fr_model.specs.Step.{begin_deferred};
+ghost use Rattle.fr_model.specs.Step.{begin_deferred, is_source_place};
 ghost use Rattle.fr_partial.specs.Builder.{meaning, meaning_of_build, IsBuild};
 ghost use Rattle.fr_partial.specs.Ending.{PassesValidators};
 ghost use Rattle.fr_partial.specs.Moving.{NeedsMessageAlone};
 
-use crate::mode::Mode;
 use crate::moves::{Change, Move, Rules};
-use crate::slices::is_open_slice;
 use crate::work::Work;
 use crate::{Built, Partial, ReflectError};
 use fr_frame::Taker;
 use fr_model::law_removed;
+use fr_refusals::{Mode, is_open_slice};
 use fr_shape::{Hooks, Invariant, Ledger, ReflectErrorKind};
 
 impl<'t> Work<'t> {
@@ -21,6 +20,7 @@ impl<'t> Work<'t> {
     fn end_move<'k>(&self) -> Result<Move<'k>, ReflectErrorKind>
         ensures decides { Decides self.now Call.End result }
         ensures memory { self.now.state.mode ≡ strict
+            → is_source_place self.now.state ≡ false
             → takes_no_memory (cursor_tree self.now.state) ≡ true
             → NeedsMessageAlone (cursor_tree self.now.state) result }
     {
@@ -47,12 +47,14 @@ impl<'t> Work<'t> {
         requires below { is_root self.now.state.cursor ≡ false }
         ensures decides { Decides self.now Call.End result }
         ensures memory { self.now.state.mode ≡ strict
+            → is_source_place self.now.state ≡ false
             → takes_no_memory (cursor_tree self.now.state) ≡ true
             → NeedsMessageAlone (cursor_tree self.now.state) result }
     {
         let item = self.is_set_item();
         match self.mode() {
             Mode::Strict if item => Ok(Move::Complete(Rules::Strict, Taker::Set)),
+            Mode::Strict if self.is_source() => Ok(Move::Convert),
             Mode::Strict => Ok(Move::Complete(Rules::Strict, Taker::Above)),
             Mode::Deferred(start) if depth <= start => {
                 let invariant = Invariant::EndAtStart;
@@ -104,13 +106,16 @@ impl<'t, H: Hooks> Partial<'t, H> {
     /// in either mode, and in deferred mode with all that lies beneath it: its value comes to the
     /// set, which leaves it out where it has one that is the same. An element or an entry of a
     /// dynamic value is completed so too. At either, in deferred mode, it may be out of memory
-    /// before it has met the first place that fails. At an open pointer to a slice the builder
-    /// stays instead: the pointer becomes whole in strict mode, and in deferred mode it is closed.
+    /// before it has met the first place that fails. In strict mode the source of a conversion is
+    /// completed, its hook makes a value of that, and the place above is whole with this; a hook may
+    /// refuse, or want memory. At an open pointer to a slice the builder stays instead: the pointer
+    /// becomes whole in strict mode, and in deferred mode it is closed.
     pub fn end(self, ledger: &mut Ledger) -> Result<Partial<'t, H>, ReflectError>
         requires room { Room (holds self) ledger.old }
         ensures call { IsCall (H.means self.entry.hooks) self.entry Call.End result
             ledger.old ledger.new }
         ensures memory { self.entry.state.mode ≡ strict
+            → is_source_place self.entry.state ≡ false
             → takes_no_memory (cursor_tree self.entry.state) ≡ true
             → PassesValidators (meaning (H.means self.entry.hooks) self.entry Call.End)
             → IsNotOutOfMemory result }

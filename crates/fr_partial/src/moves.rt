@@ -1,23 +1,24 @@
 //! What a call comes to, once it is decided.
 ghost use Rattle.fr_partial.specs.Common.{IfOk, OnOk, as_tracker, number_told, step_as};
 ghost use Rattle.std.specs.Prelude.{◌<◌, ◌^◌, ◌≡◌};
-ghost use Rattle.fr_partial.specs.Moving.{step_told};
+ghost use Rattle.fr_frame.specs.Bodies.{own_tree};
+ghost use Rattle.fr_frame.specs.Heap.{body_of};
+ghost use Rattle.fr_partial.specs.Moving.{child_way, step_told};
 
-use crate::beginning::Beginning;
-use crate::choosing::Chosen;
-use crate::dynamic_places::DynamicParts;
-use fr_frame::{Opening, Taker, Tracker};
+use fr_frame::{Opening, PartialValue, Taker, Tracker};
 use fr_path::PathStep;
+use fr_refusals::{Beginning, Chosen, DynamicParts, is_conversion};
 use fr_shape::{OutOfMemory, Text, Value};
 use std::alloc::Global;
 
 /// A child to go on to, and as what the place is begun for it: a field or an element, entered as it
-/// is; a new item behind the others; the key of a new entry of a map; the value that its last entry
-/// lacks; the entry of a key of a dynamic object; the content, a side or what is pointed to, of a
-/// place that comes to be begun so.
+/// is; one of a place that starts anew first; a new item behind the others; the key of a new entry
+/// of a map; the value that its last entry lacks; the entry of a key of a dynamic object; the
+/// content, a side, what is pointed to, or the source, of a place that comes to be begun so.
 #[derive(Drop)]
 pub enum Way<'k> {
     Child(usize, Opening),
+    Anew(usize, Opening),
     Item(Opening),
     Key(Opening),
     Value(Opening),
@@ -25,12 +26,14 @@ pub enum Way<'k> {
     Content(Tracker, Beginning),
 }
 
-/// What comes of the place at which the builder works, which stays there: a value takes its place;
-/// a value without tokens takes the place of a child; it is begun as its definition tells; as a
-/// variant of an enum; with such parts of a dynamic value; as a pointer to a slice that is open for
-/// items, or closed.
+/// What comes of the place at which the builder works, which stays there: nothing; a value takes
+/// its place; a value without tokens takes the place of a child; it is begun as its definition
+/// tells; as a variant of an enum; with such parts of a dynamic value; as a pointer to a slice that
+/// is open for items, or closed. A conversion starts anew for a child, and where it is begun as its
+/// definition tells.
 #[derive(Drop)]
 pub enum Change {
+    Nothing,
     Put(Value),
     PutChild(usize, Opening, Value),
     Open(Opening),
@@ -59,6 +62,9 @@ pub enum Move<'k> {
     Leave,
     /// The place is completed, and its value handed over.
     Complete(Rules, Taker),
+    /// The place, a source, is completed by the rules of strict mode, and its value converted: that
+    /// goes up.
+    Convert,
     /// Into deferred mode.
     Defer,
     /// All that was left is completed, and strict mode is back.
@@ -73,13 +79,25 @@ impl<'k> Way<'k> {
         ensures small { OnOk result (number_told self.now < 2 ^ 32) }
     {
         match self {
-            Way::Child(i, opening) => step_of(alloc, &opening.tracker, *i),
+            Way::Child(i, opening) | Way::Anew(i, opening) => step_of(alloc, &opening.tracker, *i),
             Way::Item(opening) | Way::Key(opening) | Way::Value(opening) => {
                 step_of(alloc, &opening.tracker, opening.count)
             }
             Way::Entry(key) => Ok(PathStep::Entry(Text::new(alloc, key)?)),
             Way::Content(tracker, _) => tracker.step(alloc, 0),
         }
+    }
+}
+
+/// The way to field or element `i` of a place at which this stands: a conversion starts anew first.
+#[inline]
+pub fn child_way<'k>(partial: &PartialValue, i: usize, opening: Opening) -> Way<'k>
+    ensures way { result ≡ child_way (own_tree (body_of partial.now)) i opening }
+{
+    if is_conversion(partial) {
+        Way::Anew(i, opening)
+    } else {
+        Way::Child(i, opening)
     }
 }
 

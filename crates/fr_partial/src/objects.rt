@@ -1,25 +1,11 @@
 //! `begin_object_entry`: a dynamic value that is an object, entry by entry.
-ghost use Rattle.std.specs.Prelude.{◌≡◌};
-ghost use Rattle.fr_partial.specs.Common.{Call, Decides, IsCall, Room, body_of, def_of, entry_refusal, holds, own_tree};
+ghost use Rattle.fr_partial.specs.Common.{Call, Decides, IsCall, Room, holds};
 
-use crate::dynamic_places::is_dynamic;
 use crate::moves::{Move, Way};
 use crate::work::Work;
 use crate::{Partial, ReflectError};
-use fr_frame::{EntriesKind, PartialValue, Tracker};
-use fr_shape::{Hooks, Ledger, Operation, ReflectErrorKind, ShapeId, ShapeTable};
-
-/// Why no entry can be begun at a place of this shape at which this stands, if none can.
-fn entry_refusal(table: &ShapeTable, shape: ShapeId, partial: &PartialValue) -> Option<Operation>
-    ensures { result
-        ≡ entry_refusal (def_of table.now shape.0) (own_tree (body_of partial.now)) }
-{
-    match (is_dynamic(table, shape), partial) {
-        (true, PartialValue::Begun(Tracker::Entries(EntriesKind::Object(_)), _)) => None,
-        (true, _) => Some(Operation::EntryBeforeInitMap),
-        (false, _) => Some(Operation::EntryOfOther),
-    }
-}
+use fr_refusals::entry_refusal;
+use fr_shape::{Hooks, Ledger, ReflectErrorKind};
 
 impl<'t> Work<'t> {
     /// On to the entry of this key of a dynamic object.

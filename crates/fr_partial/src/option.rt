@@ -1,26 +1,12 @@
 //! `begin_some`: on to the content of an option.
-ghost use Rattle.fr_partial.specs.Common.{Call, Decides, IfSome, IsCall, Room, content_shape, def_of, false, holds, is_option, true};
-ghost use Rattle.std.specs.Prelude.{IfNone, ◌≡◌};
+ghost use Rattle.fr_partial.specs.Common.{Call, Decides, IsCall, Room, holds};
 
-use crate::beginning::beginning_of_some;
 use crate::moves::{Move, Way};
 use crate::work::Work;
 use crate::{Partial, ReflectError};
 use fr_frame::{ContentKind, Tracker};
-use fr_shape::{Def, Expected, Hooks, Ledger, ReflectErrorKind, ShapeId, ShapeTable};
-
-/// What an option of this shape holds, if it is one.
-fn content_of(table: &ShapeTable, shape: ShapeId) -> Option<ShapeId>
-    ensures content { IfSome result (λ content.
-        content.0 ≡ content_shape (def_of table.now shape.0)) }
-    ensures some { IfSome result (λ content. is_option (def_of table.now shape.0) ≡ true) }
-    ensures none { IfNone result (is_option (def_of table.now shape.0) ≡ false) }
-{
-    match &table.get(shape)?.def {
-        Def::Option(content) => Some(*content),
-        _ => None,
-    }
-}
+use fr_refusals::{beginning_of_some, content_of};
+use fr_shape::{Expected, Hooks, Ledger, ReflectErrorKind};
 
 impl<'t> Work<'t> {
     /// On to the content of an option.

@@ -1,6 +1,6 @@
 //! The builder.
 ghost use Rattle.std.specs.Prelude.{◌+◌};
-ghost use Rattle.fr_partial.specs.Common.{Call, IfOk, IsCall, IsChecked, IsInOrder, IsMeant, IsNotOutOfMemory, IsNumbered, IsServed, List, NeedsNone, RestsAround, Room, cursor_tree, holds, ℕ};
+ghost use Rattle.fr_partial.specs.Common.{Call, ConversionsSuit, IfOk, IsCall, IsChecked, IsInOrder, IsMeant, IsNotOutOfMemory, IsNumbered, List, NeedsNone, None, RestsAround, Room, cursor_tree, holds, ℕ};
 ghost use Rattle.fr_partial.specs.Builder.{meaning, site_of};
 ghost use Rattle.fr_partial.specs.Ending.{PassesValidators};
 ghost use Rattle.fr_partial.specs.Moving.{carries, DecidesBy, NeedsMessageAlone, WasDecided};
@@ -42,9 +42,10 @@ impl<'t, H: Hooks> Partial<'t, H> {
     pub fn law_in_order(&self)
         ensures numbered { IsNumbered self.now.shapes }
         ensures checked { IsChecked self.now.shapes }
-        ensures served { IsServed self.now.shapes }
         ensures in_order { IsInOrder self.now.shapes self.now.root self.now.state }
         ensures rests { RestsAround self.now.state.cursor self.now.state.tree }
+        ensures conversions { ConversionsSuit self.now.shapes self.now.root None
+            self.now.state.tree }
     {
         self.work.law_sound();
     }

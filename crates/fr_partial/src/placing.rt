@@ -4,7 +4,7 @@ ghost use Rattle.fr_partial.specs.Common.{IsAtWork, LooksLike, body_of, is_map, 
 
 use crate::work::Frames;
 use fr_frame::PartialValue;
-use fr_plan::{TypePlanCore, law_plan_lookups};
+use fr_plan::{TypePlanCore, law_plan_lookups, law_plan_reach};
 use fr_shape::ShapeId;
 
 /// The shape of the place on top of the stack, as the plan has it, and what was put there, in which
@@ -17,6 +17,7 @@ pub fn place_here<'a>(plan: &TypePlanCore, frames: &'a Frames) -> (ShapeId, &'a 
         → lacks_last (body_of result.1.now) ≡ lacks_value (top_tree frames.now) }
 {
     law_plan_lookups();
+    law_plan_reach();
     let Some(top) = frames.stack.top() else {
         unreachable!()
     };

@@ -1,13 +1,14 @@
 //! A value at a field or element that isn't entered for it.
-ghost use Rattle.fr_partial.specs.Common.{AreOpened, Plan, AreOpen, Became, Changed, Conserved, Describes, IsAtWork, None, Ok, OnOk, Room, Val, [], def_of, false, field_refusal, held_in, is_root, put_child, takes_at_end, tokens, top_place, top_shape, top_tree, tree_at, up, view, whole, whole_tree};
+ghost use Rattle.fr_partial.specs.Common.{AreOpened, Plan, AreOpen, Became, Changed, Conserved, Describes, IsAtWork, None, Ok, OnOk, Room, Val, [], def_of, false, field_refusal, held_in, is_begun_conversion, is_root, put_child, takes_at_end, tokens, top_place, top_shape, top_tree, tree_at, up, view, whole, whole_tree};
 ghost use Rattle.std.specs.Prelude.{Err, ◌≡◌};
 
 use crate::going::enter;
-use crate::mode::Mode;
-use crate::moves::Way;
+use crate::moves::child_way;
+use crate::placing::place_here;
 use crate::work::Frames;
 use fr_frame::{Opening, Taker};
-use fr_plan::{TypePlanCore, law_plan_lookups};
+use fr_plan::{TypePlanCore, law_plan_lookups, law_plan_reach};
+use fr_refusals::Mode;
 use fr_shape::{Ledger, OutOfMemory, Value};
 
 /// Goes back from a whole place, whose value stays there.
@@ -15,6 +16,8 @@ fn leave_whole(frames: &mut Frames, ledger: &mut Ledger) -> Result<(), OutOfMemo
     requires are_open { AreOpened frames.old }
     requires below { is_root (top_place frames.old) ≡ false }
     requires not_item { takes_at_end (tree_at (up (top_place frames.old))
+        (whole_tree frames.old)) ≡ false }
+    requires not_source { is_begun_conversion (tree_at (up (top_place frames.old))
         (whole_tree frames.old)) ≡ false }
     requires holds_value { (v : Val) × (top_tree frames.old ≡ whole v) }
     requires room { Room (held_in frames.old) ledger.old }
@@ -35,7 +38,8 @@ fn leave_whole(frames: &mut Frames, ledger: &mut Ledger) -> Result<(), OutOfMemo
 }
 
 /// Puts a value without tokens at child `i` of the place on top, which may be entered, in the stead
-/// of all that was put there and is stored beneath it. The place stays on top.
+/// of all that was put there and is stored beneath it. The place, which starts anew first where it
+/// is a conversion, stays on top.
 pub fn put_in_child(
     plan: &TypePlanCore,
     frames: &mut Frames,
@@ -57,10 +61,11 @@ pub fn put_in_child(
     ensures tokens { Conserved (held_in frames.old) ledger.old (held_in frames.new) ledger.new }
 {
     law_plan_lookups();
+    law_plan_reach();
     let Ok(_) = u32::try_from(i) else {
         return Err(OutOfMemory);
     };
-    let way = Way::Child(i, opening);
+    let way = child_way(place_here(plan, frames).1, i, opening);
     enter(plan, frames, way, ledger)?;
     let (slots, store) = (&mut frames.slots, &mut frames.store);
     frames.stack.set(slots, store, value, ledger);

@@ -4,9 +4,9 @@ ghost use Rattle.std.specs.Prelude.{◌↔◌, IsNone, IsTrue, ◌+◌, ◌≡�
 ghost use Rattle.fr_partial.specs.Builder.{here};
 
 use crate::kept_path::copy_path;
-use crate::mode::Mode;
 use crate::{Partial, ReflectError};
 use fr_path::Path;
+use fr_refusals::Mode;
 use fr_shape::{Hooks, OutOfMemory, ReflectErrorKind, ShapeId, ShapeTable};
 
 impl<'t, H: Hooks> Partial<'t, H> {

@@ -1,27 +1,13 @@
 //! `begin_ok` and `begin_err`: on to either side of a result.
-ghost use Rattle.std.specs.Prelude.{◌≡◌};
-ghost use Rattle.fr_partial.specs.Common.{Call, Decides, IsCall, Room, as_tracker, def_of, holds, is_result, side_call};
+ghost use Rattle.fr_partial.specs.Common.{Call, Decides, IsCall, Room, as_tracker, holds, side_call};
 ghost use Rattle.fr_partial.specs.Beginnings.{IsSide};
 
-use crate::beginning::beginning_in;
 use crate::moves::{Move, Way};
 use crate::work::Work;
 use crate::{Partial, ReflectError};
 use fr_frame::{ContentKind, Tracker};
-use fr_shape::{Def, Expected, Hooks, Ledger, ReflectErrorKind, Shape, ShapeId, ShapeTable};
-
-/// Whether the shape is a result.
-fn is_result(table: &ShapeTable, shape: ShapeId) -> bool
-    ensures { result ≡ is_result (def_of table.now shape.0) }
-{
-    matches!(
-        table.get(shape),
-        Some(Shape {
-            def: Def::Result(_, _),
-            ..
-        })
-    )
-}
+use fr_refusals::{beginning_in, is_result};
+use fr_shape::{Expected, Hooks, Ledger, ReflectErrorKind};
 
 impl<'t> Work<'t> {
     /// On to this side of a result.

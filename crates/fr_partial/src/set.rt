@@ -1,18 +1,17 @@
 //! `set_shape` and `set_default`: a whole value at the place at which the builder works.
 ghost use Rattle.std.specs.Prelude.{◌+◌, ◌≡◌};
-ghost use Rattle.fr_partial.specs.Common.{Call, Decides, IfOk, IsCall, IsNotOutOfMemory, NeedsNone, OnErr, OnOk, Room, RoseBy, [], converts_at, cursor_tree, def_of, dyn_view, false, fits, holds, occurs, shape_at, takes_shape, tokens, true, view};
+ghost use Rattle.fr_partial.specs.Common.{Call, Decides, IfOk, IsCall, IsNotOutOfMemory, NeedsNone, OnErr, OnOk, Room, RoseBy, [], cursor_tree, dyn_view, false, fits, holds, occurs, shape_at, tokens, true, view};
 ghost use Rattle.fr_shape.specs.Val.{dyn};
-ghost use Rattle.fr_model.specs.Step.{is_str, is_owned_string};
 ghost use Rattle.fr_partial.specs.Builder.{here};
-ghost use Rattle.fr_partial.specs.SettingDynamic.{copies_at};
+ghost use Rattle.fr_refusals.specs.SettingDynamic.{copies_at};
 
-use crate::dynamic_places::is_dynamic;
 use crate::moves::{Change, Move};
 use crate::work::Work;
 use crate::{Partial, ReflectError};
+use fr_refusals::{converts, takes_shape};
 use fr_shape::{
-    Def, Dyn, Hooks, Ledger, Operation, OutOfMemory, ReflectErrorKind, ScalarKind, Shape, ShapeId,
-    ShapeTable, Shaped, Template, Value, clone_template, release,
+    Dyn, Hooks, Ledger, Operation, OutOfMemory, ReflectErrorKind, Shaped, Template, Value,
+    clone_template, release,
 };
 use fr_values::converted;
 use std::alloc::Global;
@@ -23,40 +22,6 @@ pub(crate) fn copy_template(alloc: Global, template: &Template) -> Result<Value,
     ensures copy { IfOk result (λ v. view v ≡ template.now) }
 {
     clone_template(alloc, template.value())
-}
-
-/// Whether the shape is a `str`.
-fn is_str(table: &ShapeTable, shape: ShapeId) -> bool
-    ensures { result ≡ is_str (def_of table.now shape.0) }
-{
-    matches!(table.get(shape), Some(Shape { def: Def::Str, .. }))
-}
-
-/// Whether the shape is an owned text.
-fn is_owned_string(table: &ShapeTable, shape: ShapeId) -> bool
-    ensures { result ≡ is_owned_string (def_of table.now shape.0) }
-{
-    matches!(
-        table.get(shape),
-        Some(Shape {
-            def: Def::Scalar(ScalarKind::String),
-            ..
-        })
-    )
-}
-
-/// Whether a place of one shape takes a value of the other.
-fn takes_shape(table: &ShapeTable, place: ShapeId, given: ShapeId) -> bool
-    ensures { result ≡ takes_shape table.now place.0 given.0 }
-{
-    given.0 == place.0 || (is_str(table, place) && is_owned_string(table, given))
-}
-
-/// Whether a place of one shape converts a value of the other.
-fn converts(table: &ShapeTable, place: ShapeId, given: ShapeId) -> bool
-    ensures { result ≡ converts_at table.now place.0 given.0 }
-{
-    is_dynamic(table, place) && place.0 != given.0
 }
 
 /// A dynamic value, as any other.

@@ -1,39 +1,14 @@
 //! Pointers to slices: opened for items, and closed again.
 ghost use Rattle.std.specs.Prelude.{◌≡◌};
-ghost use Rattle.fr_partial.specs.Common.{AreOpen, AreOpened, Plan, Changed, Conserved, IsAtWork, OnOk, Room, SameTokens, body_of, closed_slice, held_in, is_open_slice, is_some, kept_slice, mode_of, own_tree, slice_anew, top_tree, true, unwrap_or};
+ghost use Rattle.fr_partial.specs.Common.{AreOpen, AreOpened, Plan, Changed, Conserved, IsAtWork, OnOk, Room, SameTokens, closed_slice, held_in, is_open_slice, kept_slice, mode_of, slice_anew, top_tree, true, unwrap_or};
 
-use crate::beginning::{Beginning, begin_so};
-use crate::mode::Mode;
+use crate::beginning::begin_so;
 use crate::placing::place_here;
 use crate::work::Frames;
-use fr_frame::{ItemsKind, PartialValue, Tracker};
+use fr_frame::{ItemsKind, Tracker};
 use fr_plan::TypePlanCore;
+use fr_refusals::{Beginning, keeps_items};
 use fr_shape::{Ledger, OutOfMemory};
-
-/// Whether the place is a pointer to a slice that is open for items.
-#[inline]
-pub fn is_open_slice(partial: &PartialValue) -> bool
-    ensures { result ≡ is_open_slice (own_tree (body_of partial.now)) }
-{
-    matches!(
-        partial,
-        PartialValue::Begun(Tracker::Items(ItemsKind::Slice), _)
-    )
-}
-
-/// Whether a pointer to a slice keeps its items where it is opened: in deferred mode one that is
-/// begun, open or closed.
-fn keeps_items(mode: Mode, partial: &PartialValue) -> bool
-    ensures { result ≡ is_some (kept_slice (mode_of mode) (own_tree (body_of partial.now))) }
-{
-    match mode {
-        Mode::Strict => false,
-        Mode::Deferred(_) => matches!(
-            partial,
-            PartialValue::Begun(Tracker::Items(ItemsKind::Slice | ItemsKind::ClosedSlice), _)
-        ),
-    }
-}
 
 /// Opens the pointer on top for items: in deferred mode one that is begun so keeps those that it
 /// has, and any other starts anew.

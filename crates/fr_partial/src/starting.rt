@@ -1,6 +1,6 @@
 //! The ways to start a builder: by a shape, whose plan it makes, or by a plan that is lent to it.
 ghost use Rattle.std.specs.Prelude.{◌≡◌};
-ghost use Rattle.fr_partial.specs.Common.{IfOk, IsChecked, IsIn, IsNumbered, IsOpenAt, IsPlanFrom, IsPlanOf, IsServed, NothingStored, [], def_of, fresh, plan_in, unsized_refusal};
+ghost use Rattle.fr_partial.specs.Common.{IfOk, IsChecked, IsIn, IsNumbered, IsOpenAt, IsPlanFrom, IsPlanOf, NothingStored, [], def_of, fresh, plan_in, unsized_refusal};
 ghost use Rattle.fr_shape.specs.Checked.{is_sized};
 ghost use Rattle.fr_model.specs.Run.{alloc_refusal};
 ghost use Rattle.fr_model.specs.Tree.{initial};
@@ -8,12 +8,12 @@ ghost use Rattle.fr_partial.specs.Starting.{RefusedWith};
 
 use crate::Partial;
 use crate::held_plan::HeldPlan;
-use crate::mode::Mode;
 use crate::work::{Frames, Parts, Work};
 use fr_frame::{FrameOwner, Slots};
 use fr_model::law_well;
 use fr_path::Path;
 use fr_plan::{TypePlanCore, law_first_refusal, law_plan_lookups, law_plan_paths};
+use fr_refusals::Mode;
 use fr_shape::{AllocError, Def, Hooks, PlanError, PlanFault, ShapeId, ShapeTable};
 use fr_store::{FrameStore, Stack};
 use std::alloc::Global;
@@ -80,7 +80,6 @@ impl<'t, H: Hooks> Partial<'t, H> {
         requires shape { IsIn table.now id.0 }
         requires numbered { IsNumbered table.now }
         requires checked { IsChecked table.now }
-        requires served { IsServed table.now }
         ensures shapes { IfOk result (λ p. p.shapes ≡ table.now) }
         ensures hooks { IfOk result (λ p. p.hooks ≡ hooks.now) }
         ensures root { IfOk result (λ p. p.root ≡ id.0) }
@@ -107,7 +106,6 @@ impl<'t, H: Hooks> Partial<'t, H> {
         requires shape { IsIn table.now id.0 }
         requires numbered { IsNumbered table.now }
         requires checked { IsChecked table.now }
-        requires served { IsServed table.now }
         ensures shapes { IfOk result (λ p. p.shapes ≡ table.now) }
         ensures hooks { IfOk result (λ p. p.hooks ≡ hooks.now) }
         ensures root { IfOk result (λ p. p.root ≡ id.0) }
@@ -129,7 +127,6 @@ impl<'t, H: Hooks> Partial<'t, H> {
         requires plan { IsPlanFrom table.now plan.now }
         requires numbered { IsNumbered table.now }
         requires checked { IsChecked table.now }
-        requires served { IsServed table.now }
         ensures shapes { IfOk result (λ p. p.shapes ≡ table.now) }
         ensures hooks { IfOk result (λ p. p.hooks ≡ hooks.now) }
         ensures root { IfOk result (λ p.
@@ -155,7 +152,6 @@ impl<'t, H: Hooks> Partial<'t, H> {
         requires plan { IsPlanFrom table.now plan.now }
         requires numbered { IsNumbered table.now }
         requires checked { IsChecked table.now }
-        requires served { IsServed table.now }
         ensures shapes { IfOk result (λ p. p.shapes ≡ table.now) }
         ensures hooks { IfOk result (λ p. p.hooks ≡ hooks.now) }
         ensures root { IfOk result (λ p.
@@ -180,7 +176,6 @@ impl<'t, H: Hooks> Partial<'t, H> {
         requires inside { IsIn table.now root.0 }
         requires numbered { IsNumbered table.now }
         requires checked { IsChecked table.now }
-        requires served { IsServed table.now }
         ensures shapes { IfOk result (λ p. p.shapes ≡ table.now) }
         ensures hooks { IfOk result (λ p. p.hooks ≡ hooks.now) }
         ensures root { IfOk result (λ p. p.root ≡ root.0) }

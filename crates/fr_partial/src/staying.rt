@@ -36,6 +36,7 @@ fn change_top(
         (held_in frames.new) ledger.new }
 {
     match change {
+        Change::Nothing => Ok(()),
         Change::Put(value) => {
             let (slots, store) = (&mut frames.slots, &mut frames.store);
             frames.stack.set(slots, store, value, ledger);
@@ -44,7 +45,7 @@ fn change_top(
         Change::PutChild(i, opening, value) => {
             put_in_child(plan, frames, i, opening, value, ledger)
         }
-        Change::Open(opening) => open_here(plan, frames, opening),
+        Change::Open(opening) => open_here(plan, frames, opening, ledger),
         Change::Select(chosen) => begin_variant(plan, frames, chosen, ledger),
         Change::Gather(parts) => begin_parts(plan, frames, parts, ledger),
         Change::OpenSlice => begin_slice(plan, frames, ledger),

@@ -1,7 +1,7 @@
 //! What a builder works with, and its moves as a whole: what is decided is made, or all is
 //! released.
 ghost use Rattle.std.specs.Prelude.{◌+◌, ◌≡◌};
-ghost use Rattle.fr_partial.specs.Common.{Conserved, IfErr, IsChecked, IsErr, IsInOrder, IsMeant, IsNotOutOfMemory, IsNumbered, IsServed, RestsAround, Room, RoseBy, Sees, body_of, carried, false, held_at, held_in, is_map, lacks_last, lacks_value, length, meant_by, mode_of, own_tree, path_of, strict, true};
+ghost use Rattle.fr_partial.specs.Common.{Conserved, ConversionsSuit, IfErr, IsChecked, IsErr, IsInOrder, IsMeant, IsNotOutOfMemory, IsNumbered, None, RestsAround, Room, RoseBy, Sees, body_of, carried, false, held_at, held_in, is_map, lacks_last, lacks_value, length, meant_by, mode_of, own_tree, path_of, strict, true};
 ghost use Rattle.fr_model.specs.Step.{begin_deferred};
 ghost use Rattle.fr_partial.specs.Making.{left_at, IsMoved};
 ghost use Rattle.fr_partial.specs.Ending.{PassesValidators};
@@ -12,12 +12,12 @@ use crate::ReflectError;
 use crate::deferring::defer;
 use crate::held_plan::HeldPlan;
 use crate::making::make;
-use crate::mode::Mode;
 use crate::moves::Move;
 use crate::placing::place_here;
 use fr_frame::{PartialValue, Slots};
 use fr_model::law_paths;
 use fr_path::Path;
+use fr_refusals::Mode;
 use fr_shape::{Hooks, Ledger, ReflectErrorKind, ShapeId, ShapeTable};
 use fr_store::{FrameStore, Stack};
 use std::alloc::Global;
@@ -96,9 +96,10 @@ impl<'t> Work<'t> {
     pub fn law_sound(&self)
         ensures numbered { IsNumbered self.now.shapes }
         ensures checked { IsChecked self.now.shapes }
-        ensures served { IsServed self.now.shapes }
         ensures in_order { IsInOrder self.now.shapes self.now.root self.now.state }
         ensures rests { RestsAround self.now.state.cursor self.now.state.tree }
+        ensures conversions { ConversionsSuit self.now.shapes self.now.root None
+            self.now.state.tree }
     {
         let _parts = &self.parts;
     }

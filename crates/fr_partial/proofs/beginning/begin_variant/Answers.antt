@@ -18,7 +18,7 @@ returns-clause-changed c =
     changed_as (begun_by c.beginning_so-beginning.result (as_fields (Some k)) c.args.chosen.count)
     (λ old. unwrap_or (kept_so (as_fields (Some k)) here) (variant_anew def k))
     (ap (λ (b : Beginning). begun_by b (as_fields (Some k)) c.args.chosen.count here)
-    (c.beginning_so-beginning.ensures ∙ so_alike _ here c.place_here.ensures.partial (as_fields (Some k)))
+    (c.beginning_so-beginning.ensures.kept ∙ so_alike _ here c.place_here.ensures.partial (as_fields (Some k)))
     ∙ variant_so def k c.args.chosen.count here (variant_has def k c.args.chosen.count c.requires.count))
     (done c.args.plan.now (are_open c.requires.at_work)))
     c.begin_so.ensures.changed

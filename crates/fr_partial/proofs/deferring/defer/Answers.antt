@@ -1,8 +1,8 @@
 use Rattle.std.proofs.Common.{◌≡◌, ℕ, ◌-◌, length, Ok, refl, sym, ap, ◌∙◌, arith}
 use Rattle.fr_partial.specs.Common.{State, deferred, no_hooks, one_more_call, site}
 use Rattle.fr_shape.specs.HookLaws.{no_hooks_are_lawful}
-use Rattle.fr_partial.specs.declared.mode.Mode.{Mode}
-use Rattle.fr_partial.proofs.StateLaws.{order_after, rest_after, sound_so}
+use Rattle.fr_refusals.specs.declared.mode.Mode.{Mode}
+use Rattle.fr_partial.proofs.StateLaws.{sound_so, well_after}
 use Rattle.fr_partial.proofs.WorkLaws.{open_count}
 use Rattle.fr_partial.proofs.deferring.defer.Goals as goal
 use Rattle.fr_partial.proofs.deferring.defer.Goals.{After-saturating_add-parts}
@@ -28,10 +28,8 @@ returns-clause-sound c =
     sound_so c.requires.sound parts.frames.slots parts.frames.stack parts.frames.store (Mode.Deferred (c.len-start.result - 1))
     parts.path c.saturating_add-parts.result (next (site parts).state) work.ready.shown work.kept tt
     (state_is (goal.at.returns-clause-sound c).After-saturating_add-parts)
-    (order_after c.requires.sound c.law_well.ensures.in_order no_hooks no_hooks_are_lawful (next (site parts).state) meant.0 meant.1.fitting
-    (meant.1.means no_hooks))
-    (rest_after c.requires.sound c.law_well.ensures.rests no_hooks (next (site parts).state) meant.0 meant.1.fitting
-    (meant.1.means no_hooks)) c.requires.sound.path
+    (well_after c.requires.sound c.law_well.ensures.in_order c.law_well.ensures.rests c.law_well.ensures.conversions no_hooks
+    no_hooks_are_lawful (next (site parts).state) meant.0 meant.1.fitting (meant.1.means no_hooks)) c.requires.sound.path
 
 pub returns-clause-moved : goal.returns-clause-moved
 returns-clause-moved c = (

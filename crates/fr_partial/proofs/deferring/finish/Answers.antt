@@ -23,7 +23,7 @@ pub returns-in-Ok-clause-sound : goal.returns-in-Ok-clause-sound
 returns-in-Ok-clause-sound g c =
     sound_ended c.law_plan_lookups.ensures.paths (g.H.Hooks.means c.args.hooks.now) c.args.parts.now
     (at_work g (goal.at.returns-in-Ok-clause-sound g c).After-core-plan) c.in-Ok.ensures.finished c.law_well.ensures.in_order
-    c.law_well.ensures.rests c.law_paths.ensures.finish (c.law_hooks.ensures.lawful c.args.hooks.now) c.requires.sound c.requires.meant c.core-plan.ensures
+    c.law_well.ensures.rests c.law_well.ensures.conversions c.law_paths.ensures.finish (c.law_hooks.ensures.lawful c.args.hooks.now) c.requires.sound c.requires.meant c.core-plan.ensures
     c.finish.ensures.empty c.finish.ensures.strict c.saturating_add-parts.ensures
 
 pub returns-in-Ok-clause-moved : goal.returns-in-Ok-clause-moved

@@ -1,6 +1,6 @@
 use Rattle.std.proofs.Common.{sym, ap, ◌∙◌, subst, unwrap_or}
 use Rattle.fr_partial.specs.Common.{Beginning, IsWholeWith, MayHave, Tracker, anew_as, as_tracker, base_of_tracker, begun_by, kept_as, top_tree}
-use Rattle.fr_partial.specs.DynamicBeginnings.{tracker_with}
+use Rattle.fr_refusals.specs.DynamicBeginnings.{tracker_with}
 use Rattle.fr_partial.proofs.DynamicLaws.{as_alike, begins_so, in_place, no_base, none_may}
 use Rattle.fr_partial.proofs.KeepLaws.{are_open, changed_as}
 use Rattle.fr_partial.proofs.KeptLaws.{on_ok}
@@ -11,12 +11,12 @@ begin_so-requires c =
     let here = top_tree c.args.frames.now in
     record {
       are_open = record { plan = c.args.plan.now; are_open = are_open c.requires.at_work };
-      may_have = subst (λ (f : Tracker). MayHave f 0) (sym c.tracker_with.ensures) (none_may c.args.parts);
-      base = ap base_of_tracker c.tracker_with.ensures ∙ no_base c.args.parts;
+      may_have = subst (λ (f : Tracker). MayHave f 0) (sym c.tracker_with.ensures.tracker) (none_may c.args.parts);
+      base = ap base_of_tracker c.tracker_with.ensures.tracker ∙ no_base c.args.parts;
       parts = λ is.
-          subst (λ (f : Tracker). IsWholeWith f here) (sym c.tracker_with.ensures)
+          subst (λ (f : Tracker). IsWholeWith f here) (sym c.tracker_with.ensures.tracker)
           (in_place c.args.parts here
-          (sym (c.beginning_as-beginning.ensures ∙ as_alike _ here c.place_here.ensures.partial c.args.parts) ∙ is));
+          (sym (c.beginning_as-beginning.ensures.kept ∙ as_alike _ here c.place_here.ensures.partial c.args.parts) ∙ is));
       room = c.requires.room;
     }
 
@@ -26,8 +26,8 @@ returns-clause-changed c =
     on_ok c.begin_so.result (λ done.
     changed_as (begun_by c.beginning_as-beginning.result (as_tracker c.tracker_with.result) 0)
     (λ old. unwrap_or (kept_as c.args.parts here) (anew_as c.args.parts))
-    (ap (λ (f : Tracker). begun_by c.beginning_as-beginning.result f 0 here) c.tracker_with.ensures
+    (ap (λ (f : Tracker). begun_by c.beginning_as-beginning.result f 0 here) c.tracker_with.ensures.tracker
     ∙ ap (λ (b : Beginning). begun_by b (tracker_with c.args.parts) 0 here)
-    (c.beginning_as-beginning.ensures ∙ as_alike _ here c.place_here.ensures.partial c.args.parts)
+    (c.beginning_as-beginning.ensures.kept ∙ as_alike _ here c.place_here.ensures.partial c.args.parts)
     ∙ begins_so c.args.parts here) (done c.args.plan.now (are_open c.requires.at_work)))
     c.begin_so.ensures.changed

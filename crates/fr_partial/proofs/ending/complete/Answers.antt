@@ -7,7 +7,7 @@ pub returns-in-Ok-clause-sound : goal.returns-in-Ok-clause-sound
 returns-in-Ok-clause-sound g c =
     let before = site c.args.parts.now in
     sound_moved c.requires.sound c.core-plan.ensures c.in-Ok.ensures.completed.handed c.saturating_add-parts.ensures
-    c.law_well.ensures.in_order c.law_well.ensures.rests (g.H.Hooks.means c.args.hooks.now)
+    c.law_well.ensures.in_order c.law_well.ensures.rests c.law_well.ensures.conversions (g.H.Hooks.means c.args.hooks.now)
     (c.law_hooks.ensures.lawful c.args.hooks.now) c.requires.meant
     (is_meant c.args.rules c.args.taker (g.H.Hooks.means c.args.hooks.now) before.shapes (shape_at before) before.state _
     c.in-Ok.ensures.completed.meant) c.go_back.new.path

@@ -6,7 +6,7 @@ use Rattle.fr_partial.proofs.ending.complete_strictly.Goals.{In-Some}
 
 top : (g : Over) (c : In-Some g) → IsTop c.args.plan.now c.args.frames.now c.in-Some.top.0
 top g c =
-    strict_top c.law_plan_lookups.ensures.agree c.law_plan_lookups.ensures.paths c.requires.at_work c.requires.strict
+    strict_top c.law_plan_lookups.ensures.agree c.law_plan_lookups.ensures.paths c.law_plan_reach.ensures.reached c.law_plan_reach.ensures.nodes c.requires.at_work c.requires.strict
     c.in-Some.ensures.last
 
 pub fill_and_require_fields-requires-clause-in_use : goal.fill_and_require_fields-requires-clause-in_use

@@ -29,7 +29,7 @@ below : (g : Over) (c : In-Some g) → IsBeneath (g.H.Hooks.means c.args.hooks.n
     (record c.args.frames.now { slots = c.complete_beneath.new.slots; store = c.complete_beneath.new.self }) c.in-Some.top.0
 below g c =
     beneath c.law_plan_lookups.ensures.paths c.requires.at_work (g.H.Hooks.means c.args.hooks.now)
-    c.law_plan_lookups.ensures.agree c.in-Ok.ensures.completed c.complete_beneath.new.self c.in-Ok.ensures.kept
+    c.law_plan_lookups.ensures.agree c.law_plan_reach.ensures.reached c.law_plan_reach.ensures.nodes c.in-Ok.ensures.completed c.complete_beneath.new.self c.in-Ok.ensures.kept
     ((below_start (mode_of c.args.frames.now.mode) (top_place c.args.frames.now) c.requires.deferred).1 _) c.in-Some.ensures.last
 
 pub complete_by_defaults-requires-clause-place : goal.complete_by_defaults-requires-clause-place

@@ -29,6 +29,6 @@ returns-in-Ok-clause-sound c =
       same = refl;
     } in
     sound_moved c.requires.sound refl became c.saturating_add-parts.ensures c.law_well.ensures.in_order
-    c.law_well.ensures.rests no_hooks no_hooks_are_lawful c.requires.meant refl c.step_back.new.path
+    c.law_well.ensures.rests c.law_well.ensures.conversions no_hooks no_hooks_are_lawful c.requires.meant refl c.step_back.new.path
     (path_left (site parts).state c.requires.sound.path c.law_paths.ensures.leave c.law_paths.ensures.deep below.0
     c.step_back.ensures)

@@ -4,7 +4,7 @@ use Rattle.fr_frame.specs.Bodies.{TakesItems}
 use Rattle.fr_store.specs.StackMoves.{count_here}
 use Rattle.fr_partial.proofs.ChildLaws.{child_there, object_node, tracker_has, tracker_is, tracker_there}
 use Rattle.fr_partial.proofs.BelowLaws.{around_base, around_map}
-use Rattle.fr_partial.proofs.GoingLaws.{has_then, is_object, is_planned, keys_are_apart, keys_are_counted, may_go, node_after, node_is, none_then, of_opening, opened_has, opens, went, went_after, went_entry, Goes}
+use Rattle.fr_partial.proofs.GoingLaws.{anew_has, has_then, is_object, is_planned, keys_are_apart, keys_are_counted, may_go, node_after, node_is, none_then, of_anew, of_opening, opened_has, opens, went, went_after, went_entry, Goes}
 use Rattle.fr_partial.proofs.KeepLaws.{are_open, became, became_marked}
 use Rattle.fr_partial.proofs.KeptLaws.{has_content, may_have_one, on_ok, whole_some}
 use Rattle.fr_partial.proofs.ListLaws.{has_count, has_tracker}
@@ -18,8 +18,11 @@ abbrev goes : (c : After-node_here-above) {way : Way} → c.args.way ≡ way →
 goes c is = record {
   agree = c.law_plan_lookups.ensures.agree;
   paths = c.law_plan_lookups.ensures.paths;
+  reached = c.law_plan_reach.ensures.reached;
+  nodes = c.law_plan_reach.ensures.nodes;
   work = c.requires.at_work;
   may = c.requires.may;
+  sourced = c.requires.sourced;
   is = is;
   above = c.node_here-above.result;
   above_is = c.node_here-above.ensures c.args.plan.now (are_open c.requires.at_work);
@@ -72,6 +75,47 @@ returns-in_ok-begin-in-Child-clause-entered c =
     on_ok c.enter.result (λ done. went (goes at.After-node_here-above c.in-Child.is) c.child_node-node.ensures
     (went_after c.requires.at_work.ready.shown _ now _ _
     (became (open_then now) c.enter.ensures.kept c.enter.ensures.marks done))) c.enter.ensures.entered
+
+-- One of a place that starts anew.
+
+pub begin_so-requires : goal.begin_so-requires
+begin_so-requires c =
+    let way = goes (goal.at.begin_so-requires c).After-node_here-above c.in-Anew.is in
+    record {
+      are_open = record { plan = c.args.plan.now; are_open = are_open c.requires.at_work };
+      may_have = of_anew way (λ tracker. MayHave tracker c.in-Anew.opening.count) tt tt (λ k. tt);
+      base = of_anew way (λ tracker. base_of_tracker tracker ≡ 0) refl refl (λ k. refl);
+      parts = λ in_place. cc;
+      room = c.requires.room;
+    }
+
+pub enter-requires-in-Anew : goal.enter-requires-in-Anew
+enter-requires-in-Anew c =
+    let way = goes (goal.at.enter-requires-in-Anew c).After-node_here-above c.in-Anew.is in
+    let now = c.in_ok-begin_so-in-Anew.ensures.changed c.args.plan.now (are_open c.requires.at_work) in
+    let shown = c.requires.at_work.ready.shown in
+    let has = has_then shown _ now _ _ (anew_has way) in
+    record {
+      is_open = now.stands.open_still;
+      kept = now.kept;
+      may = (
+        child_there _ _ _ has,
+        none_then shown _ now _ _ (anew_has way) (of_anew way (λ tracker. is_map_tracker tracker ≡ false) refl refl (λ k. refl)),
+      );
+      node =
+          node_after shown _ now (as_tracker c.in-Anew.opening.tracker) c.in-Anew.i (node_is way c.child_node-node-in-Anew.ensures)
+          ∙ ap (λ (f : Tracker). child_node c.args.plan.now (node_here c.args.plan.now c.begin_so.new.frames.slots c.begin_so.new.frames.stack) f c.in-Anew.i) (tracker_there _ _ _ has);
+      planned = is_planned way c.child_node-node-in-Anew.ensures;
+    }
+
+pub returns-in_ok-begin_so-in-Anew-clause-entered : goal.returns-in_ok-begin_so-in-Anew-clause-entered
+returns-in_ok-begin_so-in-Anew-clause-entered c =
+    let now = c.in_ok-begin_so-in-Anew.ensures.changed c.args.plan.now (are_open c.requires.at_work) in
+    on_ok c.enter-in-Anew.result (λ done.
+    went (goes (goal.at.returns-in_ok-begin_so-in-Anew-clause-entered c).After-node_here-above c.in-Anew.is)
+    c.child_node-node-in-Anew.ensures (went_after c.requires.at_work.ready.shown _ now _ _
+    (became (open_then now) c.enter-in-Anew.ensures.kept c.enter-in-Anew.ensures.marks done)))
+    c.enter-in-Anew.ensures.entered
 
 -- An item.
 
@@ -170,9 +214,9 @@ returns-in-Entry-clause-entered c =
 
 -- A content.
 
-pub begin_so-requires : goal.begin_so-requires
-begin_so-requires c =
-    let may = may_go (goes (goal.at.begin_so-requires c).After-node_here-above c.in-Content.is) in
+pub begin_so-requires-in-Content : goal.begin_so-requires-in-Content
+begin_so-requires-in-Content c =
+    let may = may_go (goes (goal.at.begin_so-requires-in-Content c).After-node_here-above c.in-Content.is) in
     record {
       are_open = record { plan = c.args.plan.now; are_open = are_open c.requires.at_work };
       may_have = may_have_one _ may.0;
@@ -194,7 +238,7 @@ enter-requires-in-Content c =
       may = (child_there _ _ _ has, none_then shown _ now _ _ (has_content _ _ _ may.2) (around_map _ may.0));
       node =
           node_after shown _ now (as_tracker c.in-Content.tracker) 0 (node_is way c.child_node-node-in-Content.ensures)
-          ∙ ap (λ (f : Tracker). child_node c.args.plan.now (node_here c.args.plan.now c.begin_so.new.frames.slots c.begin_so.new.frames.stack) f 0) (tracker_there _ _ _ has);
+          ∙ ap (λ (f : Tracker). child_node c.args.plan.now (node_here c.args.plan.now c.begin_so-in-Content.new.frames.slots c.begin_so-in-Content.new.frames.stack) f 0) (tracker_there _ _ _ has);
       planned = is_planned way c.child_node-node-in-Content.ensures;
     }
 

@@ -4,7 +4,7 @@ use Rattle.fr_partial.proofs.placing.place_here.Goals as goal
 pub node-requires : goal.node-requires
 node-requires c = record {
   inside =
-      found_inside c.law_plan_lookups.ensures.agree c.law_plan_lookups.ensures.paths _ _ _ _ _ c.requires.ready
+      found_inside c.law_plan_lookups.ensures.agree c.law_plan_lookups.ensures.paths c.law_plan_reach.ensures.reached c.law_plan_reach.ensures.nodes _ _ _ _ _ c.requires.ready
       c.in-Some.ensures.last c.in-Some-place.place.now c.in-Some-place.ensures.place;
 }
 
@@ -14,7 +14,7 @@ unreachable-requires-in-None c = none_found _ _ _ c.requires.ready.shown _ c.in-
 pub returns : goal.returns
 returns c = record {
   shape =
-      found_shape c.law_plan_lookups.ensures.agree c.law_plan_lookups.ensures.paths _ _ _ _ _ c.requires.ready
+      found_shape c.law_plan_lookups.ensures.agree c.law_plan_lookups.ensures.paths c.law_plan_reach.ensures.reached c.law_plan_reach.ensures.nodes _ _ _ _ _ c.requires.ready
       c.in-Some.ensures.last c.in-Some-place.place.now c.in-Some-place.ensures.place c.node.result.now c.node.ensures.node;
   last = lacks_found c.requires.ready.shown c.in-Some.ensures.last c.in-Some-place.place.now c.in-Some-place.ensures.place;
   partial = looks_found c.requires.ready.shown c.in-Some.ensures.last c.in-Some-place.place.now c.in-Some-place.ensures.place;

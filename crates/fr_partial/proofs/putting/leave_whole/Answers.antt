@@ -1,7 +1,7 @@
 use Rattle.std.proofs.Common.{IsOk, refl, sym, subst}
 use Rattle.fr_partial.specs.Common.{IsOpenAt, StoresNothing, Tree, Val, mode_of, top_place, up, whole, whole_tree}
 use Rattle.fr_store.specs.StackMoves.{changed_here}
-use Rattle.fr_partial.specs.declared.mode.Mode.{Mode}
+use Rattle.fr_refusals.specs.declared.mode.Mode.{Mode}
 use Rattle.fr_partial.proofs.HereLaws.{holds_value, of_unboxed, of_value}
 use Rattle.fr_partial.proofs.KeepLaws.{became_marked, room_here}
 use Rattle.fr_partial.proofs.KeptLaws.{on_ok}

@@ -1,19 +1,59 @@
-use Rattle.std.proofs.Common.{◌≡◌, ℕ, false, List, [], ◌∷◌, ◌++◌, refl, ap, ◌∙◌, subst}
-use Rattle.fr_partial.specs.Common.{Became, Changed, Conserved, Frames, Place, Room_conserved, Table, Tree, Val, Way, change_at, change_child, def_of, held_in, is_root, node_here, put_child, takes_at_end, top_place, top_shape, tree_at, up, view, whole, whole_tree}
+use Rattle.std.proofs.Common.{◌≡◌, ℕ, false, List, [], ◌∷◌, ◌++◌, refl, ap, ◌∙◌, subst, sym, ◌<◌}
+use Rattle.fr_partial.specs.Common.{Became, Changed, Conserved, Frames, Place, Room_conserved, Table, Tree, Val, change_at, change_child, def_of, held_in, is_root, put_child, takes_at_end, top_place, top_shape, tree_at, up, view, whole, whole_tree, top_tree, without_source, is_begun_conversion}
 use Rattle.fr_shape.specs.Tokens.{times}
 use Rattle.fr_shape.specs.TokenLaws.{occurs_times}
 use Rattle.fr_model.specs.Step.{enter_child}
 use Rattle.fr_store.specs.LeaveLaws.{up_append}
-use Rattle.fr_partial.proofs.GoingLaws.{made_here, put_no_item, tree_then, Goes}
-use Rattle.fr_partial.proofs.KeepLaws.{became, became_after, kept_released, kept_through, room_here}
+use Rattle.fr_partial.proofs.AnewLaws.{put_plain, to_child_seen, LeadsToChild}
+use Rattle.fr_partial.proofs.GoingLaws.{made_here, tree_then}
+use Rattle.fr_partial.proofs.PlaceLaws.{here_along}
+use Rattle.fr_partial.proofs.TrackerLaws.{full_tree}
+use Rattle.fr_partial.proofs.KeepLaws.{became, became_after, changed_as, kept_released, kept_through, room_here}
 use Rattle.fr_partial.proofs.KeptLaws.{on_ok}
 use Rattle.fr_partial.proofs.StateLaws.{open_then}
 use Rattle.fr_partial.proofs.TreeLaws.{alike_here, changed_below, changed_twice, put_over}
 use Rattle.fr_partial.proofs.putting.put_in_child.Goals as goal
-use Rattle.fr_partial.proofs.putting.put_in_child.Goals.{After-set}
+use Rattle.fr_partial.proofs.putting.put_in_child.Goals.{After-child_way-way, After-set}
+use Rattle.std.specs.Result.{OkIff}
 
-pub enter-requires-clause-may : goal.enter-requires-clause-may
-enter-requires-clause-may c = (c.requires.opening, c.requires.admitted)
+-- the way leads to the child
+leads : (c : After-child_way-way) → LeadsToChild c.args.frames.now.table.now (top_shape c.args.frames.now) (top_tree c.args.frames.now) c.args.i c.child_way-way.result
+leads c =
+    to_child_seen _ _ (top_tree c.args.frames.now) _ c.args.i c.args.opening c.place_here.ensures.partial c.requires.opening
+    c.requires.admitted c.child_way-way.result c.child_way-way.ensures.way
+
+pub enter-requires : goal.enter-requires
+enter-requires c =
+    let way = leads (goal.at.enter-requires c).After-child_way-way in
+    record {
+      at_work = c.requires.at_work;
+      may = way.may;
+      sourced = way.sourced c.args.plan.now;
+      small =
+          subst (λ (n : ℕ). n < 4294967296) (sym way.told)
+          (subst (λ (r : _). OkIff r (c.args.i < 4294967296) c.args.i) c.in-Ok.is c.try_from.ensures).0;
+      room = c.requires.room;
+    }
+
+-- it is entered, once a conversion has started anew
+abbrev entered_at : (table : Table) (s i : ℕ) → Tree → Tree
+entered_at table s i = λ old. enter_child table s i (without_source (def_of table s) old)
+
+went : (c : After-set) → Became c.args.plan.now (top_place c.args.frames.now ++ c.args.i ∷ [])
+    (change_at (top_place c.args.frames.now)
+    (entered_at c.args.frames.now.table.now (top_shape c.args.frames.now) c.args.i) (whole_tree c.args.frames.now))
+    c.args.frames.now c.enter.new.frames
+went c =
+    let way =
+    to_child_seen _ _ (top_tree c.args.frames.now) _ c.args.i c.args.opening c.place_here.ensures.partial c.requires.opening
+    c.requires.admitted c.child_way-way.result c.child_way-way.ensures.way in
+    let place : Place = top_place c.args.frames.now in
+    let tree : Tree = whole_tree c.args.frames.now in
+    subst (λ (n : ℕ). Became c.args.plan.now (place ++ n ∷ [])
+    (change_at place (entered_at c.args.frames.now.table.now (top_shape c.args.frames.now) c.args.i) tree) c.args.frames.now
+    c.enter.new.frames) way.number
+    (changed_as _ (entered_at c.args.frames.now.table.now (top_shape c.args.frames.now) c.args.i) way.enters
+    c.in_ok-enter.ensures.entered)
 
 pub set-requires-clause-is_open : goal.set-requires-clause-is_open
 set-requires-clause-is_open c = record { plan = c.args.plan.now; is_open = c.in_ok-enter.ensures.entered.stands.open_still }
@@ -57,11 +97,11 @@ is_set c =
     let place : Place = top_place c.args.frames.now in
     let tree : Tree = whole_tree c.args.frames.now in
     subst (λ (t : Tree). Became c.args.plan.now (place ++ c.args.i ∷ []) t c.args.frames.now (now c))
-    (changed_below place c.args.i (λ old. whole v) (change_at place (enter_child table s c.args.i) tree)
-    ∙ changed_twice place (change_child c.args.i (λ old. whole v)) (enter_child table s c.args.i) tree
-    ∙ alike_here place (λ (x : Tree). change_child c.args.i (λ old. whole v) (enter_child table s c.args.i x))
+    (changed_below place c.args.i (λ old. whole v) (change_at place (entered_at table s c.args.i) tree)
+    ∙ changed_twice place (change_child c.args.i (λ old. whole v)) (entered_at table s c.args.i) tree
+    ∙ alike_here place (λ (x : Tree). change_child c.args.i (λ old. whole v) (entered_at table s c.args.i x))
     (put_child (def_of table s) c.args.i v) tree (put_over c.args.i v _ _))
-    (became_after (λ p. p) (λ p. change_at p (λ old. whole v)) c.in_ok-enter.ensures.entered (child_set c))
+    (became_after (λ p. p) (λ p. change_at p (λ old. whole v)) (went c) (child_set c))
 
 pub leave_whole-requires : goal.leave_whole-requires
 leave_whole-requires c =
@@ -70,23 +110,21 @@ leave_whole-requires c =
     let v : Val = view c.args.value in
     let place : Place = top_place c.args.frames.now in
     let shown = c.requires.at_work.ready.shown in
-    let way : Goes c.args.plan.now c.args.frames.now (Way.Child c.args.i c.args.opening) (Way.Child c.args.i c.args.opening)
-    = record {
-      agree = c.law_plan_lookups.ensures.agree;
-      paths = c.law_plan_lookups.ensures.paths;
-      work = c.requires.at_work;
-      may = (c.requires.opening, c.requires.admitted);
-      is = refl;
-      above = node_here c.args.plan.now c.args.frames.now.slots c.args.frames.now.stack;
-      above_is = refl;
-    } in
+    let here =
+    here_along c.law_plan_lookups.ensures.agree c.law_plan_lookups.ensures.paths c.law_plan_reach.ensures.reached c.law_plan_reach.ensures.nodes _ _ _ _ _ c.requires.at_work.ready in
+    let plain =
+    put_plain _ c.args.i v (top_tree c.args.frames.now) (full_tree _ _ (top_tree c.args.frames.now) here.suits) c.requires.admitted in
     record {
       are_open = record { plan = c.args.plan.now; are_open = open_then set };
       below = ap is_root set.stands.cursor ∙ never_root place c.args.i;
       not_item =
           ap (λ (p : Place). takes_at_end (tree_at p (whole_tree (now at)))) (ap up set.stands.cursor ∙ up_append place c.args.i)
           ∙ ap (λ (t : Tree). takes_at_end (tree_at place t)) set.stands.built
-          ∙ ap takes_at_end (made_here c.args.frames.now shown (put_child _ c.args.i v)) ∙ put_no_item way v;
+          ∙ ap takes_at_end (made_here c.args.frames.now shown (put_child _ c.args.i v)) ∙ plain.0;
+      not_source =
+          ap (λ (p : Place). is_begun_conversion (tree_at p (whole_tree (now at)))) (ap up set.stands.cursor ∙ up_append place c.args.i)
+          ∙ ap (λ (t : Tree). is_begun_conversion (tree_at place t)) set.stands.built
+          ∙ ap is_begun_conversion (made_here c.args.frames.now shown (put_child _ c.args.i v)) ∙ plain.1;
       holds_value = (v, tree_then c.enter.new.frames c.in_ok-enter.ensures.entered.stands.open_still (λ old. whole v) (child_set at));
       room = Room_conserved (held_in c.args.frames.now) _ (held_in (now at)) _ (keeps at) c.requires.room;
     }

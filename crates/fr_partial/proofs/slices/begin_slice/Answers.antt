@@ -12,7 +12,7 @@ kept_is : (c : After-keeps_items-kept) → is_some (kept_slice (mode_of c.args.f
     ≡ c.keeps_items-kept.result
 kept_is c =
     sym (slice_alike _ (top_tree c.args.frames.now) c.place_here.ensures.partial (mode_of c.args.frames.now.mode))
-    ∙ sym c.keeps_items-kept.ensures
+    ∙ sym c.keeps_items-kept.ensures.kept
 
 pub reform-requires-clause-is_open : goal.reform-requires-clause-is_open
 reform-requires-clause-is_open c = record { plan = c.args.plan.now; is_open = c.requires.at_work.ready.shown }

@@ -1,15 +1,27 @@
-use Rattle.std.proofs.Common.{◌≡◌, false, true, refl, sym, ap}
+use Rattle.std.proofs.Common.{◌≡◌, Bool, not, false, true, refl, sym, ap}
 use Rattle.fr_partial.specs.Common.{Change, Room, carried_by, held_in, top_tree, view, whole}
 use Rattle.fr_shape.specs.TokenLaws.{Room_left}
-use Rattle.fr_partial.proofs.KeepLaws.{are_open, became, kept_changed, kept_same, room_here}
+use Rattle.fr_partial.proofs.KeepLaws.{are_open, became, kept_changed, kept_same, room_here, unchanged_as}
+use Rattle.fr_partial.proofs.FitLaws.{both_true}
 use Rattle.fr_partial.proofs.KeptLaws.{on_ok}
 use Rattle.fr_partial.proofs.StayingLaws.{as_told, may_be, needs_none_so, none_carried}
 use Rattle.fr_partial.proofs.staying.change_top.Goals as goal
 use Rattle.fr_partial.proofs.staying.change_top.Goals.{Start}
 
+not_true : (b : Bool) → not b ≡ true → b ≡ false
+not_true false h = refl
+not_true true h = cc
+
 -- there is room without what the change carries
 room : (c : Start) → Room (held_in c.args.frames.now) c.args.ledger.now
 room c = Room_left (held_in c.args.frames.now) (carried_by c.args.change) c.args.ledger.now c.requires.room
+
+pub returns-in-Nothing : goal.returns-in-Nothing
+returns-in-Nothing c = record {
+  changed = as_told c.in-Nothing.is (unchanged_as (are_open c.requires.at_work) (λ old. old) refl);
+  memory = λ none. refl;
+  tokens = none_carried c.in-Nothing.is (λ t. refl) (kept_same _ _ c.args.ledger.now (λ t. refl));
+}
 
 pub set-requires-clause-is_open : goal.set-requires-clause-is_open
 set-requires-clause-is_open c = record { plan = c.args.plan.now; is_open = c.requires.at_work.ready.shown }
@@ -53,13 +65,21 @@ returns-in-PutChild c = record {
 pub open_here-requires : goal.open_here-requires
 open_here-requires c =
     let may = may_be c.in-Open.is c.args.frames.now c.requires.may in
-    record { at_work = c.requires.at_work; may_open = may.0; may_have = may.1; base = may.2 }
+    record {
+      at_work = c.requires.at_work;
+      may_open = may.0;
+      may_have = may.1;
+      base = may.2;
+      room = room (goal.at.open_here-requires c).Start;
+    }
 
 pub returns-in-Open : goal.returns-in-Open
 returns-in-Open c = record {
   changed = on_ok c.open_here.result (λ done. as_told c.in-Open.is done) c.open_here.ensures.changed;
-  memory = λ none. c.open_here.ensures.memory (needs_none_so c.in-Open.is (top_tree c.args.frames.now) none);
-  tokens = none_carried c.in-Open.is (λ t. refl) (kept_same _ _ c.args.ledger.now c.open_here.ensures.tokens);
+  memory = λ none.
+      let both = both_true _ _ (needs_none_so c.in-Open.is (top_tree c.args.frames.now) none) in
+      c.open_here.ensures.memory both.0 (not_true _ both.1);
+  tokens = none_carried c.in-Open.is (λ t. refl) c.open_here.ensures.tokens;
 }
 
 pub begin_variant-requires : goal.begin_variant-requires

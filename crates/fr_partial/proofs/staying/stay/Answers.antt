@@ -11,7 +11,7 @@ pub returns-in-Ok-clause-sound : goal.returns-in-Ok-clause-sound
 returns-in-Ok-clause-sound c =
     let state : State = (site c.args.parts.now).state in
     sound_moved c.requires.sound c.core.ensures c.in-Ok.ensures.changed c.saturating_add-parts.ensures
-    c.law_well.ensures.in_order c.law_well.ensures.rests no_hooks no_hooks_are_lawful c.requires.meant refl c.args.parts.now.path
+    c.law_well.ensures.in_order c.law_well.ensures.rests c.law_well.ensures.conversions no_hooks no_hooks_are_lawful c.requires.meant refl c.args.parts.now.path
     (c.requires.sound.path ∙ sym (c.law_paths.ensures.change state
     (changed c.args.parts.now.frames.table.now (shape_at (site c.args.parts.now)) state.mode (cursor_tree state) c.args.change)))
 

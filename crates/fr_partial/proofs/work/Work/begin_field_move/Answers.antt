@@ -1,8 +1,8 @@
 use Rattle.fr_partial.proofs.BeginLaws.{named_admitted, named_goes, named_unknown, named_unopened}
 use Rattle.fr_partial.proofs.work.Work.begin_field_move.Goals as goal
 
-pub opening_at-requires : goal.opening_at-requires
-opening_at-requires c = record {
+pub opening_at-opening-requires : goal.opening_at-opening-requires
+opening_at-opening-requires c = record {
   admitted =
       named_admitted c.place.ensures.seen c.args.name.now c.in_default.ensures _ c.selected.ensures _
       c.field_named.ensures c.in-Some-field_named.i c.in-Some-field_named.is;
@@ -14,7 +14,8 @@ returns-in-Some c = named_unopened c.place.ensures.seen c.args.name.now c.in-Som
 pub returns-in-Some-field_named : goal.returns-in-Some-field_named
 returns-in-Some-field_named c =
     named_goes c.place.ensures.seen c.args.name.now c.in_default.ensures _ c.selected.ensures _ c.field_named.ensures
-    c.in-Some-field_named.i c.in-Some-field_named.is c.opening_at.result c.opening_at.ensures.opening
+    c.in-Some-field_named.i c.in-Some-field_named.is c.opening_at-opening.result c.opening_at-opening.ensures.opening
+    c.child_way.result c.child_way.ensures.way
 
 pub returns-in-None : goal.returns-in-None
 returns-in-None c =

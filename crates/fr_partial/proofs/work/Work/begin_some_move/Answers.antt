@@ -20,7 +20,7 @@ returns c =
     (beginning_of_some site.state.mode content (cursor_tree site.state)) (option_kept site.shapes (shape_at site) site.state) refl
     refl (option_full def option)
     (some_wanted at (mode_of c.mode.result) c.beginning_of_some-beginning.result c.mode.ensures.mode c.in-Some.content.0
-    c.in-Some.ensures.content c.beginning_of_some-beginning.ensures)
+    c.in-Some.ensures.content c.beginning_of_some-beginning.ensures.kept)
     (may_begin_some site.state.mode content def (cursor_tree site.state) (full_here site c.law_sound.ensures.in_order))
     (kept_some_is site.state.mode content (cursor_tree site.state)) (λ hooks. rw option refl)
 

@@ -7,11 +7,11 @@ use Rattle.fr_partial.proofs.work.Work.init_map_move.Goals as goal
 
 pub returns-in-None-clause-decides : goal.returns-in-None-clause-decides
 returns-in-None-clause-decides c =
-    entries_begin c.place.ensures.seen c.law_sound.ensures.in_order c.if-is_dynamic.ensures c.in-None.ensures.refused
+    entries_begin c.place.ensures.seen c.law_sound.ensures.in_order c.if-is_dynamic.ensures.dynamic c.in-None.ensures.refused
 
 pub returns-in-None-2-clause-decides : goal.returns-in-None-2-clause-decides
 returns-in-None-2-clause-decides c =
-    map_begins c.place.ensures.seen c.law_sound.ensures.in_order c.if-is_dynamic.ensures c.in-None.ensures.refused
+    map_begins c.place.ensures.seen c.law_sound.ensures.in_order c.if-is_dynamic.ensures.dynamic c.in-None.ensures.refused
 
 pub returns-in-Some-clause-decides : goal.returns-in-Some-clause-decides
 returns-in-Some-clause-decides c =

@@ -8,19 +8,19 @@ use Rattle.fr_partial.proofs.work.Work.set_shape_move.Goals.{After-converts, Aft
 told : (c : After-converts) → converts_at c.args.self.now.shapes (shape_at c.args.self.now) c.args.value.shape ≡ c.converts.result
 told c =
     sym (converts_seen c.place.ensures.seen c.shape-actual.result.0 c.args.value.shape c.shape-actual.ensures.shape)
-    ∙ sym c.converts.ensures
+    ∙ sym c.converts.ensures.converted
 
 -- and whether it takes one as it is
 takes : (c : After-takes_shape) → takes_shape c.args.self.now.shapes (shape_at c.args.self.now) c.args.value.shape
     ≡ c.takes_shape.result
 takes c =
     sym (takes_seen c.place.ensures.seen c.shape-actual.result.0 c.args.value.shape c.shape-actual.ensures.shape)
-    ∙ sym c.takes_shape.ensures
+    ∙ sym c.takes_shape.ensures.taken
 
 as_other : (c : Then-converts) → converts_at c.args.self.now.shapes (shape_at c.args.self.now) c.args.value.shape ≡ true
 as_other c =
     sym (converts_seen c.place.ensures.seen c.shape-actual.result.0 c.args.value.shape c.shape-actual.ensures.shape)
-    ∙ sym c.converts.ensures ∙ c.if-converts.true
+    ∙ sym c.converts.ensures.converted ∙ c.if-converts.true
 
 pub converted-requires-clause-fits : goal.converted-requires-clause-fits
 converted-requires-clause-fits c =

@@ -42,7 +42,7 @@ returns-in-Ok-keep_root-clause-fits g c =
     let kept = kept_then _ (view c.in-Ok.value) c.in-Ok-keep_root.value c.in-Ok-keep_root.ensures.kept in
     ap (fits c.args.self.shapes c.args.self.root) kept.1
     ∙ fits_so (due g (goal.at.returns-in-Ok-keep_root-clause-fits g c).After-into_inner-plan) (g.H.Hooks.means c.args.hooks.now)
-    c.in-Ok.ensures.value c.law_completes.ensures.fits
+    c.in-Ok.ensures.value c.law_completes.ensures.fits (c.law_hooks.ensures.lawful c.args.hooks.now)
 
 pub returns-in-Ok-keep_root-clause-tokens : goal.returns-in-Ok-keep_root-clause-tokens
 returns-in-Ok-keep_root-clause-tokens g c =

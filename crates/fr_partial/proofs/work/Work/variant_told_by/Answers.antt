@@ -6,7 +6,7 @@ use Rattle.fr_partial.proofs.work.Work.variant_told_by.Goals as goal
 
 pub returns : goal.returns
 returns c =
-    looked_up c.law_plan_complete.ensures.complete c.law_plan_lookups.ensures.agree c.law_plan_lookups.ensures.paths c.self.invariant
+    looked_up c.law_plan_complete.ensures.complete c.law_plan_lookups.ensures.agree c.law_plan_lookups.ensures.paths c.law_plan_reach.ensures.reached c.law_plan_reach.ensures.nodes c.self.invariant
     c.self.view_is c.args.shape.0 c.requires (λ (def : Def). variant_told_by c.args.discriminant (variants_of def)) _ _ _ _
     c.deref.ensures c.deref-2.ensures c.core-plan.ensures (λ root checked inside planned reached.
     c.variant_told_by.ensures.first root checked inside planned reached

@@ -1,10 +1,12 @@
 use Rattle.std.proofs.Common.{◌-◌, suc, sym, subst, ap, ◌∙◌, arith}
 use Rattle.fr_frame.specs.declared.places.EntriesKind.{EntriesKind}
 use Rattle.fr_frame.specs.declared.places.Tracker.{Tracker}
-use Rattle.fr_partial.specs.Common.{HasItems, as_tracker, body_of, own_tree}
-use Rattle.fr_partial.proofs.LookLaws.{begun_items}
-use Rattle.fr_partial.proofs.MapLaws.{ends_some}
-use Rattle.fr_partial.proofs.maps.value_opening.Goals as goal
+use Rattle.fr_frame.specs.Bodies.{own_tree}
+use Rattle.fr_frame.specs.Heap.{as_tracker, body_of}
+use Rattle.fr_refusals.specs.Openings.{HasItems}
+use Rattle.fr_refusals.proofs.LookLaws.{begun_items}
+use Rattle.fr_refusals.proofs.LastLaws.{ends_some}
+use Rattle.fr_refusals.proofs.maps.value_opening.Goals as goal
 
 pub returns-in-Map-clause-items : goal.returns-in-Map-clause-items
 returns-in-Map-clause-items c =

@@ -3,8 +3,8 @@ use Rattle.std.specs.Prelude.{Option, [], is_some, if◌then◌else◌}
 use Rattle.fr_model.specs.DynamicPlaces.{array_anew, kept_array, kept_object, object_anew}
 use Rattle.fr_model.specs.Trackers.{Tracker, as_items, ItemsKind, as_entries, EntriesKind}
 use Rattle.fr_model.specs.Tree.{Tree, hole, entered, whole, begun}
-use Rattle.fr_partial.specs.declared.beginning.Beginning.{Beginning}
-use Rattle.fr_partial.specs.declared.dynamic_places.DynamicParts.{DynamicParts}
+use Rattle.fr_refusals.specs.declared.beginning.Beginning.{Beginning}
+use Rattle.fr_refusals.specs.declared.dynamic_places.DynamicParts.{DynamicParts}
 
 -- what is kept of what stands there
 abbrev pub kept_as : DynamicParts → Tree → Option Tree

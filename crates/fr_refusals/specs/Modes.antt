@@ -2,7 +2,7 @@
 use Rattle.std.specs.Prelude.{◌<◌, Bool, false, length, nat_lt}
 use Rattle.fr_model.specs.Places.{Place}
 use Rattle.fr_model.specs.Tree.{Mode as StateMode, strict, deferred}
-use Rattle.fr_partial.specs.declared.mode.Mode.{Mode}
+use Rattle.fr_refusals.specs.declared.mode.Mode.{Mode}
 
 abbrev pub mode_of : Mode → StateMode
 mode_of Mode.Strict = strict
