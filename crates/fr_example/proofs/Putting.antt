@@ -21,9 +21,9 @@ use Rattle.fr_model.specs.Complete.{complete}
 use Rattle.fr_model.specs.Converting.{converted}
 use Rattle.fr_model.specs.Items.{is_open_slice}
 use Rattle.fr_model.specs.Places.{strict_column, child_count, child_shape}
-use Rattle.fr_model.specs.Step.{unless_refused, at_shape, named_refusal, opened_as, opened, enter, enters_named, begins_named, set_refusal, puts, puts_dynamic, set_dynamic, set, puts_made, ended, step}
+use Rattle.fr_model.specs.Step.{unless_refused, at_shape, named_refusal, opened_as, opened, enter, enter_child, enters_named, begins_named, set_refusal, puts, puts_dynamic, set_dynamic, set, puts_made, ended, step}
 use Rattle.fr_model.specs.Trackers.{Tracker, as_fields}
-use Rattle.fr_model.specs.Tree.{tracker_at, selected, Tree, entered, whole, begun, Trees, child_as, change_nth, change_child, fresh, strict, State, one_more_call}
+use Rattle.fr_model.specs.Tree.{tracker_at, selected, Tree, entered, whole, begun, Trees, child_as, change_nth, change_child, fresh, without_source, strict, State, one_more_call}
 use Rattle.fr_model.specs.Variants.{field_found}
 use Rattle.fr_example.specs.declared.record.Pair.{Pair}
 use Rattle.fr_example.specs.Meant.{takes_text, refusal_at, refusal_of, is_found, text_in, text_at, given, last_given}
@@ -120,6 +120,18 @@ begun_struct : (table : Table) (root : ℕ) (struct : StructDef) (pairs : List P
 begun_struct table root struct [] is = rw is (struct_of_fresh struct (is_nil struct.fields))
 begun_struct table root struct (pair ∷ pairs) is = refl
 
+-- and is no conversion
+
+plain_fresh : (def : Def) (empty : Bool)
+    → without_source def (if empty then whole (product no_vals) else entered) ≡ (if empty then whole (product no_vals) else entered)
+plain_fresh def true = refl
+plain_fresh def false = refl
+
+no_source : (table : Table) (root : ℕ) (pairs : List Pair)
+    → without_source (def_of table root) (tree_of table root pairs) ≡ tree_of table root pairs
+no_source table root [] = plain_fresh (def_of table root) (is_empty_struct (def_of table root))
+no_source table root (pair ∷ pairs) = refl
+
 pub begins : (hooks : Meanings) (table : Table) (root : ℕ) (struct : StructDef) (name : List ℕ) (pairs : List Pair) (calls : ℕ)
     → def_of table root ≡ Def.Struct struct
     → step hooks table root (filling table root pairs calls) (Call.BeginField name)
@@ -145,6 +157,15 @@ pub entered_field : (table : Table) (root : ℕ) (struct : StructDef) (i : ℕ) 
     ≡ Ok (at_field i (with_entered table root pairs i) (one_more_call calls))
 entered_field table root struct i pairs calls is below =
     ap
+    (λ (t : Tree).
+    Ok (record {
+      tree = enter_child table root i t;
+      cursor = i ∷ [];
+      mode = strict;
+      calls = one_more_call calls;
+    }))
+    (no_source table root pairs)
+    ∙ ap
     (λ (tracker : Tracker).
     Ok (record {
       tree =

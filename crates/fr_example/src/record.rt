@@ -6,7 +6,6 @@ ghost use Rattle.fr_shape.specs.Checked.{IsChecked};
 ghost use Rattle.fr_shape.specs.Fits.{fits};
 ghost use Rattle.fr_shape.specs.Look.{def_of};
 ghost use Rattle.fr_shape.specs.Numbered.{IsNumbered};
-ghost use Rattle.fr_model.specs.Served.{IsServed};
 ghost use Rattle.fr_model.specs.Tree.{most_calls};
 ghost use Rattle.fr_partial.specs.Builder.{holds, IsStepTo};
 ghost use Rattle.fr_example.specs.Meant.{is_struct, kind_of, record_meant, IsMeant, TellsPlace};
@@ -51,7 +50,6 @@ pub fn record_of<H: Hooks>(
     requires string { def_of table.now string.0 ≡ Def.Scalar ScalarKind.String }
     requires numbered { IsNumbered table.now }
     requires checked { IsChecked table.now }
-    requires served { IsServed table.now }
     ensures meant { IsMeant (record_meant (H.means hooks.now) table.now root.0 string.0 pairs)
         result }
     ensures place { IfErr result (TellsPlace table.now root.0 string.0 pairs) }

@@ -9,7 +9,7 @@ use Rattle.fr_model.specs.Commands.{IsFieldScript}
 use Rattle.fr_model.specs.Run.{Refusal}
 use Rattle.fr_model.specs.Scripts.{brought}
 use Rattle.fr_model.specs.Settled.{IsSettled}
-use Rattle.fr_script.specs.DocumentFacts.{IsBuildable}
+use Rattle.fr_script.specs.DocumentFacts.{IsInOrder}
 use Rattle.fr_script.specs.Documents.{Document}
 use Rattle.fr_script.specs.Headline.{IsBuiltRightly, IsRefusedRightly, completed}
 use Rattle.fr_script.specs.Outcomes.{is_want_of_memory}
@@ -22,7 +22,7 @@ not_memory kind other e =
     let yes : is_want_of_memory kind ≡ true = ap is_want_of_memory e in
     cc
 
-module _ (document : Document) (buildable : IsBuildable document) (before after released : List ℕ)
+module _ (document : Document) (in_order : IsInOrder document) (before after released : List ℕ)
     (new : before ≡ replicate document.tokens 0) (counted : released ≡ counted_once 0 after) where
   settled_new : (answered : ℕ → ℕ) → IsSettled (brought document.script) before answered after
       → IsSettled (brought document.script) (replicate document.tokens 0) answered after
@@ -34,7 +34,7 @@ module _ (document : Document) (buildable : IsBuildable document) (before after 
   built_outcome v ran settled =
       ap (built v)
       (counted
-      ∙ released_tokens document.shapes document.script document.tokens after (occurs v) buildable.in_order.valid
+      ∙ released_tokens document.shapes document.script document.tokens after (occurs v) in_order.valid
       (settled_new (occurs v) settled))
       ∙ ap (outcome_of_run document) (sym ran)
 
@@ -45,7 +45,7 @@ module _ (document : Document) (buildable : IsBuildable document) (before after 
     fits = fitting;
     tokens =
         subst (StandOnce (brought document.script) (occurs v)) (sym counted)
-        (stand_once document.shapes document.script document.tokens after (occurs v) buildable.in_order.valid
+        (stand_once document.shapes document.script document.tokens after (occurs v) in_order.valid
         (settled_new (occurs v) settled));
   }
 
@@ -55,7 +55,7 @@ module _ (document : Document) (buildable : IsBuildable document) (before after 
   refused_outcome refusal ran settled =
       ap (refused refusal)
       (counted
-      ∙ released_tokens document.shapes document.script document.tokens after none_answered buildable.in_order.valid
+      ∙ released_tokens document.shapes document.script document.tokens after none_answered in_order.valid
       (settled_new none_answered settled))
       ∙ ap (outcome_of_run document) (sym ran)
 
@@ -65,6 +65,6 @@ module _ (document : Document) (buildable : IsBuildable document) (before after 
     journal = journal;
     tokens =
         subst (StandOnce (brought document.script) none_answered) (sym counted)
-        (stand_once document.shapes document.script document.tokens after none_answered buildable.in_order.valid
+        (stand_once document.shapes document.script document.tokens after none_answered in_order.valid
         (settled_new none_answered settled));
   }

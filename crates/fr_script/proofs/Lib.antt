@@ -1,9 +1,9 @@
 pub mod AnswerLaws
 pub mod Arguments
 pub mod BroughtLaws
-pub mod Buildable
 pub mod FirstInvalids
 pub mod FloatFree
+pub mod InOrder
 pub mod MarkLaws
 pub mod MemberLaws
 pub mod PlanLaws

@@ -28,7 +28,7 @@ use Rattle.fr_doc.specs.declared.fault.DocFault.{DocFault}
 use Rattle.fr_doc.specs.Details.{name_in}
 use Rattle.fr_shape.specs.Plannable.{IsPlannable}
 use Rattle.fr_plan.specs.RefusalLaws.{refusal_in, RefusesFirst, PlansPlannable}
-use Rattle.fr_script.proofs.Buildable.{document_in_order}
+use Rattle.fr_script.proofs.InOrder.{document_in_order}
 use Rattle.fr_plan.specs.Build.{Built, Made, planned as the_plan}
 use Rattle.fr_plan.specs.TypePlan.{Plan, IsPlanOf}
 use Rattle.fr_shape.specs.declared.error.AllocError.{AllocError}
@@ -162,7 +162,6 @@ module _ (refuses : RefusesFirst) (plans : PlansPlannable) where
   in_any_case Subcommand.Build (Err fault) known none = absurd none
   in_any_case Subcommand.Plan (Err fault) known none = absurd none
 
-  pub succeeds : (subcommand : Subcommand) (bytes : List ℕ) → Succeeds subcommand (document_of subcommand bytes)
+  pub succeeds : (subcommand : Subcommand) (bytes : List ℕ) → Succeeds subcommand (document_of bytes)
       → status_of (outcome_of subcommand bytes) ≡ 0
-  succeeds subcommand bytes =
-      in_any_case subcommand (document_of subcommand bytes) (λ document is. (document_in_order subcommand bytes document is).0)
+  succeeds subcommand bytes = in_any_case subcommand (document_of bytes) (document_in_order bytes)

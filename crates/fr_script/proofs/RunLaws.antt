@@ -1,10 +1,13 @@
 -- A command that is admitted: the run goes on behind it, with one call more.
-use Rattle.std.proofs.Common.{◌≡◌, ℕ, ◌+◌, ◌==◌, Bool, true, false, if◌then◌else◌, List, length, nat_lt, ◌∷◌, Option, Some, None, Result, Ok, Err, refl, sym, ap, ◌∙◌, subst}
+use Rattle.std.proofs.Common.{◌≡◌, ℕ, ◌+◌, ◌==◌, Bool, true, false, if◌then◌else◌, List, length, nat_lt, slice_get, ◌∷◌, Option, Some, None, Result, Ok, Err, refl, sym, ap, ◌∙◌, subst}
 use Rattle.fr_shape.specs.declared.error.Expected.{Expected}
 use Rattle.fr_shape.specs.declared.error.Invariant.{Invariant}
 use Rattle.fr_shape.specs.declared.error.Operation.{Operation}
 use Rattle.fr_shape.specs.declared.error.ReflectErrorKind.{ReflectErrorKind}
 use Rattle.fr_shape.specs.declared.shape.Field.{Field}
+use Rattle.fr_shape.specs.declared.shape.HookId.{HookId}
+use Rattle.fr_shape.specs.declared.shape.ProxyDef.{ProxyDef}
+use Rattle.fr_shape.specs.declared.shape.ShapeId.{ShapeId}
 use Rattle.fr_shape.specs.Fills.{preset_of, is_option}
 use Rattle.fr_shape.specs.Hooks.{Meaning, gives, refuses, unsupported, Meanings}
 use Rattle.fr_shape.specs.Look.{Table, def_of, field_in, variants_of}
@@ -13,6 +16,7 @@ use Rattle.fr_shape.specs.Val.{Val, Dynamic, list_of, ptr, no_vals}
 use Rattle.fr_model.specs.Collections.{key_refusal, value_refusal, last_of, set_item_refusal}
 use Rattle.fr_model.specs.Commands.{Call}
 use Rattle.fr_model.specs.Complete.{complete}
+use Rattle.fr_model.specs.Conversions.{source_in, convert_in, by_wrapper, proxy_of_field, proxy_at}
 use Rattle.fr_model.specs.Converting.{converted}
 use Rattle.fr_model.specs.DynamicPlaces.{entry_refusal}
 use Rattle.fr_model.specs.Contents.{is_result, pointer_refusal, points_to_slice}
@@ -21,9 +25,9 @@ use Rattle.fr_model.specs.Items.{init_array_refusal, item_refusal, is_open_slice
 use Rattle.fr_model.specs.Parses.{text_meant, bytes_meant}
 use Rattle.fr_model.specs.Places.{Column, strict_column, deferred_column, is_root}
 use Rattle.fr_model.specs.Run.{run_from, and_then}
-use Rattle.fr_model.specs.Step.{unless_refused, operation_failed, at_shape, was_not_a, field_refusal, named_refusal, set_refusal, Way, enters, begins_named, puts, puts_default, puts_parsed, field_default, puts_child_default, defaults_field, puts_dynamic, set_dynamic, begins_list, begins_map, init_list, option_kept, content_kept, begins_pointer, opens, init_list_refusal, init_map_refusal, init_set_refusal, is_set_item, item_ended, ends_item, is_dynamic_part, part_ended, leaves_deferred, selects, select_found, ended, end_in, leaves_place, puts_made, closes_slice, begins_deferred, finishes, finish_in, violates, step_at, step}
-use Rattle.fr_model.specs.Trackers.{as_content, ContentKind}
-use Rattle.fr_model.specs.Tree.{selected, Tree, Mode, strict, deferred, State, count_below, cursor_shape, cursor_tree, one_more_call}
+use Rattle.fr_model.specs.Step.{begins_converted, begins_inner, begins_by_proxy, begins_if_proxied, begin_custom_deserialization, begin_custom_deserialization_from_shape, unless_refused, operation_failed, at_shape, was_not_a, field_refusal, named_refusal, set_refusal, Way, enters, begins_named, puts, puts_default, puts_parsed, field_default, puts_child_default, defaults_field, puts_dynamic, set_dynamic, begins_list, begins_array, begins_map, init_list, option_kept, content_kept, begins_pointer, opens, init_list_refusal, init_map_refusal, init_set_refusal, is_set_item, item_ended, ends_item, is_dynamic_part, part_ended, leaves_deferred, selects, select_found, ended, above, ends_source, is_source_place, end_in, leaves_place, puts_made, closes_slice, begins_deferred, finishes, finish_in, violates, step_at, step}
+use Rattle.fr_model.specs.Trackers.{as_content, ContentKind, Conversion}
+use Rattle.fr_model.specs.Tree.{selected, Tree, Mode, strict, deferred, State, count_below, cursor_field, cursor_shape, cursor_tree, fresh, one_more_call}
 use Rattle.fr_model.specs.Variants.{is_enum, field_found, variant_numbered, variant_named, variant_told_by, selection_refusal}
 
 -- the same command over the same hooks, table and root
@@ -140,6 +144,39 @@ module _ (hooks : Meanings) (table : Table) (root s : ℕ) (state : State) where
       unless_counts (at_shape s (selection_refusal (def_of table s) k)) (selects table s state k) refl
   found_counts None unknown = tt
 
+  -- conversions
+
+  converted_counts : (of_option : Bool) (conversion : Conversion)
+      → (begins_converted table s state of_option conversion).calls ≡ one_more_call state.calls
+  converted_counts true conversion = refl
+  converted_counts false conversion = refl
+
+  inner_counts : (source : Option ShapeId) (convert : Option HookId)
+      → Counts (one_more_call state.calls) (begins_inner table s state source convert)
+  unfolding Counts
+  inner_counts None convert = tt
+  inner_counts (Some source) None =
+      unless_counts (at_shape s (field_refusal (def_of table s) (fresh (def_of table s)) 0)) (enters table s state (Way.Anew 0)) refl
+  inner_counts (Some source) (Some hook) = converted_counts (is_option (def_of table s)) (by_wrapper hook source)
+
+  proxy_counts : (proxy : Result ProxyDef Operation) → Counts (one_more_call state.calls) (begins_by_proxy table s state proxy)
+  unfolding Counts
+  proxy_counts (Ok proxy) = refl
+  proxy_counts (Err operation) = tt
+
+  proxied_counts : (proxy : Option ProxyDef) → (begins_if_proxied table s state proxy).calls ≡ one_more_call state.calls
+  proxied_counts (Some proxy) = refl
+  proxied_counts None = refl
+
+  field_proxy_counts : (format : Option (List ℕ))
+      → Counts (one_more_call state.calls) (begin_custom_deserialization table root s state format)
+  field_proxy_counts format = proxy_counts (proxy_of_field format (cursor_field table root state))
+
+  shape_proxy_counts : (format : Option (List ℕ))
+      → Counts (one_more_call state.calls) (Ok (begin_custom_deserialization_from_shape table root s state format))
+  unfolding Counts
+  shape_proxy_counts format = proxied_counts (proxy_at table s (cursor_field table root state) format)
+
   select_counts : (allowed : Bool) (found : Option ℕ) (unknown : Operation)
       → Counts (one_more_call state.calls)
       (if allowed then select_found table s state found unknown else Err (was_not_a Expected.Enum s))
@@ -168,12 +205,24 @@ module _ (hooks : Meanings) (table : Table) (root s : ℕ) (state : State) where
   leaves_counts true = part_counts (complete deferred_column hooks table s (cursor_tree state))
   leaves_counts false = refl
 
-  strict_counts : (of_set : Bool)
+  source_counts : (t : ℕ) (value : Option Val) → Counts (one_more_call state.calls) (puts_made hooks table t (above state) value)
+  unfolding Counts
+  source_counts t (Some v) = refl
+  source_counts t None = tt
+
+  ends_source_counts : Counts (one_more_call state.calls) (ends_source hooks table root state)
+  ends_source_counts =
+      source_counts (cursor_shape table root (above state))
+      (complete strict_column hooks table (cursor_shape table root (above state)) (cursor_tree (above state)))
+
+  strict_counts : (of_set of_source : Bool)
       → Counts (one_more_call state.calls)
       (if of_set then ends_item strict_column hooks table s state
+      else if of_source then ends_source hooks table root state
       else ended hooks table s state (complete strict_column hooks table s (cursor_tree state)))
-  strict_counts true = item_counts strict_column (complete strict_column hooks table s (cursor_tree state))
-  strict_counts false = ended_counts (complete strict_column hooks table s (cursor_tree state))
+  strict_counts true of_source = item_counts strict_column (complete strict_column hooks table s (cursor_tree state))
+  strict_counts false true = ends_source_counts
+  strict_counts false false = ended_counts (complete strict_column hooks table s (cursor_tree state))
 
   deferred_counts : (of_set : Bool)
       → Counts (one_more_call state.calls)
@@ -192,13 +241,13 @@ module _ (hooks : Meanings) (table : Table) (root s : ℕ) (state : State) where
   left_counts true = deferred_counts (is_set_item state)
   left_counts false = tt
 
-  end_in_counts : (mode : Mode) → Counts (one_more_call state.calls) (end_in hooks table s state mode)
-  end_in_counts strict = strict_counts (is_set_item state)
+  end_in_counts : (mode : Mode) → Counts (one_more_call state.calls) (end_in hooks table root s state mode)
+  end_in_counts strict = strict_counts (is_set_item state) (is_source_place state)
   end_in_counts (deferred start) = left_counts (nat_lt start (length state.cursor))
 
   leave_counts : (at_root : Bool)
       → Counts (one_more_call state.calls)
-      (if at_root then Err (violates Invariant.EndAtRoot) else end_in hooks table s state state.mode)
+      (if at_root then Err (violates Invariant.EndAtRoot) else end_in hooks table root s state state.mode)
   unfolding Counts
   leave_counts true = tt
   leave_counts false = end_in_counts state.mode
@@ -215,7 +264,7 @@ module _ (hooks : Meanings) (table : Table) (root s : ℕ) (state : State) where
 
   end_counts : (open_slice : Bool)
       → Counts (one_more_call state.calls)
-      (if open_slice then closes_slice hooks table s state state.mode else leaves_place hooks table s state)
+      (if open_slice then closes_slice hooks table s state state.mode else leaves_place hooks table root s state)
   end_counts true = close_counts state.mode
   end_counts false = leave_counts (is_root state.cursor)
 
@@ -254,7 +303,7 @@ module _ (hooks : Meanings) (table : Table) (root s : ℕ) (state : State) where
   step_counts Call.InitList = list_counts
   step_counts (Call.InitListWithCapacity n) = list_counts
   step_counts Call.InitArray =
-      unless_counts (at_shape s (init_array_refusal (def_of table s) (cursor_tree state))) (opens table s state) refl
+      unless_counts (at_shape s (init_array_refusal (def_of table s) (cursor_tree state))) (begins_array table s state) refl
   step_counts Call.BeginListItem =
       unless_counts (at_shape s (item_refusal (def_of table s) (cursor_tree state))) (enters table s state Way.Item) refl
   step_counts Call.InitMap =
@@ -284,6 +333,11 @@ module _ (hooks : Meanings) (table : Table) (root s : ℕ) (state : State) where
       unless_counts (at_shape s (pointer_refusal table (def_of table s)))
       (begins_pointer table s state (points_to_slice table (def_of table s)))
       (pointer_counts (points_to_slice table (def_of table s)))
+  step_counts Call.BeginInner = inner_counts (source_in (slice_get table s)) (convert_in (slice_get table s))
+  step_counts Call.BeginCustomDeserialization = field_proxy_counts None
+  step_counts (Call.BeginCustomDeserializationWithFormat format) = field_proxy_counts format
+  step_counts Call.BeginCustomDeserializationFromShape = shape_proxy_counts None
+  step_counts (Call.BeginCustomDeserializationFromShapeWithFormat format) = shape_proxy_counts format
   step_counts (Call.SelectNthVariant i) =
       select_counts (is_enum (def_of table s)) (variant_numbered i (variants_of (def_of table s)))
       Operation.VariantIndexOutOfBounds

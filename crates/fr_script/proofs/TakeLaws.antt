@@ -14,15 +14,14 @@ use Rattle.fr_script.specs.Documents.{document_of}
 use Rattle.fr_script.specs.Reports.{outcome_of, outcome_of_document, report_of, report_of_document}
 
 -- n stands for the most that is read, which is too large to compute with
-pub at_limit : (subcommand : Subcommand) (n : ℕ) (bytes : List ℕ) → n ≡ DOCUMENT_LIMIT + 1
-    → document_of subcommand (take n bytes) ≡ document_of subcommand bytes
+pub at_limit : (n : ℕ) (bytes : List ℕ) → n ≡ DOCUMENT_LIMIT + 1 → document_of (take n bytes) ≡ document_of bytes
 unfolding document_of
-at_limit subcommand n bytes e = go (nat_lt (length bytes) n) refl
+at_limit n bytes e = go (nat_lt (length bytes) n) refl
   where
-    go : (b : Bool) → nat_lt (length bytes) n ≡ b → document_of subcommand (take n bytes) ≡ document_of subcommand bytes
+    go : (b : Bool) → nat_lt (length bytes) n ≡ b → document_of (take n bytes) ≡ document_of bytes
     go true short =
         let below : length bytes < n = ltb-true (length bytes) n short in
-        ap (document_of subcommand) (take_all n bytes (omega arith))
+        ap document_of (take_all n bytes (omega arith))
     go false long =
         let beyond : n ≤ length bytes = ltb-false (length bytes) n long in
         let cut : length (take n bytes) ≡ n = simp length-take (omega arith) in
@@ -33,11 +32,11 @@ at_limit subcommand n bytes e = go (nat_lt (length bytes) n) refl
 
 pub outcome_at_limit : (subcommand : Subcommand) (n : ℕ) (bytes : List ℕ) → n ≡ DOCUMENT_LIMIT + 1
     → outcome_of subcommand (take n bytes) ≡ outcome_of subcommand bytes
-outcome_at_limit subcommand n bytes e = ap (outcome_of_document subcommand) (at_limit subcommand n bytes e)
+outcome_at_limit subcommand n bytes e = ap (outcome_of_document subcommand) (at_limit n bytes e)
 
 pub report_at_limit : (subcommand : Subcommand) (n : ℕ) (bytes : List ℕ) → n ≡ DOCUMENT_LIMIT + 1
     → report_of subcommand (take n bytes) ≡ report_of subcommand bytes
-report_at_limit subcommand n bytes e = ap (report_of_document subcommand) (at_limit subcommand n bytes e)
+report_at_limit subcommand n bytes e = ap (report_of_document subcommand) (at_limit n bytes e)
 
 -- what was read of a source is what it doesn't have any more
 pub loses : (n : ℕ) (before after : Option (List ℕ)) → after ≡ option_map (drop n) before → LosesAtMost n before after

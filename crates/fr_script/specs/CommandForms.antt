@@ -1,5 +1,4 @@
--- The calls that JSON stands for: an array of the call's name and its arguments. Other calls will follow; so far each
--- is broken.
+-- The calls that JSON stands for: an array of the call's name and its arguments.
 use Rattle.std.specs.Prelude.{ℕ, List, Option, Some, None, codes, option_map, if◌then◌else◌}
 use Rattle.std.specs.Str.{bytes_eq}
 use Rattle.serde_json.specs.Data.{Data, string, array, no_items, item}
@@ -28,6 +27,14 @@ call_of_none word =
     if bytes_eq word (codes "begin_ok") then Some Call.BeginOk else
     if bytes_eq word (codes "begin_err") then Some Call.BeginErr else
     if bytes_eq word (codes "begin_smart_ptr") then Some Call.BeginSmartPtr else
+    if bytes_eq word (codes "begin_inner") then Some Call.BeginInner else
+    if bytes_eq word (codes "begin_custom_deserialization") then Some Call.BeginCustomDeserialization else
+    if bytes_eq word (codes "begin_custom_deserialization_with_format")
+    then Some (Call.BeginCustomDeserializationWithFormat None) else
+    if bytes_eq word (codes "begin_custom_deserialization_from_shape")
+    then Some Call.BeginCustomDeserializationFromShape else
+    if bytes_eq word (codes "begin_custom_deserialization_from_shape_with_format")
+    then Some (Call.BeginCustomDeserializationFromShapeWithFormat None) else
     if bytes_eq word (codes "begin_deferred") then Some Call.BeginDeferred else
     if bytes_eq word (codes "finish_deferred") then Some Call.FinishDeferred else None
 
@@ -48,6 +55,10 @@ call_of_one word a =
     if bytes_eq word (codes "select_variant_named") then option_map Call.SelectVariantNamed (as_str a) else
     if bytes_eq word (codes "parse_from_str") then option_map Call.ParseFromStr (as_str a) else
     if bytes_eq word (codes "parse_from_bytes") then option_map Call.ParseFromBytes (bytes_form a) else
+    if bytes_eq word (codes "begin_custom_deserialization_with_format")
+    then option_map (λ format. Call.BeginCustomDeserializationWithFormat (Some format)) (as_str a) else
+    if bytes_eq word (codes "begin_custom_deserialization_from_shape_with_format")
+    then option_map (λ format. Call.BeginCustomDeserializationFromShapeWithFormat (Some format)) (as_str a) else
     call_of_number word a
 
 -- a call with two arguments

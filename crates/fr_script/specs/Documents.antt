@@ -11,7 +11,6 @@ use Rattle.fr_shape.specs.declared.shape.Shape.{Shape}
 use Rattle.fr_shape.specs.Look.{Table}
 use Rattle.fr_shape.specs.Faults.{rules_of}
 use Rattle.fr_shape.specs.Fits.{fits}
-use Rattle.fr_model.specs.Served.{serves}
 use Rattle.fr_shape.specs.Tokens.{tokens}
 use Rattle.fr_shape.specs.Val.{Val}
 use Rattle.fr_doc.specs.declared.fault.DocFault.{DocFault}
@@ -22,9 +21,9 @@ use Rattle.fr_doc.specs.FaultSteps.{◌>>=◌, each_at}
 use Rattle.fr_doc.specs.Numerals.{whole_number}
 use Rattle.fr_doc.specs.ShapeForms.{shape_at}
 use Rattle.fr_model.specs.Commands.{Call}
+use Rattle.fr_model.specs.Conversions.{has_proxies}
 use Rattle.fr_model.specs.Scripts.{value_brought, tokens_of}
 use Rattle.fr_script.specs.declared.sizes.TheConstants.{SHAPE_LIMIT, PART_LIMIT, COMMAND_LIMIT, TOKEN_LIMIT, DEPTH_LIMIT}
-use Rattle.fr_script.specs.declared.subcommand.Subcommand.{Subcommand}
 use Rattle.fr_script.specs.CommandForms.{call_form}
 use Rattle.fr_script.specs.Members.{members_form}
 
@@ -69,25 +68,14 @@ unfoldable pub script_form : Data → Result (List Call) DocFault
 script_form (array ds) = each_at call_at 0 ds
 script_form _ = Err (DocFault.BadForm DocPlace.Commands)
 
--- the shapes that a subcommand takes: `plan` takes all, `build` those that the builder serves so far
-abbrev pub takes : Subcommand → Shape → Bool
-takes Subcommand.Build shape = serves shape
-takes Subcommand.Plan shape = true
+unfoldable pub shapes_form : Data → Result Table DocFault
+shapes_form (array ds) = each_at shape_at 0 ds
+shapes_form _ = Err (DocFault.BadForm DocPlace.Shapes)
 
-unfoldable pub shape_for : Subcommand → ℕ → Data → Result Shape DocFault
-shape_for subcommand i d = do
-  shape ← shape_at i d
-  _ ← asks (takes subcommand shape) (DocFault.BadForm (DocPlace.Shape i))
-  Ok shape
-
-unfoldable pub shapes_for : Subcommand → Data → Result Table DocFault
-shapes_for subcommand (array ds) = each_at (shape_for subcommand) 0 ds
-shapes_for subcommand _ = Err (DocFault.BadForm DocPlace.Shapes)
-
-unfoldable pub document_form : Subcommand → Data → Result Document DocFault
-document_form subcommand d = do
+unfoldable pub document_form : Data → Result Document DocFault
+document_form d = do
   members ← broken DocPlace.Document (members_form d)
-  shapes ← shapes_for subcommand members.shapes
+  shapes ← shapes_form members.shapes
   root ← root_form (length shapes) members.root
   tokens ← tokens_form members.tokens
   script ← script_form members.commands
@@ -118,36 +106,46 @@ part_count Def.Other = 0
 abbrev pub part_total : Table → ℕ
 part_total shapes = sum_by (λ shape. part_count shape.def) shapes
 
--- how many places a call enters: one where its name begins with `begin_`, but for `begin_deferred`, which enters none
-abbrev pub begins : Call → ℕ
-begins (Call.BeginField name) = 1
-begins (Call.BeginNthField i) = 1
-begins (Call.SetNthFieldToDefault i) = 0
-begins (Call.Set shape v) = 0
-begins Call.SetDefault = 0
-begins (Call.ParseFromStr text) = 0
-begins (Call.ParseFromBytes bytes) = 0
-begins Call.SetEmptySharedSlice = 0
-begins Call.InitList = 0
-begins (Call.InitListWithCapacity n) = 0
-begins Call.InitArray = 0
-begins Call.BeginListItem = 1
-begins Call.InitMap = 0
-begins Call.BeginKey = 1
-begins Call.BeginValue = 1
-begins Call.InitSet = 0
-begins Call.BeginSetItem = 1
-begins (Call.BeginObjectEntry key) = 1
-begins Call.BeginSome = 1
-begins Call.BeginOk = 1
-begins Call.BeginErr = 1
-begins Call.BeginSmartPtr = 1
-begins (Call.SelectNthVariant i) = 0
-begins (Call.SelectVariantNamed name) = 0
-begins (Call.SelectVariant discriminant) = 0
-begins Call.End = 0
-begins Call.BeginDeferred = 0
-begins Call.FinishDeferred = 0
+-- some shape has a proxy, for whatever format
+abbrev pub has_proxied : Table → Bool
+has_proxied shapes = list_any (λ (shape : Shape). has_proxies shape.proxy shape.format_proxies) shapes
+
+-- How many places a call may enter, over a table in which some shape has a proxy or none has: one where its name begins with
+-- `begin_`. But `begin_deferred` enters none, and neither do those from the shape where no shape has a proxy.
+abbrev pub begins : (proxied : Bool) → Call → ℕ
+begins proxied (Call.BeginField name) = 1
+begins proxied (Call.BeginNthField i) = 1
+begins proxied (Call.SetNthFieldToDefault i) = 0
+begins proxied (Call.Set shape v) = 0
+begins proxied Call.SetDefault = 0
+begins proxied (Call.ParseFromStr text) = 0
+begins proxied (Call.ParseFromBytes bytes) = 0
+begins proxied Call.SetEmptySharedSlice = 0
+begins proxied Call.InitList = 0
+begins proxied (Call.InitListWithCapacity n) = 0
+begins proxied Call.InitArray = 0
+begins proxied Call.BeginListItem = 1
+begins proxied Call.InitMap = 0
+begins proxied Call.BeginKey = 1
+begins proxied Call.BeginValue = 1
+begins proxied Call.InitSet = 0
+begins proxied Call.BeginSetItem = 1
+begins proxied (Call.BeginObjectEntry key) = 1
+begins proxied Call.BeginSome = 1
+begins proxied Call.BeginOk = 1
+begins proxied Call.BeginErr = 1
+begins proxied Call.BeginSmartPtr = 1
+begins proxied Call.BeginInner = 1
+begins proxied Call.BeginCustomDeserialization = 1
+begins proxied (Call.BeginCustomDeserializationWithFormat format) = 1
+begins proxied Call.BeginCustomDeserializationFromShape = if proxied then 1 else 0
+begins proxied (Call.BeginCustomDeserializationFromShapeWithFormat format) = if proxied then 1 else 0
+begins proxied (Call.SelectNthVariant i) = 0
+begins proxied (Call.SelectVariantNamed name) = 0
+begins proxied (Call.SelectVariant discriminant) = 0
+begins proxied Call.End = 0
+begins proxied Call.BeginDeferred = 0
+begins proxied Call.FinishDeferred = 0
 
 -- how many places it leaves
 abbrev pub ends : Call → ℕ
@@ -173,6 +171,11 @@ ends Call.BeginSome = 0
 ends Call.BeginOk = 0
 ends Call.BeginErr = 0
 ends Call.BeginSmartPtr = 0
+ends Call.BeginInner = 0
+ends Call.BeginCustomDeserialization = 0
+ends (Call.BeginCustomDeserializationWithFormat format) = 0
+ends Call.BeginCustomDeserializationFromShape = 0
+ends (Call.BeginCustomDeserializationFromShapeWithFormat format) = 0
 ends (Call.SelectNthVariant i) = 0
 ends (Call.SelectVariantNamed name) = 0
 ends (Call.SelectVariant discriminant) = 0
@@ -181,11 +184,11 @@ ends Call.BeginDeferred = 0
 ends Call.FinishDeferred = 0
 
 -- after some call there were more begins than ends by over the limit
-abbrev pub too_deep : (begun ended : ℕ) → List Call → Bool
-too_deep begun ended [] = false
-too_deep begun ended (call ∷ calls) =
-    if nat_lt (ended + ends call + DEPTH_LIMIT) (begun + begins call) then true
-    else too_deep (begun + begins call) (ended + ends call) calls
+abbrev pub too_deep : (proxied : Bool) → (begun ended : ℕ) → List Call → Bool
+too_deep proxied begun ended [] = false
+too_deep proxied begun ended (call ∷ calls) =
+    if nat_lt (ended + ends call + DEPTH_LIMIT) (begun + begins proxied call) then true
+    else too_deep proxied (begun + begins proxied call) (ended + ends call) calls
 
 unfoldable pub sizes_pass : Document → Result (Unit {0}) DocFault
 sizes_pass document = do
@@ -193,7 +196,7 @@ sizes_pass document = do
   _ ← at_most PART_LIMIT (part_total document.shapes) (DocFault.TooLarge DocSize.Fields)
   _ ← at_most COMMAND_LIMIT (length document.script) (DocFault.TooLarge DocSize.Commands)
   _ ← at_most TOKEN_LIMIT document.tokens (DocFault.TooLarge DocSize.Tokens)
-  asks (not (too_deep 0 0 document.script)) (DocFault.TooLarge DocSize.Depth)
+  asks (not (too_deep (has_proxied document.shapes) 0 0 document.script)) (DocFault.TooLarge DocSize.Depth)
 
 -- The table's rules: the smallest of the nine that is broken, at the first entry that breaks it.
 
@@ -256,13 +259,13 @@ script_passes document =
 abbrev pub tree_of : List ℕ → Option Data
 tree_of bytes = if is_utf8 bytes then read bytes else None
 
--- the document that bytes are to a subcommand, or their first fault
-unfoldable pub document_of : Subcommand → List ℕ → Result Document DocFault
-document_of subcommand bytes = do
+-- the document that bytes are, or their first fault
+unfoldable pub document_of : List ℕ → Result Document DocFault
+document_of bytes = do
   _ ← at_most DOCUMENT_LIMIT (length bytes) DocFault.TooLong
   d ← ok_or (tree_of bytes) DocFault.NotJson
   _ ← asks (not (has_float d)) DocFault.HasFloat
-  document ← document_form subcommand d
+  document ← document_form d
   _ ← sizes_pass document
   _ ← rules_pass document.shapes
   _ ← script_passes document

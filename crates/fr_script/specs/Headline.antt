@@ -46,7 +46,7 @@ KeepsPromise (Err fault) (faulty other) = fault ≡ other
 
 -- what is promised of the outcome of some bytes: under `plan` there is nothing to keep
 abbrev pub IsPromised : Subcommand → List ℕ → Type 0
-IsPromised Subcommand.Build bytes = KeepsPromise (document_of Subcommand.Build bytes) (outcome_of Subcommand.Build bytes)
+IsPromised Subcommand.Build bytes = KeepsPromise (document_of bytes) (outcome_of Subcommand.Build bytes)
 IsPromised Subcommand.Plan bytes = Unit {0}
 
 -- a built value was made by as many calls as the script has commands

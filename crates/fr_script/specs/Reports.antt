@@ -69,7 +69,7 @@ outcome_of_document Subcommand.Plan (Ok document) = outcome_of_plan document.sha
 
 -- what the bytes of an input come to under a subcommand
 abbrev pub outcome_of : Subcommand → List ℕ → Outcome
-outcome_of subcommand bytes = outcome_of_document subcommand (document_of subcommand bytes)
+outcome_of subcommand bytes = outcome_of_document subcommand (document_of bytes)
 
 -- 0 for a value or a plan, 1 where there is none, 2 for a faulty document
 abbrev pub status_of : Outcome → ℕ
@@ -195,4 +195,4 @@ report_of_document subcommand (Err fault) = line_of (fault_data fault)
 
 -- of the bytes of an input under a subcommand
 abbrev pub report_of : Subcommand → List ℕ → List ℕ
-report_of subcommand bytes = report_of_document subcommand (document_of subcommand bytes)
+report_of subcommand bytes = report_of_document subcommand (document_of bytes)

@@ -1,4 +1,5 @@
 //! A whole script through a builder.
+ghost use Rattle.std.specs.Option.{option_copied};
 ghost use Rattle.std.specs.Prelude.{◌≡◌, ◌+◌, ◌<◌, ◌^◌, true, length, IfOk};
 ghost use Rattle.fr_shape.specs.Checked.{IsChecked};
 ghost use Rattle.fr_shape.specs.Fits.{fits};
@@ -6,8 +7,7 @@ ghost use Rattle.fr_shape.specs.Look.{IsIn};
 ghost use Rattle.fr_shape.specs.Numbered.{IsNumbered};
 ghost use Rattle.fr_shape.specs.Plannable.{IsPlain};
 ghost use Rattle.fr_shape.specs.Released.{Room, RoseBy};
-ghost use Rattle.fr_model.specs.Served.{IsServed};
-ghost use Rattle.fr_model.specs.Commands.{call_of, calls_of, IsFieldScript};
+ghost use Rattle.fr_model.specs.Commands.{Call, call_of, calls_of, IsFieldScript};
 ghost use Rattle.fr_model.specs.Journal.{journal_run};
 ghost use Rattle.fr_model.specs.Run.{full_run};
 ghost use Rattle.fr_model.specs.Scripts.{IsFitting, IsValid, brings, brought};
@@ -18,7 +18,9 @@ ghost use Rattle.fr_script.specs.Outcomes.{IsRun, IsJournals, answered, kind_wit
 use fr_model::{Command, Script, law_agree};
 use fr_partial::{Built, Partial, ReflectError};
 use fr_path::Path;
-use fr_shape::{Hooks, Ledger, PlanError, ReflectErrorKind, ShapeId, ShapeTable, Shaped, release};
+use fr_shape::{
+    Hooks, Ledger, PlanError, ReflectErrorKind, ShapeId, ShapeTable, Shaped, Text, release,
+};
 use std::alloc::Global;
 use std::collections::VecDeque;
 
@@ -45,7 +47,6 @@ pub fn build_script<H: Hooks>(
     requires root { IsIn table.now root.0 }
     requires numbered { IsNumbered table.now }
     requires checked { IsChecked table.now }
-    requires served { IsServed table.now }
     requires valid { IsValid table.now (calls_of script) ledger.old }
     requires few { length script < 2 ^ 32 }
     ensures run { IsRun (full_run (H.means hooks.now) table.now root.0 (calls_of script)) result }
@@ -135,12 +136,63 @@ fn call<'t, H: Hooks>(
         Command::BeginOk => partial.begin_ok(ledger),
         Command::BeginErr => partial.begin_err(ledger),
         Command::BeginSmartPtr => partial.begin_smart_ptr(ledger),
+        Command::BeginInner => partial.begin_inner(ledger),
+        Command::BeginCustomDeserialization => partial.begin_custom_deserialization(ledger),
+        Command::BeginCustomDeserializationWithFormat(format) => {
+            partial.begin_custom_deserialization_with_format(text_of(&format), ledger)
+        }
+        Command::BeginCustomDeserializationFromShape => begin_by_shape(partial, ledger),
+        Command::BeginCustomDeserializationFromShapeWithFormat(format) => {
+            begin_by_shape_in(partial, format, ledger)
+        }
         Command::SelectNthVariant(i) => partial.select_nth_variant(i as usize, ledger),
         Command::SelectVariantNamed(name) => partial.select_variant_named(name.as_str(), ledger),
         Command::SelectVariant(discriminant) => partial.select_variant(discriminant, ledger),
         Command::End => partial.end(ledger),
         Command::BeginDeferred => partial.begin_deferred(ledger),
         Command::FinishDeferred => partial.finish_deferred(ledger),
+    }
+}
+
+/// The text of a format, if there is one.
+fn text_of(format: &Option<Text>) -> Option<&str>
+    ensures { option_copied result ≡ format.now }
+{
+    match format {
+        Some(text) => Some(text.as_str()),
+        None => None,
+    }
+}
+
+/// Begins a conversion through the shape's proxy, where it has one. A script doesn't ask whether.
+fn begin_by_shape<'t, H: Hooks>(
+    partial: Partial<'t, H>,
+    ledger: &mut Ledger,
+) -> Result<Partial<'t, H>, ReflectError>
+    requires room { Room (holds partial) ledger.old }
+    ensures call { IsCall (H.means partial.entry.hooks) partial.entry
+        Call.BeginCustomDeserializationFromShape result ledger.old ledger.new }
+{
+    match partial.begin_custom_deserialization_from_shape(ledger) {
+        Ok((next, _)) => Ok(next),
+        Err(error) => Err(error),
+    }
+}
+
+/// The same for a format, or for none.
+fn begin_by_shape_in<'t, H: Hooks>(
+    partial: Partial<'t, H>,
+    format: Option<Text>,
+    ledger: &mut Ledger,
+) -> Result<Partial<'t, H>, ReflectError>
+    requires room { Room (holds partial) ledger.old }
+    ensures call { IsCall (H.means partial.entry.hooks) partial.entry
+        (Call.BeginCustomDeserializationFromShapeWithFormat format) result ledger.old ledger.new }
+{
+    let format = text_of(&format);
+    match partial.begin_custom_deserialization_from_shape_with_format(format, ledger) {
+        Ok((next, _)) => Ok(next),
+        Err(error) => Err(error),
     }
 }
 

@@ -1,5 +1,6 @@
 //! Reading scripts.
 ghost use Rattle.std.specs.Prelude.{◌≡◌, option_map, IfOk};
+ghost use Rattle.serde_json.specs.Find.{as_str};
 ghost use Rattle.serde_json.specs.View.{view as data_of};
 ghost use Rattle.fr_model.specs.Commands.{call_of, calls_of};
 ghost use Rattle.fr_script.specs.CommandForms.{call_of_none, call_of_number, call_of_one, call_of_two, call_form};
@@ -83,6 +84,17 @@ fn find_bare(word: &str) -> Option<Command>
         "begin_ok" => Some(Command::BeginOk),
         "begin_err" => Some(Command::BeginErr),
         "begin_smart_ptr" => Some(Command::BeginSmartPtr),
+        "begin_inner" => Some(Command::BeginInner),
+        "begin_custom_deserialization" => Some(Command::BeginCustomDeserialization),
+        "begin_custom_deserialization_with_format" => {
+            Some(Command::BeginCustomDeserializationWithFormat(None))
+        }
+        "begin_custom_deserialization_from_shape" => {
+            Some(Command::BeginCustomDeserializationFromShape)
+        }
+        "begin_custom_deserialization_from_shape_with_format" => {
+            Some(Command::BeginCustomDeserializationFromShapeWithFormat(None))
+        }
         "begin_deferred" => Some(Command::BeginDeferred),
         "finish_deferred" => Some(Command::FinishDeferred),
         _ => None,
@@ -131,7 +143,25 @@ fn read_with_one(alloc: Global, word: &str, a: &Json) -> Result<Option<Command>,
             Some(bytes) => Ok(Some(Command::ParseFromBytes(bytes))),
             None => Ok(None),
         },
+        "begin_custom_deserialization_with_format" => match read_format(alloc, a)? {
+            None => Ok(None),
+            format => Ok(Some(Command::BeginCustomDeserializationWithFormat(format))),
+        },
+        "begin_custom_deserialization_from_shape_with_format" => match read_format(alloc, a)? {
+            None => Ok(None),
+            format => Ok(Some(Command::BeginCustomDeserializationFromShapeWithFormat(format))),
+        },
         _ => Ok(find_with_number(word, a)),
+    }
+}
+
+/// The format of a proxy, a text.
+fn read_format(alloc: Global, a: &Json) -> Result<Option<Text>, OutOfMemory>
+    ensures { IfOk result (λ format. format ≡ as_str (data_of a.now)) }
+{
+    match a.as_str() {
+        Some(format) => Ok(Some(Text::new(alloc, format)?)),
+        None => Ok(None),
     }
 }
 

@@ -5,14 +5,12 @@ ghost use Rattle.serde_json.specs.View.{view as data_of};
 ghost use Rattle.fr_shape.specs.Look.{Table};
 ghost use Rattle.fr_doc.specs.Faults.{Gives};
 ghost use Rattle.fr_doc.specs.declared.fault.DocFault.{DocFault};
-ghost use Rattle.fr_script.specs.Documents.{document_form, document_of, root_form, rules_pass, script_passes, shape_for, shapes_for, takes, tokens_form, tree_of};
+ghost use Rattle.fr_script.specs.Documents.{document_form, document_of, root_form, rules_pass, script_passes, shapes_form, tokens_form, tree_of};
 ghost use Rattle.fr_script.specs.Reading.{GivesFor, document_view};
 
 use crate::command_form::script_of;
 use crate::members::members_of;
-use crate::served::is_served;
 use crate::sizes::test_sizes;
-use crate::subcommand::Subcommand;
 use crate::validity::find_invalid;
 use fr_doc::{DOCUMENT_LIMIT, DocFault, DocPlace, ReadError, count_of, has_float, shape_of};
 use fr_model::Script;
@@ -29,15 +27,11 @@ pub struct Document {
     pub script: Script,
 }
 
-/// The document that bytes are to a subcommand, or their first fault.
-pub fn read_document(
-    alloc: Global,
-    subcommand: Subcommand,
-    bytes: &[u8],
-) -> Result<Document, ReadError>
-    ensures document { GivesFor document_view (document_of subcommand bytes.now) result }
+/// The document that bytes are, or their first fault.
+pub fn read_document(alloc: Global, bytes: &[u8]) -> Result<Document, ReadError>
+    ensures document { GivesFor document_view (document_of bytes.now) result }
 {
-    let (document, _) = read_with_tree(alloc, subcommand, bytes)?;
+    let (document, _) = read_with_tree(alloc, bytes)?;
     Ok(document)
 }
 
@@ -45,13 +39,8 @@ pub fn read_document(
 /// Before the run that costs more: what was freed in many small parts is joined as soon as a large
 /// part is asked for.
 #[tactic(auto, unfolding(crate::specs::Documents::document_of))]
-pub(crate) fn read_with_tree(
-    alloc: Global,
-    subcommand: Subcommand,
-    bytes: &[u8],
-) -> Result<(Document, Json), ReadError>
-    ensures document { GivesFor (λ read. document_view read.0)
-        (document_of subcommand bytes.now) result }
+pub(crate) fn read_with_tree(alloc: Global, bytes: &[u8]) -> Result<(Document, Json), ReadError>
+    ensures document { GivesFor (λ read. document_view read.0) (document_of bytes.now) result }
 {
     if bytes.len() > DOCUMENT_LIMIT {
         return Err(ReadError::Fault(DocFault::TooLong));
@@ -60,7 +49,7 @@ pub(crate) fn read_with_tree(
     if has_float(&json) {
         return Err(ReadError::Fault(DocFault::HasFloat));
     }
-    let document = read_form(alloc, subcommand, &json)?;
+    let document = read_form(alloc, &json)?;
     if let Err(fault) = test_sizes(&document) {
         return Err(ReadError::Fault(fault));
     }
@@ -86,13 +75,13 @@ fn read_tree(alloc: Global, bytes: &[u8]) -> Result<Json, ReadError>
 
 /// Reads the members of a document one after another, up to the first place whose form is broken.
 #[tactic(auto, unfolding(crate::specs::Documents::document_form))]
-fn read_form(alloc: Global, subcommand: Subcommand, json: &Json) -> Result<Document, ReadError>
-    ensures { GivesFor document_view (document_form subcommand (data_of json.now)) result }
+fn read_form(alloc: Global, json: &Json) -> Result<Document, ReadError>
+    ensures { GivesFor document_view (document_form (data_of json.now)) result }
 {
     let Some(members) = members_of(json) else {
         return Err(ReadError::Fault(DocFault::BadForm(DocPlace::Document)));
     };
-    let shapes = read_shapes(alloc, subcommand, members.shapes)?;
+    let shapes = read_shapes(alloc, members.shapes)?;
     let root = read_root(shapes.len(), members.root)?;
     let tokens = read_tokens(members.tokens)?;
     let script = script_of(alloc, members.commands)?;
@@ -104,53 +93,19 @@ fn read_form(alloc: Global, subcommand: Subcommand, json: &Json) -> Result<Docum
     })
 }
 
-/// Reads the shapes one after another, up to the first whose form is broken or that the subcommand
-/// doesn't take.
-#[tactic(auto, unfolding(crate::specs::Documents::shapes_for))]
-fn read_shapes(
-    alloc: Global,
-    subcommand: Subcommand,
-    json: &Json,
-) -> Result<Items<Shape>, ReadError>
-    ensures { Gives (shapes_for subcommand (data_of json.now)) result }
+/// Reads the shapes one after another, up to the first whose form is broken.
+#[tactic(auto, unfolding(crate::specs::Documents::shapes_form))]
+fn read_shapes(alloc: Global, json: &Json) -> Result<Items<Shape>, ReadError>
+    ensures { Gives (shapes_form (data_of json.now)) result }
 {
     let Json::Array(items) = json else {
         return Err(ReadError::Fault(DocFault::BadForm(DocPlace::Shapes)));
     };
     let mut shapes = Items::new(alloc);
     for (i, item) in items.iter().enumerate() {
-        shapes.push(read_shape(alloc, subcommand, i, item)?)?;
+        shapes.push(shape_of(alloc, i, item)?)?;
     }
     Ok(shapes)
-}
-
-/// The shape of this number in the table's array, if the subcommand takes it.
-#[tactic(auto, unfolding(crate::specs::Documents::shape_for))]
-fn read_shape(
-    alloc: Global,
-    subcommand: Subcommand,
-    i: usize,
-    json: &Json,
-) -> Result<Shape, ReadError>
-    ensures { Gives (shape_for subcommand i (data_of json.now)) result }
-{
-    let shape = shape_of(alloc, i, json)?;
-    if takes(subcommand, &shape) {
-        return Ok(shape);
-    }
-    match u32::try_from(i) {
-        Ok(i) => Err(ReadError::Fault(DocFault::BadForm(DocPlace::Shape(i)))),
-        Err(_) => Err(ReadError::Memory),
-    }
-}
-
-fn takes(subcommand: Subcommand, shape: &Shape) -> bool
-    ensures { result ≡ takes subcommand shape.now }
-{
-    match subcommand {
-        Subcommand::Build => is_served(shape),
-        Subcommand::Plan => true,
-    }
 }
 
 /// The number of one of so many shapes.

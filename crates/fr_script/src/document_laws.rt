@@ -4,7 +4,7 @@ ghost use Rattle.fr_model.specs.Commands.{Call};
 ghost use Rattle.fr_model.specs.Scripts.{IsValid};
 ghost use Rattle.fr_shape.specs.Look.{Table};
 ghost use Rattle.fr_script.specs.declared.subcommand.Subcommand.{Subcommand};
-ghost use Rattle.fr_script.specs.DocumentFacts.{IsBuildable, IsInOrder, Succeeds};
+ghost use Rattle.fr_script.specs.DocumentFacts.{IsInOrder, Succeeds};
 ghost use Rattle.fr_script.specs.Documents.{Document, document_of, first_invalid};
 ghost use Rattle.fr_script.specs.FirstInvalid.{IsFirstInvalid};
 ghost use Rattle.fr_script.specs.Reports.{outcome_of, status_of};
@@ -20,18 +20,16 @@ pub fn law_valid_scripts()
         → first_invalid table ledger [] 0 script ≡ Some n → IsFirstInvalid table script ledger n }
 {}
 
-/// A document without faults is in order, and what one asks for under `build` may be built.
+/// A document without faults is in order.
 pub fn law_documents_in_order()
-    ensures in_order { (subcommand : Subcommand) (bytes : List ℕ) (document : Document)
-        → document_of subcommand bytes ≡ Ok document → IsInOrder document }
-    ensures buildable { (bytes : List ℕ) (document : Document)
-        → document_of Subcommand.Build bytes ≡ Ok document → IsBuildable document }
+    ensures in_order { (bytes : List ℕ) (document : Document)
+        → document_of bytes ≡ Ok document → IsInOrder document }
 {}
 
 /// A document whose script runs to a value, or whose root can be planned, has the status 0.
 pub fn law_successes()
     ensures succeeds { (subcommand : Subcommand) (bytes : List ℕ)
-        → Succeeds subcommand (document_of subcommand bytes)
+        → Succeeds subcommand (document_of bytes)
         → status_of (outcome_of subcommand bytes) ≡ 0 }
 {
     law_first_refusal();

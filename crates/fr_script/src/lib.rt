@@ -15,7 +15,6 @@ mod planning;
 mod released;
 mod report;
 mod running;
-mod served;
 mod serving;
 mod sizes;
 mod subcommand;

@@ -10,7 +10,6 @@ ghost use Rattle.fr_script.specs.declared.subcommand.Subcommand.{Subcommand as T
 use crate::document::{Document, read_document};
 use crate::document_laws::law_documents_in_order;
 use crate::plan_answer::PlanAnswer;
-use crate::subcommand::Subcommand;
 use fr_doc::ReadError;
 use fr_plan::TypePlanCore;
 use fr_shape::{OutOfMemory, PlanError};
@@ -19,11 +18,11 @@ use std::alloc::Global;
 /// Reads a document and plans its root. The answer is the document's first fault; or its own table,
 /// with the plan of its root; or the first shape that can't be planned, and why.
 pub fn plan_document(alloc: Global, bytes: &[u8]) -> Result<PlanAnswer, OutOfMemory>
-    ensures answer { IfOk result (IsPlanAnswer (document_of TheSubcommand.Plan bytes.now)) }
+    ensures answer { IfOk result (IsPlanAnswer (document_of bytes.now)) }
     ensures outcome { IfOk result (λ answer.
         plan_outcome answer ≡ outcome_of TheSubcommand.Plan bytes.now) }
 {
-    match read_document(alloc, Subcommand::Plan, bytes) {
+    match read_document(alloc, bytes) {
         Ok(document) => {
             law_documents_in_order();
             plan_root(alloc, document)

@@ -39,8 +39,7 @@ pub fn run<S: Source, K: Sink>(alloc: Global, words: &[String], source: &mut S, 
         Tells subcommand bytes result (K.taken sink.old) (K.taken sink.new)) }
     ensures promised { asked words.now ≡ Some TheSubcommand.Build → result ≤ 3
         → IfSome (S.left source.old) (λ bytes.
-        KeepsPromise (document_of TheSubcommand.Build bytes)
-        (outcome_of TheSubcommand.Build bytes)) }
+        KeepsPromise (document_of bytes) (outcome_of TheSubcommand.Build bytes)) }
     ensures reads { LosesAtMost INPUT_LIMIT (S.left source.old) (S.left source.new) }
 
     // Other words: nothing is read, and the usage line is written.
@@ -56,7 +55,7 @@ pub fn run<S: Source, K: Sink>(alloc: Global, words: &[String], source: &mut S, 
     ensures succeeds { (subcommand : TheSubcommand) → asked words.now ≡ Some subcommand
         → ¬ Rose (S.faults source.old) (S.faults source.new)
         → ¬ Rose (K.faults sink.old) (K.faults sink.new)
-        → IfSome (S.left source.old) (λ bytes. Succeeds subcommand (document_of subcommand bytes)
+        → IfSome (S.left source.old) (λ bytes. Succeeds subcommand (document_of bytes)
         → (result ≡ 0) ⊎ (result ≡ 6)) }
     ensures read_fault { result ≡ 4 → Rose (S.faults source.old) (S.faults source.new) }
     ensures write_fault { result ≡ 5 → Rose (K.faults sink.old) (K.faults sink.new) }

@@ -1,7 +1,7 @@
 //! A document from its bytes to what it comes to.
 ghost use Rattle.std.specs.Prelude.{◌≡◌, Ok, string_bytes, IfOk, OnOk};
 ghost use Rattle.fr_script.specs.Answers.{outcome_view};
-ghost use Rattle.fr_script.specs.DocumentFacts.{IsBuildable, IsInOrder};
+ghost use Rattle.fr_script.specs.DocumentFacts.{IsInOrder};
 ghost use Rattle.fr_script.specs.Documents.{document_of};
 ghost use Rattle.fr_script.specs.Headline.{KeepsPromise, IsMadeByCalls, IsPromised};
 ghost use Rattle.fr_script.specs.Outcomes.{is_want_of_memory};
@@ -28,11 +28,10 @@ pub fn answer(alloc: Global, bytes: &[u8]) -> Result<Answer, OutOfMemory>
     ensures outcome { IfOk result (λ answer.
         outcome_view answer ≡ outcome_of TheSubcommand.Build bytes.now) }
     ensures promise { IfOk result (λ answer.
-        KeepsPromise (document_of TheSubcommand.Build bytes.now) (outcome_view answer)) }
-    ensures calls { IfOk result (λ answer.
-        IsMadeByCalls (document_of TheSubcommand.Build bytes.now) answer) }
+        KeepsPromise (document_of bytes.now) (outcome_view answer)) }
+    ensures calls { IfOk result (IsMadeByCalls (document_of bytes.now)) }
 {
-    match read_document(alloc, Subcommand::Build, bytes) {
+    match read_document(alloc, bytes) {
         Ok(document) => {
             law_documents_in_order();
             let (_, answer) = answer_document(alloc, document)?;
@@ -45,7 +44,7 @@ pub fn answer(alloc: Global, bytes: &[u8]) -> Result<Answer, OutOfMemory>
 
 /// Runs a document's script over a new ledger. Its table comes back with the answer.
 fn answer_document(alloc: Global, document: Document) -> Result<(ShapeTable, Answer), OutOfMemory>
-    requires { IsBuildable (document_view document) }
+    requires { IsInOrder (document_view document) }
     ensures table { IfOk result (λ answered. answered.0 ≡ document.table) }
     ensures outcome { IfOk result (λ answered. outcome_view answered.1
         ≡ outcome_of_run (document_view document) (run_of (document_view document))) }
@@ -105,7 +104,7 @@ pub fn respond(alloc: Global, subcommand: Subcommand, bytes: &[u8]) -> Result<Re
         string_bytes response.text ≡ report_of subcommand bytes.now) }
     ensures promise { OnOk result (IsPromised subcommand bytes.now) }
 {
-    match read_with_tree(alloc, subcommand, bytes) {
+    match read_with_tree(alloc, bytes) {
         Ok((document, tree)) => {
             law_documents_in_order();
             let (status, text) = match subcommand {
@@ -132,7 +131,7 @@ pub fn respond(alloc: Global, subcommand: Subcommand, bytes: &[u8]) -> Result<Re
 
 /// The same on one without faults, under `build`.
 fn respond_to_build(alloc: Global, document: Document) -> Result<(u8, String), OutOfMemory>
-    requires { IsBuildable (document_view document) }
+    requires { IsInOrder (document_view document) }
     ensures status { IfOk result (λ response. response.0
         ≡ status_of (outcome_of_document TheSubcommand.Build (Ok (document_view document)))) }
     ensures text { IfOk result (λ response. string_bytes response.1

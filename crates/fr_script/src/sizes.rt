@@ -1,14 +1,15 @@
 //! The limits of what a document may have.
 ghost use Rattle.std.specs.Prelude.{◌≡◌, ◌+◌, ◌<◌, ◌≤◌, ◌^◌, length, sum_by, nat_le};
 ghost use Rattle.fr_model.specs.Commands.{call_of, calls_of};
-ghost use Rattle.fr_script.specs.Documents.{begins, ends, part_count, part_total, sizes_pass, too_deep};
+ghost use Rattle.fr_model.specs.Conversions.{has_proxies};
+ghost use Rattle.fr_script.specs.Documents.{begins, ends, has_proxied, part_count, part_total, sizes_pass, too_deep};
 ghost use Rattle.fr_script.specs.Reading.{document_view};
 ghost use Rattle.fr_script.specs.Sizes.{CountsOff};
 
 use crate::document::Document;
 use fr_doc::{DocFault, DocSize};
 use fr_model::Command;
-use fr_shape::{Def, ShapeId, ShapeTable, VariantDef};
+use fr_shape::{Def, Shape, ShapeId, ShapeTable, VariantDef};
 
 /// The most shapes of a document.
 pub const SHAPE_LIMIT: usize = 4096;
@@ -42,7 +43,7 @@ pub fn test_sizes(document: &Document) -> Result<(), DocFault>
     if document.tokens > TOKEN_LIMIT {
         return Err(DocFault::TooLarge(DocSize::Tokens));
     }
-    if is_too_deep(document.script.as_slice()) {
+    if is_too_deep(document.script.as_slice(), has_proxied(&document.table)) {
         return Err(DocFault::TooLarge(DocSize::Depth));
     }
     Ok(())
@@ -101,9 +102,36 @@ fn count_off_variants(variants: &[VariantDef], limit: usize) -> Option<usize>
     Some(left)
 }
 
-/// How many places a command enters, and how many it leaves: one at most.
-fn levels(command: &Command) -> (usize, usize)
-    ensures begins { result.0 ≡ begins (call_of command.now) }
+/// Whether some shape has a proxy, for whatever format.
+fn has_proxied(table: &ShapeTable) -> bool
+    requires few { length table.now < 2 ^ 32 }
+    ensures { result ≡ has_proxied table.now }
+{
+    for id in 0..table.len() as u32 {
+        let Some(shape) = table.get(ShapeId(id)) else {
+            return false;
+        };
+        if is_proxied(shape) {
+            return true;
+        }
+    }
+    false
+}
+
+/// Whether a shape has a proxy, for whatever format.
+fn is_proxied(shape: &Shape) -> bool
+    ensures { result ≡ has_proxies shape.now.proxy shape.now.format_proxies }
+{
+    match (&shape.proxy, shape.format_proxies.as_slice()) {
+        (None, []) => false,
+        (None, [_, ..]) | (Some(_), _) => true,
+    }
+}
+
+/// How many places a command enters, where some shape has a proxy or none has, and how many it
+/// leaves: one at most.
+fn levels(proxied: bool, command: &Command) -> (usize, usize)
+    ensures begins { result.0 ≡ begins proxied (call_of command.now) }
     ensures ends { result.1 ≡ ends (call_of command.now) }
     ensures few { (result.0 ≤ 1) × (result.1 ≤ 1) }
 {
@@ -118,7 +146,12 @@ fn levels(command: &Command) -> (usize, usize)
         | Command::BeginSome
         | Command::BeginOk
         | Command::BeginErr
-        | Command::BeginSmartPtr => (1, 0),
+        | Command::BeginSmartPtr
+        | Command::BeginInner
+        | Command::BeginCustomDeserialization
+        | Command::BeginCustomDeserializationWithFormat(_) => (1, 0),
+        Command::BeginCustomDeserializationFromShape
+        | Command::BeginCustomDeserializationFromShapeWithFormat(_) => (usize::from(proxied), 0),
         Command::End => (0, 1),
         Command::SetNthFieldToDefault(_)
         | Command::Set(_, _)
@@ -139,14 +172,15 @@ fn levels(command: &Command) -> (usize, usize)
     }
 }
 
-/// Whether begins outnumber ends by more than the limit after some command.
-fn is_too_deep(script: &[Command]) -> bool
-    ensures { result ≡ too_deep 0 0 (calls_of script.now) }
+/// Whether begins outnumber ends by more than the limit after some command, where some shape has a
+/// proxy or none has.
+fn is_too_deep(script: &[Command], proxied: bool) -> bool
+    ensures { result ≡ too_deep proxied 0 0 (calls_of script.now) }
 {
     let mut begun: usize = 0;
     let mut ended: usize = 0;
     for command in script {
-        let (begins, ends) = levels(command);
+        let (begins, ends) = levels(proxied, command);
         begun += begins;
         ended += ends;
         if begun.saturating_sub(DEPTH_LIMIT) > ended {

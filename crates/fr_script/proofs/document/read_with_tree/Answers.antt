@@ -1,7 +1,7 @@
 use Rattle.std.proofs.Common.{sym, arith}
 use Rattle.std.proofs.lemmas.List.{length-map}
 use Rattle.fr_model.specs.Commands.{call_of}
-use Rattle.fr_script.proofs.Buildable.{sizes_known}
+use Rattle.fr_script.proofs.InOrder.{sizes_known}
 use Rattle.fr_script.specs.Reading.{document_view}
 use Rattle.fr_script.proofs.document.read_with_tree.Goals as goal
 

@@ -72,7 +72,7 @@ returns-in-Ok-write_report-clause-promised g c asks low =
     let same : c.in-Some.subcommand ≡ Subcommand.Build
     = only_one (asked c.args.words.now) c.in-Some.subcommand Subcommand.Build (sym c.in-Some.ensures) asks in
     subst (λ (document : Result Document DocFault). KeepsPromise document (outcome_of_document Subcommand.Build document))
-    (ap (document_of Subcommand.Build) (c.as_slice.ensures.items ∙ cut) ∙ at_limit Subcommand.Build INPUT_LIMIT bytes refl)
+    (ap document_of (c.as_slice.ensures.items ∙ cut) ∙ at_limit INPUT_LIMIT bytes refl)
     (subst (λ (subcommand : Subcommand). IsPromised subcommand c.as_slice.result.now) same c.in-Ok-respond.ensures.promise))
     c.in-Ok-read_input.ensures.bytes
 

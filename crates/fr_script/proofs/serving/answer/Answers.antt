@@ -3,4 +3,4 @@ use Rattle.fr_script.proofs.serving.answer.Goals as goal
 
 pub answer_document-requires : goal.answer_document-requires
 answer_document-requires c =
-    c.law_documents_in_order.ensures.buildable c.args.bytes.now (document_view c.in-Ok.document) c.in-Ok.ensures.document
+    c.law_documents_in_order.ensures.in_order c.args.bytes.now (document_view c.in-Ok.document) c.in-Ok.ensures.document

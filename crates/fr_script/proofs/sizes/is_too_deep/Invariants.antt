@@ -7,5 +7,5 @@ abbrev pub invariant-loop-command : goal.invariant-loop-command
 invariant-loop-command l = record {
   begun_fits : l.begun ≤ l.command-index;
   ended_fits : l.ended ≤ l.command-index;
-  so_far : too_deep 0 0 (calls_of l.script) ≡ too_deep l.begun l.ended (calls_of (drop l.command-index l.script));
+  so_far : too_deep l.proxied 0 0 (calls_of l.script) ≡ too_deep l.proxied l.begun l.ended (calls_of (drop l.command-index l.script));
 }

@@ -1,11 +1,10 @@
 -- What was read of a document meets what the builder asks.
 use Rattle.std.proofs.Common.{◌≡◌, ℕ, zero, suc, ◌+◌, ◌<◌, ◌≤◌, nat_lt, cond, Bool, true, false, List, [], ◌∷◌, length, replicate, not, Option, Some, None, Ok, Err, refl, ap, subst, sum_by, arith}
 use Rattle.std.specs.Prelude.{Result, nat_le, slice_get}
-use Rattle.std.specs.List.{list_all}
 use Rattle.std.specs.Option.{ok_or}
-use Rattle.std.proofs.lemmas.Bool.{ltb-true, leb-true, and_from}
+use Rattle.std.proofs.lemmas.Bool.{ltb-true, leb-true}
 use Rattle.std.proofs.lemmas.List.Sums.{sum_by-cons}
-use Rattle.serde_json.specs.Data.{Data, null, boolean, number, string, array, object, Items, no_items, item}
+use Rattle.serde_json.specs.Data.{Data}
 use Rattle.serde_json.specs.Written.{has_float}
 use Rattle.fr_shape.specs.Look.{Table, IsIn, def_of}
 use Rattle.fr_shape.specs.Numbered.{field_count, IsNumbered}
@@ -13,13 +12,11 @@ use Rattle.fr_shape.specs.Look.{variants_of}
 use Rattle.fr_doc.specs.declared.fault.DocFault.{DocFault}
 use Rattle.fr_doc.specs.declared.fault.DocPlace.{DocPlace}
 use Rattle.fr_doc.specs.declared.fault.DocSize.{DocSize}
-use Rattle.fr_doc.specs.FaultSteps.{◌>>=◌, each_at}
+use Rattle.fr_doc.specs.FaultSteps.{◌>>=◌}
 use Rattle.fr_doc.specs.Numerals.{whole_number}
-use Rattle.fr_doc.specs.ShapeForms.{shape_at}
 use Rattle.fr_model.specs.Scripts.{IsValid}
-use Rattle.fr_script.specs.DocumentFacts.{IsBuildable, IsInOrder}
-use Rattle.fr_script.specs.Documents.{Document, asks, broken, takes, shape_for, shapes_for, below, root_form, tokens_form, script_form, document_form, part_count, part_total, at_most, sizes_pass, rules_pass, first_invalid, invalid, script_passes, tree_of, document_of}
-use Rattle.fr_script.specs.declared.subcommand.Subcommand.{Subcommand}
+use Rattle.fr_script.specs.DocumentFacts.{IsInOrder}
+use Rattle.fr_script.specs.Documents.{Document, asks, broken, shapes_form, below, root_form, tokens_form, script_form, document_form, part_count, part_total, at_most, sizes_pass, rules_pass, first_invalid, invalid, script_passes, tree_of, document_of}
 use Rattle.fr_script.specs.Members.{members_form}
 use Rattle.fr_script.specs.declared.sizes.TheConstants.{SHAPE_LIMIT, PART_LIMIT, COMMAND_LIMIT, TOKEN_LIMIT}
 use Rattle.fr_doc.specs.declared.looping.TheConstants.{DOCUMENT_LIMIT}
@@ -156,43 +153,6 @@ few_numbered table shapes parts = record {
       omega arith;
 }
 
--- Shapes.
-
--- the subcommand takes each shape that was read
-pub AllTaken : Subcommand → Result Table DocFault → Type 0
-AllTaken subcommand (Ok shapes) = list_all (takes subcommand) shapes ≡ true
-AllTaken subcommand (Err fault) = Unit {0}
-
-taken : (subcommand : Subcommand) (shape : Shape) (served : Bool) → takes subcommand shape ≡ served → (fault : DocFault)
-    (rest : Result Table DocFault) → AllTaken subcommand rest
-    → AllTaken subcommand ((asks served fault >>= λ _. Ok shape) >>= λ x. rest >>= λ xs. Ok (x ∷ xs))
-unfolding AllTaken
-taken subcommand shape true is fault (Ok shapes) all = and_from _ _ is all
-taken subcommand shape true is fault (Err other) all = tt
-taken subcommand shape false is fault rest all = tt
-
-next_taken : (subcommand : Subcommand) (fault : DocFault) (found : Result Shape DocFault) (rest : Result Table DocFault) → AllTaken subcommand rest
-    → AllTaken subcommand ((found >>= λ shape. asks (takes subcommand shape) fault >>= λ _. Ok shape) >>= λ x. rest >>= λ xs. Ok (x ∷ xs))
-unfolding AllTaken
-next_taken subcommand fault (Err other) rest all = tt
-next_taken subcommand fault (Ok shape) rest all = taken subcommand shape (takes subcommand shape) refl fault rest all
-
-each_taken : (subcommand : Subcommand) (i : ℕ) (ds : Items) → AllTaken subcommand (each_at (shape_for subcommand) i ds)
-unfolding AllTaken shape_for
-each_taken subcommand i no_items = refl
-each_taken subcommand i (item d ds) =
-    next_taken subcommand (DocFault.BadForm (DocPlace.Shape i)) (shape_at i d) (each_at (shape_for subcommand) (i + 1) ds)
-    (each_taken subcommand (i + 1) ds)
-
-shapes_taken : (subcommand : Subcommand) (d : Data) → AllTaken subcommand (shapes_for subcommand d)
-unfolding AllTaken shapes_for
-shapes_taken subcommand (array ds) = each_taken subcommand 0 ds
-shapes_taken subcommand null = tt
-shapes_taken subcommand (boolean b) = tt
-shapes_taken subcommand (number n) = tt
-shapes_taken subcommand (string s) = tt
-shapes_taken subcommand (object ms) = tt
-
 -- Forms.
 
 kept_where : (b : Bool) (n root : ℕ) → cond b (Some n) None ≡ Some root → (b ≡ true) × (n ≡ root)
@@ -215,17 +175,16 @@ root_within shapes d root is =
 same_document : (made document : Document) (P : Document → Type 0) → ◌≡◌ {A = Result Document DocFault} (Ok made) (Ok document) → P made → P document
 same_document made document P is holds = let same : made ≡ document = cc in subst P same holds
 
-form_known : (subcommand : Subcommand) (d : Data) (document : Document) → document_form subcommand d ≡ Ok document
-    → AllTaken subcommand (Ok document.shapes) × IsIn document.shapes document.root
+root_known : (d : Data) (document : Document) → document_form d ≡ Ok document → IsIn document.shapes document.root
 unfolding document_form
-form_known subcommand d document is =
+root_known d document is =
     let members = passed (broken DocPlace.Document (members_form d)) _ document is in
-    let shapes = passed (shapes_for subcommand members.0.shapes) _ document members.2 in
+    let shapes = passed (shapes_form members.0.shapes) _ document members.2 in
     let root = passed (root_form (length shapes.0) members.0.root) _ document shapes.2 in
     let tokens = passed (tokens_form members.0.tokens) _ document root.2 in
     let script = passed (script_form members.0.commands) _ document tokens.2 in
-    same_document _ document (λ read. AllTaken subcommand (Ok read.shapes) × IsIn read.shapes read.root) script.2
-    (subst (AllTaken subcommand) shapes.1 (shapes_taken subcommand members.0.shapes), root_within (length shapes.0) members.0.root root.0 root.1)
+    same_document _ document (λ read. IsIn read.shapes read.root) script.2
+    (root_within (length shapes.0) members.0.root root.0 root.1)
 
 -- The script.
 
@@ -241,33 +200,22 @@ script_known document u is =
 
 -- All together.
 
-pub document_in_order : (subcommand : Subcommand) (bytes : List ℕ) (document : Document) → document_of subcommand bytes ≡ Ok document
-    → IsInOrder document × AllTaken subcommand (Ok document.shapes)
+pub document_in_order : (bytes : List ℕ) (document : Document) → document_of bytes ≡ Ok document → IsInOrder document
 unfolding document_of
-document_in_order subcommand bytes document is =
+document_in_order bytes document is =
     let short = passed (at_most DOCUMENT_LIMIT (length bytes) DocFault.TooLong) _ document is in
     let tree = passed (ok_or (tree_of bytes) DocFault.NotJson) _ document short.2 in
     let float = passed (asks (not (has_float tree.0)) DocFault.HasFloat) _ document tree.2 in
-    let form = passed (document_form subcommand tree.0) _ document float.2 in
+    let form = passed (document_form tree.0) _ document float.2 in
     let sizes = passed (sizes_pass form.0) _ document form.2 in
     let rules = passed (rules_pass form.0.shapes) _ document sizes.2 in
     let script = passed (script_passes form.0) _ document rules.2 in
     let few = sizes_known form.0 sizes.0 sizes.1 in
-    let known = form_known subcommand tree.0 form.0 form.1 in
-    same_document form.0 document (λ read. IsInOrder read × AllTaken subcommand (Ok read.shapes)) script.2 (
-      record {
-        checked = passes_checked form.0.shapes rules.0 rules.1;
-        rooted = known.1;
-        numbered = few_numbered form.0.shapes few.few_shapes few.few_parts;
-        few_commands = few.few_calls;
-        few_tokens = few.few_tokens;
-        valid = script_known form.0 script.0 script.1;
-      },
-      known.0,
-    )
-
-pub document_buildable : (bytes : List ℕ) (document : Document) → document_of Subcommand.Build bytes ≡ Ok document → IsBuildable document
-unfolding AllTaken
-document_buildable bytes document is =
-    let known = document_in_order Subcommand.Build bytes document is in
-    record { in_order = known.0; served = known.1 }
+    same_document form.0 document IsInOrder script.2 (record {
+      checked = passes_checked form.0.shapes rules.0 rules.1;
+      rooted = root_known tree.0 form.0 form.1;
+      numbered = few_numbered form.0.shapes few.few_shapes few.few_parts;
+      few_commands = few.few_calls;
+      few_tokens = few.few_tokens;
+      valid = script_known form.0 script.0 script.1;
+    })
