@@ -1,6 +1,6 @@
 -- Worked scripts over arrays, by the machine and by the journal.
 use Rattle.std.proofs.Common.{rules, ◌≡◌, ◌∷◌}
-use Rattle.fr_model.proofs.Common.{plain_shape, List, [], None, Ok, codes, Def, ScalarKind, Operation, no_hooks, Table, IsServed, Val, nat, product, no_vals, first, PathStep, Call, journal_run, full_run}
+use Rattle.fr_model.proofs.Common.{plain_shape, List, [], None, Ok, codes, Def, ScalarKind, Operation, no_hooks, Table, Val, nat, product, no_vals, first, PathStep, Call, journal_run, full_run}
 use Rattle.fr_model.specs.ContentExamples.{id, refused}
 use Rattle.fr_model.proofs.Rows.{Makes, set, begin, end, lacks_value, failed}
 
@@ -23,7 +23,6 @@ one_missing = begin 2 ∷ set 0 (nat 3) ∷ end ∷ begin 0 ∷ set 0 (nat 1) �
 
 -- what is made of arrays
 record ArrayRows : Type 0 where
-  arrays_are_served : IsServed arrays
   descends : Makes arrays 1 descending three
   machine_misses_one : full_run no_hooks arrays 1 one_missing ≡ refused 6 (lacks_value 1) []
   journal_misses_one : journal_run arrays 1 one_missing ≡ None

@@ -1,6 +1,6 @@
 -- Worked scripts over tables with presets and defaults, by the machine and by the journal.
 use Rattle.std.proofs.Common.{rules, ◌≡◌, ◌∷◌}
-use Rattle.fr_model.proofs.Common.{plain_shape, plain_field, List, [], None, Some, Ok, codes, Def, Field, DefaultSource, ReflectErrorKind, Operation, no_hooks, Table, IsServed, Val, nat, none, list_of, product, no_vals, first, Call, journal_run, full_run}
+use Rattle.fr_model.proofs.Common.{plain_shape, plain_field, List, [], None, Some, Ok, codes, Def, Field, DefaultSource, ReflectErrorKind, Operation, no_hooks, Table, Val, nat, none, list_of, product, no_vals, first, Call, journal_run, full_run}
 use Rattle.fr_model.specs.Basis.{BeginField}
 use Rattle.fr_model.specs.ContentExamples.{id, refused, struct_of, u32, with_preset}
 use Rattle.fr_model.proofs.Rows.{Makes, pair_of, set, begin, end, field_at, lacks_field, lacks_value, failed}
@@ -53,12 +53,10 @@ list_alone = BeginField (codes "l") ∷ set 1 (list_of no_vals) ∷ end ∷ []
 
 -- what is made by defaults
 record DefaultRows : Type 0 where
-  own_is_served : IsServed own
   takes_own : Makes own 1 [] (one_of (nat 5))
   -- a field that was entered takes nothing, neither its own default
   entered_takes_none : full_run no_hooks own 1 (begin 0 ∷ end ∷ []) ≡ refused 1 (lacks_value 0) (field_at 0 ∷ [])
   journal_takes_none : journal_run own 1 (begin 0 ∷ end ∷ []) ≡ None
-  point_is_served : IsServed point
   takes_preset : Makes point 1 [] (pair_of (nat 1) (nat 2))
   -- once it has parts the other field takes its shape's default, and not the struct's
   takes_fields : Makes point 1 (begin 0 ∷ set 0 (nat 9) ∷ end ∷ []) (pair_of (nat 9) (nat 0))
@@ -71,12 +69,10 @@ record DefaultRows : Type 0 where
   scalar_takes_none : full_run no_hooks point 2 (begin 0 ∷ end ∷ []) ≡ refused 1 (lacks_value 0) (field_at 0 ∷ [])
   scalar_set_default : full_run no_hooks point 0 (Call.SetDefault ∷ []) ≡ Ok (nat 0)
   no_default_to_set : full_run no_hooks own 0 (Call.SetDefault ∷ []) ≡ refused 0 (failed 0 Operation.NoDefault) []
-  marked_is_served : IsServed marked
   fills_unit : Makes marked 2 (begin 1 ∷ set 0 (nat 1) ∷ end ∷ []) (pair_of (product no_vals) (nat 1))
   -- without a default it has to be entered, and is whole then
   unit_is_missing : full_run no_hooks marked 4 (begin 1 ∷ set 0 (nat 1) ∷ end ∷ []) ≡ refused 3 (lacks_field 4 0) []
   enters_unit : Makes marked 4 (begin 1 ∷ set 0 (nat 1) ∷ end ∷ begin 0 ∷ end ∷ []) (pair_of (product no_vals) (nat 1))
-  mixed_is_served : IsServed mixed
   list_is_missing : full_run no_hooks mixed 3 [] ≡ refused 0 (lacks_field 3 1) []
   machine_fills_option : full_run no_hooks mixed 3 list_alone ≡ Ok (pair_of none (list_of no_vals))
   -- an option that was entered ends with its default

@@ -2,10 +2,8 @@
 use Rattle.fr_shape.specs.Checked.{IsChecked}
 use Rattle.fr_shape.specs.Look.{Table}
 use Rattle.fr_shape.specs.Numbered.{IsNumbered}
-use Rattle.fr_model.specs.Served.{IsServed}
 
--- a checked table whose shapes, fields and variants are told by small numbers, and that the builder serves
+-- a checked table whose shapes, fields and variants are told by small numbers
 pub record IsGround (table : Table) : Type 0 where
   pub checked : IsChecked table
   pub numbered : IsNumbered table
-  pub served : IsServed table

@@ -25,15 +25,6 @@ const HOLDERS: &str = r#"{"shapes":[
 ],"#;
 
 const BUILT: &str = r#"
-    # a text behind a pointer is set from an owned one
-    "root":5,"commands":[["begin_smart_ptr"],["set",1,"hi"],["end"]]}
-    = 0 {"ok":{"p":"hi"},"released":[]}
-    # either side of a result is built
-    "root":7,"commands":[
-        ["begin_nth_field",0],["begin_ok"],["set",1,"success"],["end"],["end"],
-        ["begin_nth_field",1],["begin_err"],["set",0,404],["end"],["end"]
-    ]}
-    = 0 {"ok":[{"ok":"success"},{"err":404}],"released":[]}
     # the other side takes the place of the one before
     "root":11,"tokens":2,"commands":[
         ["begin_ok"],["set",9,{"t":0}],["end"],["begin_err"],["set",9,{"t":1}],["end"]
@@ -75,13 +66,6 @@ const LEFT: &str = r#"
         ["begin_field","b"],["set",0,43],["end"],["end"],["finish_deferred"]
     ]}
     = 0 {"ok":{"p":[42,43]},"released":[]}
-    # a side that was left is entered again as it is
-    "root":7,"commands":[
-        ["begin_deferred"],["begin_nth_field",0],["begin_ok"],["set",1,"a"],["end"],["end"],
-        ["begin_nth_field",1],["begin_err"],["set",0,1],["end"],["end"],
-        ["begin_nth_field",0],["begin_ok"],["end"],["end"],["finish_deferred"]
-    ]}
-    = 0 {"ok":[{"ok":"a"},{"err":1}],"released":[]}
     # the other side doesn't keep it
     "root":11,"tokens":2,"commands":[
         ["begin_deferred"],["begin_ok"],["set",9,{"t":0}],["end"],
@@ -141,12 +125,12 @@ const REFUSED: &str = r#"
 
 #[test]
 fn contents_are_built_in_strict_mode(rt: HostRuntime) -> Result<(), Fail> {
-    check_each(&rt, HOLDERS, 9, BUILT)
+    check_each(&rt, HOLDERS, 7, BUILT)
 }
 
 #[test]
 fn contents_that_were_left_are_entered_again(rt: HostRuntime) -> Result<(), Fail> {
-    check_each(&rt, HOLDERS, 7, LEFT)
+    check_each(&rt, HOLDERS, 6, LEFT)
 }
 
 #[test]

@@ -2,8 +2,7 @@
 //! memory.
 use fr_plan::TypePlanNodeKind;
 use fr_script::{
-    Answer, PlanAnswer, ScriptFault, Subcommand, answer, is_valid_script, plan_document,
-    read_document,
+    Answer, PlanAnswer, ScriptFault, answer, is_valid_script, plan_document, read_document,
 };
 use fr_shape::{Ledger, Value};
 use std::test::Fail;
@@ -17,7 +16,7 @@ const DOCUMENT: &str = r#"{"shapes":[
 #[test]
 fn a_document_is_read_and_its_script_is_valid(rt: HostRuntime) -> Result<(), Fail> {
     let alloc = rt.alloc();
-    let document = read_document(alloc, Subcommand::Build, DOCUMENT.as_bytes())
+    let document = read_document(alloc, DOCUMENT.as_bytes())
         .ok()
         .ok_or("a fault")?;
     assert!(rt; document.table.len() == 3);

@@ -154,13 +154,7 @@ const NOT_CONVERTED: [(&str, &str, &str); 14] = [
 ];
 
 const BUILT: &str = r#"
-    # an object of a number and an array
-    "root":2,"commands":[
-        ["init_map"],["begin_object_entry","a"],["set",0,5],["end"],["begin_object_entry","b"],
-        ["init_list"],["begin_list_item"],["set",1,"x"],["end"],["end"]
-    ]}
-    = 0 {"ok":{"d":{"o":[["a",5],["b",["x"]]]}},"released":[]}
-    # the same in deferred mode
+    # an object of a number and an array, in deferred mode
     "root":2,"commands":[
         ["begin_deferred"],["init_map"],["begin_object_entry","a"],["set",0,5],["end"],
         ["begin_object_entry","b"],["init_list"],["begin_list_item"],["set",1,"x"],["end"],
@@ -341,5 +335,5 @@ fn dynamic_places_refuse_other_values(rt: HostRuntime) -> Result<(), Fail> {
 
 #[test]
 fn arrays_and_objects_are_built_part_by_part(rt: HostRuntime) -> Result<(), Fail> {
-    check_each(&rt, SHAPES, 30, BUILT)
+    check_each(&rt, SHAPES, 29, BUILT)
 }

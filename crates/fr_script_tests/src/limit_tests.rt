@@ -131,6 +131,36 @@ fn a_script_is_at_most_1_000_deep(rt: HostRuntime) -> Result<(), Fail> {
     )
 }
 
+/// Also where there is no source to enter, as long as some shape has a proxy.
+#[test]
+fn a_call_from_the_shape_counts_where_there_are_proxies(rt: HostRuntime) -> Result<(), Fail> {
+    let (part, back) = (r#"["begin_custom_deserialization_from_shape"]"#, "]}");
+    let report =
+        r#"{"error":{"command":1000,"detail":"a","kind":"UninitializedValue","path":""},"released":[]}"#;
+    check_limit(
+        &rt,
+        (
+            r#"{"shapes":[{"name":"a","def":"u32"},
+                {"name":"b","def":"u32","format_proxies":[{"format":"x","source":0,"convert":0}]}
+            ],"root":0,"commands":["#,
+            part,
+            back,
+        ),
+        1_000,
+        (1, report),
+        r#"{"fault":"TooLarge","what":"depth"}"#,
+    )?;
+    let front = r#"{"shapes":[{"name":"a","def":"u32"}],"root":0,"commands":["#;
+    let many = joined(rt.alloc(), front, part, 1_001, r#",["set",0,7]]}"#)?;
+    check(
+        &rt,
+        "without proxies",
+        many.as_bytes(),
+        0,
+        r#"{"ok":7,"released":[]}"#,
+    )
+}
+
 #[test]
 fn a_document_has_at_most_1_000_000_tokens(rt: HostRuntime) -> Result<(), Fail> {
     let alloc = rt.alloc();

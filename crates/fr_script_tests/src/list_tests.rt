@@ -30,12 +30,6 @@ const LISTS: &str = r#"{"shapes":[
 ],"#;
 
 const BUILT: &str = r#"
-    # a pointer to a slice is made of its items
-    "root":7,"commands":[
-        ["begin_smart_ptr"],["init_list"],["begin_list_item"],["set",0,1],["end"],
-        ["begin_list_item"],["set",0,2],["end"],["end"]
-    ]}
-    = 0 {"ok":{"p":{"l":[1,2]}},"released":[]}
     # items come behind those of a whole list
     "root":1,"commands":[
         ["set",1,{"l":[1,2]}],["init_list_with_capacity",4294967295],["begin_list_item"],
@@ -102,12 +96,6 @@ const BUILT: &str = r#"
 "#;
 
 const LEFT: &str = r#"
-    # a pointer to a slice is made of its items
-    "root":7,"commands":[
-        ["begin_deferred"],["begin_smart_ptr"],["init_list"],["begin_list_item"],["set",0,1],
-        ["end"],["begin_list_item"],["set",0,2],["end"],["end"],["finish_deferred"]
-    ]}
-    = 0 {"ok":{"p":{"l":[1,2]}},"released":[]}
     # one that is closed is opened again with its items
     "root":9,"tokens":2,"commands":[
         ["begin_deferred"],["begin_smart_ptr"],["begin_list_item"],["set",2,{"t":0}],["end"],
@@ -254,7 +242,7 @@ const REFUSED: &str = r#"
 
 #[test]
 fn lists_and_slices_are_built_in_strict_mode(rt: HostRuntime) -> Result<(), Fail> {
-    check_each(&rt, LISTS, 13, BUILT)
+    check_each(&rt, LISTS, 12, BUILT)
 }
 
 /// A list of forty items that come in no order of their own, and what is reported on it.
@@ -283,7 +271,7 @@ fn forty_items_keep_their_order(rt: HostRuntime) -> Result<(), Fail> {
 
 #[test]
 fn lists_and_slices_that_were_left_are_gone_on_with(rt: HostRuntime) -> Result<(), Fail> {
-    check_each(&rt, LISTS, 11, LEFT)
+    check_each(&rt, LISTS, 10, LEFT)
 }
 
 #[test]

@@ -95,28 +95,6 @@ const MARKS_TAKEN: &str = r#"
     = 0 {"ok":[1,2],"released":[]}
 "#;
 
-/// The shapes Odd (which stands for nothing), Res, Bad (of both), str and Opt (an option of a Res),
-/// before the root.
-const UNPLANNED: &str = r#"{"shapes":[
-    {"name":"Odd","def":"other"},
-    {"name":"Res","def":"opaque"},
-    {"name":"Bad","def":{"struct":[{"name":"o","shape":0},{"name":"r","shape":1}]}},
-    {"name":"str","def":"str"},
-    {"name":"Opt","def":{"option":1}}
-],"#;
-
-const WITHOUT_BUILDER: &str = r#"
-    # a root that reaches a shape without a plan is refused before the first command
-    "root":2,"tokens":1,"commands":[["begin_nth_field",1],["set",1,{"t":0}]]}
-    = 1 {"error":{"command":0,"detail":"unsupported type for deserialization","kind":"Alloc","path":""},"released":[0]}
-    # a root without a size is refused
-    "root":3,"commands":[]}
-    = 1 {"error":{"command":0,"detail":"type is not sized","kind":"Alloc","path":""},"released":[]}
-    # a root of the same table that reaches neither is built
-    "root":4,"tokens":1,"commands":[["set",4,{"s":{"t":0}}]]}
-    = 0 {"ok":{"s":{"t":0}},"released":[]}
-"#;
-
 /// The shapes u32, Kind (an enum), Count (a map), Link (a pointer to a Kind) and All (a struct of
 /// these), before the root.
 const WHOLES: &str = r#"{"shapes":[
@@ -163,11 +141,6 @@ fn what_is_missing_is_filled_by_the_rules(rt: HostRuntime) -> Result<(), Fail> {
 #[test]
 fn arrays_are_built_element_by_element(rt: HostRuntime) -> Result<(), Fail> {
     check_each(&rt, ARRAYS, 8, ARRAYS_BUILT)
-}
-
-#[test]
-fn a_root_without_a_plan_or_a_size_has_no_builder(rt: HostRuntime) -> Result<(), Fail> {
-    check_each(&rt, UNPLANNED, 3, WITHOUT_BUILDER)
 }
 
 #[test]

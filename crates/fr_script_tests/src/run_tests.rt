@@ -92,7 +92,7 @@ const SCRIPTS: &str = r#"
 "#;
 
 /// Documents at fault, with what is reported on each.
-const FAULTS: [(&str, &str, &str); 18] = [
+const FAULTS: [(&str, &str, &str); 17] = [
     ("no bytes", "", r#"{"fault":"NotJson"}"#),
     (
         "a float",
@@ -115,14 +115,9 @@ const FAULTS: [(&str, &str, &str); 18] = [
         r#"{"fault":"BadForm","place":"shapes"}"#,
     ),
     (
-        "a shape that isn't built yet",
-        r#"{"shapes":[{"name":"a","def":"dynamic"},{"name":"b","def":"u32","convert":0}],"root":0,"commands":[]}"#,
-        r#"{"fault":"BadForm","place":"shape 1"}"#,
-    ),
-    (
-        "a shape that isn't built yet, before one that is broken",
+        "a shape that is broken, behind one that breaks a rule",
         r#"{"shapes":[{"name":"a","def":"u32","convert":0},{"name":"b","def":0}],"root":0,"commands":[]}"#,
-        r#"{"fault":"BadForm","place":"shape 0"}"#,
+        r#"{"fault":"BadForm","place":"shape 1"}"#,
     ),
     (
         "a root past the shapes",

@@ -1,6 +1,6 @@
 //! Tests of what the builder stands on, over public calls alone, as a user's crate makes them:
-//! arenas, paths, tables of shapes, their lookups and rules, forms, devices and the hooks of
-//! documents.
+//! arenas, paths, tables of shapes, their lookups, rules and plans, the places of a value by
+//! themselves, forms, devices and the hooks of documents.
 #![tactic(auto)]
 
 #[cfg(test)]
@@ -17,6 +17,10 @@ mod lookup_tests;
 mod parsing_tests;
 #[cfg(test)]
 mod path_tests;
+#[cfg(test)]
+mod place_tests;
+#[cfg(test)]
+mod plan_tests;
 #[cfg(test)]
 mod table_tests;
 #[cfg(test)]

@@ -1,5 +1,9 @@
-//! Tables and values that tests give as texts. A text that is none ends the test.
-use fr_shape::{ShapeTable, Value};
+//! Tables, their plans, and values that tests give as texts. A text that is none ends the test.
+ghost use Rattle.fr_shape.specs.Checked.{IsChecked};
+ghost use Rattle.fr_frame.specs.Completing.{IsPlanFor};
+
+use fr_plan::TypePlanCore;
+use fr_shape::{ShapeId, ShapeTable, Value};
 use serde_json::Value as Json;
 use std::alloc::{AllocError, Global};
 use std::process::Abort;
@@ -12,6 +16,21 @@ pub fn table_of(rt: &impl Abort, alloc: Global, shapes: &str) -> ShapeTable {
     match fr_doc::shapes_of(alloc, &json) {
         Ok(shapes) => ShapeTable::new(alloc, shapes),
         Err(_) => panic!(rt; "no shapes"),
+    }
+}
+
+/// The plan of the second shape.
+pub fn planned(rt: &impl Abort, alloc: Global, table: &ShapeTable) -> TypePlanCore
+    ensures checked { IsChecked table.now }
+    ensures plan { IsPlanFor table.now result }
+{
+    assert!(rt; table.len() <= u32::MAX as usize && 1 < table.len());
+    let Ok(()) = table.check() else {
+        panic!(rt; "a rule is broken");
+    };
+    match TypePlanCore::from_shape(alloc, table, ShapeId(1)) {
+        Ok(plan) => plan,
+        Err(_) => panic!(rt; "not planned"),
     }
 }
 

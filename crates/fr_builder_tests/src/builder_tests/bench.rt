@@ -31,6 +31,9 @@ pub struct Refused {
 
 pub type Answer<'t> = Result<Bench<'t>, Refused>;
 
+/// The same of a call that tells besides whether it entered a place.
+pub type Told<'t> = Result<(Bench<'t>, bool), Refused>;
+
 /// The builder after a call that isn't refused.
 pub fn done<'t>(rt: &impl Abort, answer: Answer<'t>) -> Bench<'t> {
     match answer {

@@ -3,7 +3,7 @@ ghost use Rattle.std.specs.Prelude.{◌≡◌, []};
 ghost use Rattle.fr_shape.specs.Tokens.{tokens};
 ghost use Rattle.fr_shape.specs.View.{view};
 
-use super::bench::{Answer, Bench, Refused, shaped};
+use super::bench::{Answer, Bench, Refused, Told, shaped};
 use fr_shape::{Items, Value};
 use std::alloc::Global;
 use std::process::Abort;
@@ -180,6 +180,64 @@ impl<'t> Bench<'t> {
         } = self;
         match partial.begin_smart_ptr(&mut ledger) {
             Ok(partial) => Ok(Bench { partial, ledger }),
+            Err(error) => Err(Refused { error, ledger }),
+        }
+    }
+
+    pub fn begin_inner(self) -> Answer<'t> {
+        let Bench {
+            partial,
+            mut ledger,
+        } = self;
+        match partial.begin_inner(&mut ledger) {
+            Ok(partial) => Ok(Bench { partial, ledger }),
+            Err(error) => Err(Refused { error, ledger }),
+        }
+    }
+
+    pub fn begin_custom_deserialization(self) -> Answer<'t> {
+        let Bench {
+            partial,
+            mut ledger,
+        } = self;
+        match partial.begin_custom_deserialization(&mut ledger) {
+            Ok(partial) => Ok(Bench { partial, ledger }),
+            Err(error) => Err(Refused { error, ledger }),
+        }
+    }
+
+    pub fn begin_custom_deserialization_with_format(self, format: Option<&str>) -> Answer<'t> {
+        let Bench {
+            partial,
+            mut ledger,
+        } = self;
+        match partial.begin_custom_deserialization_with_format(format, &mut ledger) {
+            Ok(partial) => Ok(Bench { partial, ledger }),
+            Err(error) => Err(Refused { error, ledger }),
+        }
+    }
+
+    pub fn begin_custom_deserialization_from_shape(self) -> Told<'t> {
+        let Bench {
+            partial,
+            mut ledger,
+        } = self;
+        match partial.begin_custom_deserialization_from_shape(&mut ledger) {
+            Ok((partial, told)) => Ok((Bench { partial, ledger }, told)),
+            Err(error) => Err(Refused { error, ledger }),
+        }
+    }
+
+    pub fn begin_custom_deserialization_from_shape_with_format(
+        self,
+        format: Option<&str>,
+    ) -> Told<'t> {
+        let Bench {
+            partial,
+            mut ledger,
+        } = self;
+        match partial.begin_custom_deserialization_from_shape_with_format(format, &mut ledger) {
+            Ok((partial, told)) => Ok((Bench { partial, ledger }, told)),
             Err(error) => Err(Refused { error, ledger }),
         }
     }

@@ -1,13 +1,13 @@
 //! The tables that the tests stand on, read from texts, and their plans.
 ghost use Rattle.fr_shape.specs.Checked.{IsChecked};
 ghost use Rattle.fr_frame.specs.Completing.{IsPlanFor};
-ghost use Rattle.fr_script.specs.DocumentFacts.{IsBuildable};
+ghost use Rattle.fr_script.specs.DocumentFacts.{IsInOrder};
 ghost use Rattle.fr_script.specs.Reading.{document_view};
 
 use super::own_hooks::OwnHooks;
 use fr_doc::shapes_of;
 use fr_plan::TypePlanCore;
-use fr_script::{Document, Subcommand, law_documents_in_order, read_document};
+use fr_script::{Document, law_documents_in_order, read_document};
 use fr_shape::{ShapeId, ShapeTable};
 use serde_json::Value as Json;
 use std::alloc::Global;
@@ -36,7 +36,7 @@ impl Model for Ground {
 }
 
 fn founded(document: Document) -> Ground
-    requires { IsBuildable (document_view document) }
+    requires { IsInOrder (document_view document) }
 {
     let Document { table, .. } = document;
     Ground {
@@ -46,7 +46,7 @@ fn founded(document: Document) -> Ground
 }
 
 fn read(alloc: Global, document: &[u8]) -> Option<Ground> {
-    match read_document(alloc, Subcommand::Build, document) {
+    match read_document(alloc, document) {
         Ok(document) => {
             law_documents_in_order();
             Some(founded(document))

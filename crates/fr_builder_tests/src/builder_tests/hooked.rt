@@ -1,5 +1,5 @@
 //! Validators, invariants and parsing by the tests' own hooks, call by call and by whole scripts.
-ghost use Rattle.fr_script.specs.DocumentFacts.{IsBuildable};
+ghost use Rattle.fr_script.specs.DocumentFacts.{IsInOrder};
 ghost use Rattle.fr_script.specs.Reading.{document_view};
 
 use super::bench::{
@@ -11,10 +11,8 @@ use super::grounds::{Ground, ground_of};
 use super::own_hooks::OwnHooks;
 use super::structs::{STRUCT, begun};
 use fr_partial::Built;
-use fr_script::{
-    Document, ScriptError, Subcommand, build_script, law_documents_in_order, read_document,
-};
-use fr_shape::{Ledger, ReflectErrorKind};
+use fr_script::{Document, ScriptError, build_script, law_documents_in_order, read_document};
+use fr_shape::{Ledger, ReflectErrorKind, TryFromFault};
 use std::alloc::Global;
 use std::process::Abort;
 
@@ -79,6 +77,15 @@ fn name_of(kind: &ReflectErrorKind) -> &'static str {
         ReflectErrorKind::InvariantViolation { invariant } => invariant.text(),
         ReflectErrorKind::ValidationFailed { .. } => "ValidationFailed",
         ReflectErrorKind::ParseFailed { .. } => "ParseFailed",
+        ReflectErrorKind::CustomDeserializationError { .. } => "CustomDeserializationError",
+        ReflectErrorKind::TryFromError {
+            inner: TryFromFault::Generic(_),
+            ..
+        } => "Generic",
+        ReflectErrorKind::TryFromError {
+            inner: TryFromFault::UnsupportedSourceType,
+            ..
+        } => "UnsupportedSourceType",
         ReflectErrorKind::OutOfMemory => "OutOfMemory",
         _ => "another refusal",
     }
@@ -143,7 +150,7 @@ fn a_refused_parse_releases_the_token(rt: HostRuntime) {
 }
 
 /// A builder of a struct that holds the token in its first field, and has left it.
-fn holding<'t>(rt: &(impl Abort + AllocGlobal), ground: &'t Ground, root: u32) -> Bench<'t> {
+pub fn holding<'t>(rt: &(impl Abort + AllocGlobal), ground: &'t Ground, root: u32) -> Bench<'t> {
     let mut ledger = ledger(rt, rt.alloc(), 1);
     let partial = fresh(rt, rt.alloc(), ground, root);
     let partial = named(rt, partial, "r", &mut ledger);
@@ -151,7 +158,7 @@ fn holding<'t>(rt: &(impl Abort + AllocGlobal), ground: &'t Ground, root: u32) -
 }
 
 /// Puts a number into the field `n` and leaves it.
-fn with_number<'t>(rt: &impl Abort, bench: Bench<'t>, n: u128) -> Bench<'t> {
+pub fn with_number<'t>(rt: &impl Abort, bench: Bench<'t>, n: u128) -> Bench<'t> {
     let bench = done(rt, bench.begin_field("n"));
     let bench = done(rt, bench.put_number(rt, n));
     done(rt, bench.end())
@@ -210,7 +217,7 @@ fn an_invariant_that_is_false_refuses_the_value(rt: HostRuntime) {
 
 /// What a document's script comes to, and the ledger after that.
 fn run(rt: &impl Abort, alloc: Global, document: Document) -> (Result<Built, ScriptError>, Ledger)
-    requires { IsBuildable (document_view document) }
+    requires { IsInOrder (document_view document) }
 {
     let Document {
         table,
@@ -231,7 +238,7 @@ fn run_bytes(
     alloc: Global,
     document: &[u8],
 ) -> (Result<Built, ScriptError>, Ledger) {
-    match read_document(alloc, Subcommand::Build, document) {
+    match read_document(alloc, document) {
         Ok(document) => {
             law_documents_in_order();
             run(rt, alloc, document)
@@ -250,6 +257,18 @@ fn check_script(
     want: &str,
     released: u32,
 ) {
+    check_counted(rt, shapes, rest, calls, want, &[released]);
+}
+
+/// The same of a script of more tokens.
+pub fn check_counted(
+    rt: &(impl Abort + AllocGlobal),
+    shapes: &str,
+    rest: &str,
+    calls: u32,
+    want: &str,
+    released: &[u32],
+) {
     let document = joined(rt, rt.alloc(), shapes, rest);
     let (outcome, ledger) = run_bytes(rt, rt.alloc(), document.as_bytes());
     match outcome {
@@ -262,7 +281,7 @@ fn check_script(
             assert!(rt; error.number == calls, "{rest}");
         }
     }
-    check_counts(rt, &ledger, &[released]);
+    check_counts(rt, &ledger, released);
 }
 
 /// With ample memory it isn't out of memory.

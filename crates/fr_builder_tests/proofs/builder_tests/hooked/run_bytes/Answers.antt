@@ -3,4 +3,4 @@ use Rattle.fr_builder_tests.proofs.builder_tests.hooked.run_bytes.Goals as goal
 
 pub run-requires : goal.run-requires
 run-requires g c =
-    c.law_documents_in_order.ensures.buildable c.args.document.now (document_view c.in-Ok.document) c.in-Ok.ensures.document
+    c.law_documents_in_order.ensures.in_order c.args.document.now (document_view c.in-Ok.document) c.in-Ok.ensures.document

@@ -4,7 +4,7 @@ ghost use Rattle.fr_shape.specs.Fills.{is_empty_struct};
 ghost use Rattle.fr_shape.specs.Look.{def_of};
 ghost use Rattle.fr_frame.specs.Completing.{shape_of};
 
-use super::grounds::{planned, table_of};
+use crate::texts::{planned, table_of};
 use fr_frame::{FrameOwner, PartialValue, SlotId, Slots, Tracker};
 use fr_plan::{NodeId, TypePlanCore};
 use fr_shape::{FieldRef, NoHooks, ReflectErrorKind, ShapeTable, Value};

@@ -1,5 +1,5 @@
 use Rattle.fr_frame.proofs.ToldLaws.{struct_found}
-use Rattle.fr_builder_tests.proofs.builder_tests.lookups.fields_of.Goals as goal
+use Rattle.fr_tests.proofs.plan_tests.lookups.fields_of.Goals as goal
 
 pub fields-requires : goal.fields-requires
 fields-requires c =

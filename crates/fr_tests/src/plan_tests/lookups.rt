@@ -4,7 +4,7 @@
 ghost use Rattle.std.specs.Prelude.{◌<◌, length};
 ghost use Rattle.fr_frame.specs.Asking.{IsPlanned};
 
-use super::grounds::{planned, table_of};
+use crate::texts::{planned, table_of};
 use fr_plan::{
     FieldPlan, NodeId, TypePlanCore, TypePlanNode, TypePlanNodeKind, VariantPlanMeta,
     law_plan_lookups,

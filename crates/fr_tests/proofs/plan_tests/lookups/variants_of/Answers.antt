@@ -1,5 +1,5 @@
 use Rattle.fr_frame.proofs.ToldLaws.{enum_found}
-use Rattle.fr_builder_tests.proofs.builder_tests.lookups.variants_of.Goals as goal
+use Rattle.fr_tests.proofs.plan_tests.lookups.variants_of.Goals as goal
 
 pub variants-requires : goal.variants-requires
 variants-requires c =

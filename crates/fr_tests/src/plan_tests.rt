@@ -1,0 +1,3 @@
+//! Plans: those of large tables, and what one tells of a type.
+mod large;
+mod lookups;
