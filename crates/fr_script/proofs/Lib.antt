@@ -3,6 +3,9 @@ pub mod Arguments
 pub mod BroughtLaws
 pub mod FirstInvalids
 pub mod FloatFree
+pub mod GridRuns
+pub mod GridTables
+pub mod GridTokens
 pub mod InOrder
 pub mod MarkLaws
 pub mod MemberLaws
@@ -11,6 +14,7 @@ pub mod ReleasedLaws
 pub mod RuleLaws
 pub mod RunLaws
 pub mod SizeLaws
+pub mod SummaryLaws
 pub mod TakeLaws
 pub mod Trees
 pub mod ValidScripts

@@ -3,6 +3,7 @@ pub mod CommandForms
 pub mod DocumentFacts
 pub mod Documents
 pub mod FirstInvalid
+pub mod Generator
 pub mod Headline
 pub mod Marks
 pub mod Members
@@ -12,4 +13,6 @@ pub mod Reading
 pub mod Reports
 pub mod Runs
 pub mod Sizes
+pub mod Steps
+pub mod Summaries
 pub mod Tokens

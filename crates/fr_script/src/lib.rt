@@ -7,6 +7,7 @@ mod building;
 mod command_form;
 mod document;
 mod document_laws;
+mod generating;
 mod marking;
 mod members;
 mod plan_answer;
@@ -17,7 +18,9 @@ mod report;
 mod running;
 mod serving;
 mod sizes;
+mod steps;
 mod subcommand;
+mod summary;
 mod validity;
 
 pub use answering::Answer;
@@ -29,6 +32,7 @@ pub use fr_doc::{
     MemSource, ReadError, ReaderSource, Sink, Source, TableFault, WriterSink,
 };
 pub use fr_model::{Command, Script};
+pub use generating::STEP_LIMIT;
 pub use plan_answer::PlanAnswer;
 pub use planning::plan_document;
 pub use running::run;

@@ -79,7 +79,8 @@ fn answer_document(alloc: Global, document: Document) -> Result<(ShapeTable, Ans
     }
 }
 
-fn is_want_of_memory(kind: &ReflectErrorKind) -> bool
+/// Whether a refusal is that no memory was left.
+pub(crate) fn is_want_of_memory(kind: &ReflectErrorKind) -> bool
     ensures { result ≡ is_want_of_memory kind.now }
 {
     matches!(kind, ReflectErrorKind::OutOfMemory)

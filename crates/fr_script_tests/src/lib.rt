@@ -34,6 +34,8 @@ mod row_tests;
 #[cfg(test)]
 mod run_tests;
 #[cfg(test)]
+mod summary_tests;
+#[cfg(test)]
 mod text_tests;
 #[cfg(test)]
 mod variant_tests;

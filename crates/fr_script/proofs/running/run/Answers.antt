@@ -7,18 +7,19 @@ use Rattle.fr_doc.specs.declared.fault.DocFault.{DocFault}
 use Rattle.fr_script.specs.Documents.{Document, document_of}
 use Rattle.fr_script.specs.Headline.{KeepsPromise, IsPromised}
 use Rattle.fr_script.specs.Runs.{asked}
+use Rattle.fr_script.specs.Summaries.{summary_of}
 use Rattle.fr_script.specs.declared.subcommand.Subcommand.{Subcommand}
 use Rattle.fr_script.proofs.TakeLaws.{at_limit, outcome_at_limit, report_at_limit, loses, over_told}
 use Rattle.fr_script.proofs.running.run.Goals as goal
 
 pub returns-in_default-respond-clause-reads : goal.returns-in_default-respond-clause-reads
-returns-in_default-respond-clause-reads g c = loses INPUT_LIMIT _ _ c.in-Ok-read_input.ensures.rest
+returns-in_default-respond-clause-reads g c = loses INPUT_LIMIT _ _ c.in-Ok.ensures.rest
 
 pub returns-in-Ok-write_report-clause-reads : goal.returns-in-Ok-write_report-clause-reads
-returns-in-Ok-write_report-clause-reads g c = loses INPUT_LIMIT _ _ c.in-Ok-read_input.ensures.rest
+returns-in-Ok-write_report-clause-reads g c = loses INPUT_LIMIT _ _ c.in-Ok.ensures.rest
 
 pub returns-clause-reads : goal.returns-clause-reads
-returns-clause-reads g c = loses INPUT_LIMIT _ _ c.in-Ok-read_input.ensures.rest
+returns-clause-reads g c = loses INPUT_LIMIT _ _ c.in-Ok.ensures.rest
 
 -- what was read has the outcome of all that was left, under the subcommand that is asked for
 same_outcome : (subcommand asked : Subcommand) (read bytes slice : List ℕ) → subcommand ≡ asked → slice ≡ read → read ≡ take INPUT_LIMIT bytes
@@ -37,51 +38,67 @@ only_one found subcommand asked is same = cc
 
 pub returns-in-Ok-write_report-clause-reported : goal.returns-in-Ok-write_report-clause-reported
 returns-in-Ok-write_report-clause-reported g c subcommand asks low =
-    over_told (g.S.Source.left c.args.source.now) (λ bytes. c.in-Ok-read_input.bytes ≡ take INPUT_LIMIT bytes) _
+    over_told (g.S.Source.left c.args.source.now) (λ bytes. c.in-Ok.bytes ≡ take INPUT_LIMIT bytes) _
     (λ bytes cut.
     let is : c.in-Some.subcommand ≡ subcommand = only_one (asked c.args.words.now) c.in-Some.subcommand subcommand (sym c.in-Some.ensures) asks in
     let same : outcome_of c.in-Some.subcommand c.as_slice.result.now ≡ outcome_of subcommand bytes
-    = same_outcome c.in-Some.subcommand subcommand c.in-Ok-read_input.bytes bytes c.as_slice.result.now is c.as_slice.ensures.items cut in
+    = same_outcome c.in-Some.subcommand subcommand c.in-Ok.bytes bytes c.as_slice.result.now is c.as_slice.ensures.items cut in
     let told : report_of c.in-Some.subcommand c.as_slice.result.now ≡ report_of subcommand bytes
-    = same_report c.in-Some.subcommand subcommand c.in-Ok-read_input.bytes bytes c.as_slice.result.now is c.as_slice.ensures.items cut in
+    = same_report c.in-Some.subcommand subcommand c.in-Ok.bytes bytes c.as_slice.result.now is c.as_slice.ensures.items cut in
     record {
       status = c.in-Ok-respond.ensures.status ∙ ap status_of same;
       written =
           c.in-Ok-write_report.ensures.ok
           ∙ ap (append_known (g.K.Sink.taken c.args.sink.now))
-          (c.as_bytes-2.ensures.value ∙ c.in-Ok-respond.ensures.text ∙ told);
+          (c.as_bytes.ensures.value ∙ c.in-Ok-respond.ensures.text ∙ told);
     })
-    c.in-Ok-read_input.ensures.bytes
+    c.in-Ok.ensures.bytes
 
 pub returns-clause-beginning : goal.returns-clause-beginning
 returns-clause-beginning g c subcommand asks five =
-    over_told (g.S.Source.left c.args.source.now) (λ bytes. c.in-Ok-read_input.bytes ≡ take INPUT_LIMIT bytes) _
+    over_told (g.S.Source.left c.args.source.now) (λ bytes. c.in-Ok.bytes ≡ take INPUT_LIMIT bytes) _
     (λ bytes cut.
     let told : report_of c.in-Some.subcommand c.as_slice.result.now ≡ report_of subcommand bytes
-    = same_report c.in-Some.subcommand subcommand c.in-Ok-read_input.bytes bytes c.as_slice.result.now
+    = same_report c.in-Some.subcommand subcommand c.in-Ok.bytes bytes c.as_slice.result.now
     (only_one (asked c.args.words.now) c.in-Some.subcommand subcommand (sym c.in-Some.ensures) asks) c.as_slice.ensures.items cut in
-    subst (λ (text : List ℕ). TakesBeginning (g.K.Sink.taken c.args.sink.now) (g.K.Sink.taken c.write_report-2.new.sink) text)
-    (c.as_bytes-2.ensures.value ∙ c.in-Ok-respond.ensures.text ∙ told)
-    c.in-Err-write_report.ensures.err)
-    c.in-Ok-read_input.ensures.bytes
+    subst (λ (text : List ℕ). TakesBeginning (g.K.Sink.taken c.args.sink.now) (g.K.Sink.taken c.write_report.new.sink) text)
+    (c.as_bytes.ensures.value ∙ c.in-Ok-respond.ensures.text ∙ told)
+    c.in-Err.ensures.err)
+    c.in-Ok.ensures.bytes
 
 pub returns-in-Ok-write_report-clause-promised : goal.returns-in-Ok-write_report-clause-promised
 returns-in-Ok-write_report-clause-promised g c asks low =
-    over_told (g.S.Source.left c.args.source.now) (λ bytes. c.in-Ok-read_input.bytes ≡ take INPUT_LIMIT bytes) _
+    over_told (g.S.Source.left c.args.source.now) (λ bytes. c.in-Ok.bytes ≡ take INPUT_LIMIT bytes) _
     (λ bytes cut.
     let same : c.in-Some.subcommand ≡ Subcommand.Build
     = only_one (asked c.args.words.now) c.in-Some.subcommand Subcommand.Build (sym c.in-Some.ensures) asks in
     subst (λ (document : Result Document DocFault). KeepsPromise document (outcome_of_document Subcommand.Build document))
     (ap document_of (c.as_slice.ensures.items ∙ cut) ∙ at_limit INPUT_LIMIT bytes refl)
     (subst (λ (subcommand : Subcommand). IsPromised subcommand c.as_slice.result.now) same c.in-Ok-respond.ensures.promise))
-    c.in-Ok-read_input.ensures.bytes
+    c.in-Ok.ensures.bytes
 
 pub returns-in-Ok-write_report-clause-succeeds : goal.returns-in-Ok-write_report-clause-succeeds
 returns-in-Ok-write_report-clause-succeeds g c subcommand asks calm quiet =
-    over_told (g.S.Source.left c.args.source.now) (λ bytes. c.in-Ok-read_input.bytes ≡ take INPUT_LIMIT bytes) _
+    over_told (g.S.Source.left c.args.source.now) (λ bytes. c.in-Ok.bytes ≡ take INPUT_LIMIT bytes) _
     (λ bytes cut succeeds.
     let same : outcome_of c.in-Some.subcommand c.as_slice.result.now ≡ outcome_of subcommand bytes
-    = same_outcome c.in-Some.subcommand subcommand c.in-Ok-read_input.bytes bytes c.as_slice.result.now
+    = same_outcome c.in-Some.subcommand subcommand c.in-Ok.bytes bytes c.as_slice.result.now
     (only_one (asked c.args.words.now) c.in-Some.subcommand subcommand (sym c.in-Some.ensures) asks) c.as_slice.ensures.items cut in
     inl (c.in-Ok-respond.ensures.status ∙ ap status_of same ∙ c.law_successes.ensures.succeeds subcommand bytes succeeds))
-    c.in-Ok-read_input.ensures.bytes
+    c.in-Ok.ensures.bytes
+
+same_steps : (found : Option ℕ) (count asked : ℕ) → found ≡ Some count → found ≡ Some asked → count ≡ asked
+same_steps found count asked is same = cc
+
+pub returns-in-Some-find_steps-clause-summary : goal.returns-in-Some-find_steps-clause-summary
+returns-in-Some-find_steps-clause-summary g c count asks done =
+    c.run_generated.ensures.summary done
+    ∙ ap (λ (n : ℕ). append_known (g.K.Sink.taken c.args.sink.now) (summary_of n))
+    (same_steps _ c.in-Some-find_steps.count count (sym c.in-Some-find_steps.ensures.asked) asks)
+
+pub returns-in-Some-find_steps-clause-summary_beginning : goal.returns-in-Some-find_steps-clause-summary_beginning
+returns-in-Some-find_steps-clause-summary_beginning g c count asks five =
+    subst
+    (λ (n : ℕ). TakesBeginning (g.K.Sink.taken c.args.sink.now) (g.K.Sink.taken c.run_generated.new.sink) (summary_of n))
+    (same_steps _ c.in-Some-find_steps.count count (sym c.in-Some-find_steps.ensures.asked) asks)
+    (c.run_generated.ensures.beginning five)
