@@ -3,7 +3,7 @@ use Rattle.std.proofs.Common.{rules, ◌≡◌, ◌∷◌}
 use Rattle.fr_model.proofs.Common.{plain_shape, plain_field, List, [], None, Some, Ok, codes, Def, Field, DefaultSource, ReflectErrorKind, Operation, no_hooks, Table, Val, nat, none, list_of, product, no_vals, first, Call, journal_run, full_run}
 use Rattle.fr_model.specs.Basis.{BeginField}
 use Rattle.fr_model.specs.ContentExamples.{id, refused, struct_of, u32, with_preset}
-use Rattle.fr_model.proofs.Rows.{Makes, pair_of, set, begin, end, field_at, lacks_field, lacks_value, failed}
+use Rattle.fr_model.proofs.WorkedScripts.{Makes, pair_of, set, begin, end, field_at, lacks_field, lacks_value, failed}
 
 -- to write tables and values
 
@@ -29,8 +29,8 @@ point =
 
 -- a field whose shape is a struct without fields, with a default
 
-abbrev marked : Table
-marked =
+abbrev marked_table : Table
+marked_table =
     u32
     ∷ with_preset (plain_shape (codes "Unit") (struct_of [])) (product no_vals)
     ∷ plain_shape (codes "Marked") (struct_of (plain_field (codes "e") 1 ∷ plain_field (codes "k") 0 ∷ []))
@@ -69,10 +69,10 @@ record DefaultRows : Type 0 where
   scalar_takes_none : full_run no_hooks point 2 (begin 0 ∷ end ∷ []) ≡ refused 1 (lacks_value 0) (field_at 0 ∷ [])
   scalar_set_default : full_run no_hooks point 0 (Call.SetDefault ∷ []) ≡ Ok (nat 0)
   no_default_to_set : full_run no_hooks own 0 (Call.SetDefault ∷ []) ≡ refused 0 (failed 0 Operation.NoDefault) []
-  fills_unit : Makes marked 2 (begin 1 ∷ set 0 (nat 1) ∷ end ∷ []) (pair_of (product no_vals) (nat 1))
+  fills_unit : Makes marked_table 2 (begin 1 ∷ set 0 (nat 1) ∷ end ∷ []) (pair_of (product no_vals) (nat 1))
   -- without a default it has to be entered, and is whole then
-  unit_is_missing : full_run no_hooks marked 4 (begin 1 ∷ set 0 (nat 1) ∷ end ∷ []) ≡ refused 3 (lacks_field 4 0) []
-  enters_unit : Makes marked 4 (begin 1 ∷ set 0 (nat 1) ∷ end ∷ begin 0 ∷ end ∷ []) (pair_of (product no_vals) (nat 1))
+  unit_is_missing : full_run no_hooks marked_table 4 (begin 1 ∷ set 0 (nat 1) ∷ end ∷ []) ≡ refused 3 (lacks_field 4 0) []
+  enters_unit : Makes marked_table 4 (begin 1 ∷ set 0 (nat 1) ∷ end ∷ begin 0 ∷ end ∷ []) (pair_of (product no_vals) (nat 1))
   list_is_missing : full_run no_hooks mixed 3 [] ≡ refused 0 (lacks_field 3 1) []
   machine_fills_option : full_run no_hooks mixed 3 list_alone ≡ Ok (pair_of none (list_of no_vals))
   -- an option that was entered ends with its default

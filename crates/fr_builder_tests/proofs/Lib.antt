@@ -1,5 +1,5 @@
 pub mod ArrayRows
 pub mod DefaultRows
 pub mod LastChild
-pub mod SetLaws
-pub mod SlotLaws
+pub mod OneTokenItems
+pub mod TokenlessSlots

@@ -1,11 +1,11 @@
-pub mod Children
-pub mod Dynamics
+pub mod DynamicLists
 pub mod FieldParts
 pub mod Loops
 pub mod Moved
-pub mod Pairs
-pub mod Parsed
+pub mod ParsedForms
 pub mod Passes
 pub mod Printing
+pub mod ProductChildren
 pub mod TableLoop
+pub mod TwoItems
 pub mod Values

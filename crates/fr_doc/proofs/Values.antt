@@ -8,7 +8,7 @@ use Rattle.serde_json.specs.declared.value.Value.{Value, Array}
 use Rattle.serde_json.proofs.Views.{view-Array}
 use Rattle.fr_shape.specs.Val.{Val, first, entry, variant}
 use Rattle.fr_shape.specs.View.{vals_of, entries_of}
-use Rattle.fr_doc.proofs.Pairs.{two_items}
+use Rattle.fr_doc.proofs.TwoItems.{two_items}
 use Rattle.fr_doc.specs.Numerals.{whole_number}
 use Rattle.fr_doc.specs.Steps.{◌>>=◌, each, two}
 use Rattle.fr_doc.specs.ValueForms.{value_form, vals_form, list_form, variant_form, map_form, entries_form, entry_form}

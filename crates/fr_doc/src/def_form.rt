@@ -174,7 +174,7 @@ fn read_pointer(json: &Json) -> Result<Def, FormError>
 }
 
 /// The items of an array of two.
-#[tactic(auto, using(crate::proofs::Pairs::two_items))]
+#[tactic(auto, using(crate::proofs::TwoItems::two_items))]
 fn pair_of(json: &Json) -> Option<(&Json, &Json)>
     ensures { option_map (λ pair. (data_of pair.0.now, data_of pair.1.now)) result
         ≡ pair_form (data_of json.now) }

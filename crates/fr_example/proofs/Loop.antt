@@ -20,7 +20,7 @@ use Rattle.fr_example.specs.declared.record.Pair.{Pair}
 use Rattle.fr_example.specs.Meant.{is_struct, refusal_of, first_refusal, unrefused, refused_or, pairs_meant, unplanned, record_meant, IsMeant}
 use Rattle.fr_example.specs.Putting.{puts_pair}
 use Rattle.fr_example.proofs.Making.{makes}
-use Rattle.fr_example.proofs.Pairs.{first_refusal_later}
+use Rattle.fr_example.proofs.OnePairMore.{first_refusal_later}
 use Rattle.fr_example.proofs.Putting.{filling, puts_pair_is}
 
 pub struct_of : (def : Def) → is_struct def ≡ true → (struct : StructDef) × (def ≡ Def.Struct struct)

@@ -31,7 +31,7 @@ use Rattle.fr_example.specs.Putting.{then_call, enters_field, sets_text, puts_pa
 use Rattle.fr_example.proofs.Loop.{IsFilled, struct_of, pair_refused, nothing_more}
 use Rattle.fr_example.proofs.Putting.{filling, at_field, with_entered, begins, entered_field, sets, within}
 use Rattle.fr_example.proofs.Sized.{field_is_sized}
-use Rattle.fr_example.proofs.Tokens.{text_value}
+use Rattle.fr_example.proofs.TextsWithoutTokens.{text_value}
 
 -- Calls after others, told over the hooks, the table, the root and the call that are meant
 

@@ -28,7 +28,7 @@ use Rattle.fr_model.specs.Variants.{field_found}
 use Rattle.fr_example.specs.declared.record.Pair.{Pair}
 use Rattle.fr_example.specs.Meant.{takes_text, refusal_at, refusal_of, is_found, text_in, text_at, given, last_given}
 use Rattle.fr_example.specs.Putting.{then_call, puts_pair}
-use Rattle.fr_example.proofs.Pairs.{last_given_more, found_within}
+use Rattle.fr_example.proofs.OnePairMore.{last_given_more, found_within}
 use Rattle.fr_example.proofs.Sized.{field_is_sized, takes_its_own}
 use Rattle.fr_example.proofs.Slots.{slots, slots_holes, put_slot, put_again, put_there}
 

@@ -1,2 +1,5 @@
+pub mod Forms
+pub mod Loading
 pub mod Meant
+pub mod Outcomes
 pub mod Putting

@@ -8,11 +8,11 @@ use Rattle.fr_frame.specs.RawItems.{partial_with_placed, with_room, IsAddedIn, I
 use Rattle.fr_frame.proofs.DrainLaws.{none_to_come}
 use Rattle.fr_frame.proofs.HandLaws.{in_use}
 use Rattle.fr_values.specs.SliceLaws.{read}
-use Rattle.fr_frame.proofs.PlaceLaws.{keeps_reserved, occur_change, with_partial, shows}
+use Rattle.fr_frame.proofs.ChangedPlaces.{keeps_reserved, occur_change, with_partial, shows}
 use Rattle.fr_values.specs.SliceLaws.{set_as_was}
 use Rattle.fr_frame.proofs.RawLaws.{used_inside}
-use Rattle.fr_frame.proofs.SeenLaws.{seen_set}
-use Rattle.fr_frame.proofs.SlotLaws.{get_seen, node_seen, reserved_in, set_seen}
+use Rattle.fr_frame.proofs.SeenSlots.{seen_set}
+use Rattle.fr_frame.proofs.SingleSlots.{get_seen, node_seen, reserved_in, set_seen}
 
 -- Children.
 

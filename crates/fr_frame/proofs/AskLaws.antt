@@ -5,7 +5,7 @@ use Rattle.fr_model.specs.Complete.{unless_there}
 use Rattle.fr_model.specs.Failing.{first_missing}
 use Rattle.fr_model.specs.Tree.{hole, branch}
 use Rattle.fr_frame.specs.Filling.{child_value}
-use Rattle.fr_frame.proofs.TrackerLaws.{others_missing, others_pass, others_take, others_unmarked}
+use Rattle.fr_frame.proofs.RulesOnChildren.{others_missing, others_pass, others_take, others_unmarked}
 
 -- of two things
 

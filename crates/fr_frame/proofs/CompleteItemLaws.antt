@@ -13,10 +13,10 @@ use Rattle.fr_frame.proofs.HeapLaws.{changed, occur_set, shown_is, shows_set, wi
 use Rattle.fr_values.specs.SliceLaws.{is_set, number_cases, read, set_gets, set_keeps}
 use Rattle.std.proofs.lemmas.List.{set_comm}
 use Rattle.std.proofs.lemmas.Option.{slice_get_within}
-use Rattle.fr_frame.proofs.PlaceLaws.{of_node}
+use Rattle.fr_frame.proofs.ChangedPlaces.{of_node}
 use Rattle.fr_frame.proofs.RawLaws.{among}
-use Rattle.fr_frame.proofs.SeenLaws.{from_set, items_at, seen_by, seen_get, slot_seen_same}
-use Rattle.fr_frame.proofs.SlotLaws.{node_seen}
+use Rattle.fr_frame.proofs.SeenSlots.{from_set, items_at, seen_by, seen_get, slot_seen_same}
+use Rattle.fr_frame.proofs.SingleSlots.{node_seen}
 
 -- One slot.
 

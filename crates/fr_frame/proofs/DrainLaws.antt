@@ -4,7 +4,7 @@ use Rattle.fr_frame.specs.Common.{Box, Cell, FreesItem, FreesItems, Global, Held
 use Rattle.std.proofs.lemmas.Bool.{eq-eqb, false≢true}
 use Rattle.std.proofs.lemmas.Option.{get_or_from_slice_get, slice_get_read}
 use Rattle.fr_frame.specs.ListItems.{IsItemFreed}
-use Rattle.fr_frame.proofs.SeenLaws.{HoldSame, items_set, seen_as_same, slot_seen_same}
+use Rattle.fr_frame.proofs.SeenSlots.{HoldSame, items_set, seen_as_same, slot_seen_same}
 use Rattle.fr_values.specs.SliceLaws.{number_cases, other_number, set_gets, set_keeps}
 
 -- Children that are filled in, from number `at` on.

@@ -23,7 +23,7 @@ use Rattle.fr_frame.specs.Bodies.{IsUnplaced}
 use Rattle.fr_frame.specs.Defaults.{taken}
 use Rattle.fr_frame.specs.Filling.{child_value}
 use Rattle.fr_frame.proofs.AskLaws.{both_there}
-use Rattle.fr_frame.proofs.TrackerLaws.{others_take}
+use Rattle.fr_frame.proofs.RulesOnChildren.{others_take}
 
 -- Templates of a checked table hold no token.
 

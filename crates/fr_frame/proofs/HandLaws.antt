@@ -7,7 +7,7 @@ use Rattle.fr_frame.specs.Heap.{ends}
 use Rattle.fr_frame.specs.declared.places.Taker.{Taker}
 use Rattle.fr_frame.proofs.HeapLaws.{changed, shown_is, slot_twice, with_body_twice, with_here, with_other}
 use Rattle.fr_values.specs.SliceLaws.{same_number, set_gets}
-use Rattle.fr_frame.proofs.PlaceLaws.{becomes, found_so, in_use_so, of_node, with_partial}
+use Rattle.fr_frame.proofs.ChangedPlaces.{becomes, found_so, in_use_so, of_node, with_partial}
 use Rattle.fr_values.specs.CellLaws.{none_more}
 use Rattle.std.proofs.lemmas.List.{set-set}
 use Rattle.std.proofs.lemmas.Option.{same_Some}

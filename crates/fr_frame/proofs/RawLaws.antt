@@ -10,9 +10,9 @@ use Rattle.fr_frame.specs.Outlines.{has_items}
 use Rattle.fr_frame.specs.RawSlots.{with_stored, IsReformed}
 use Rattle.fr_frame.proofs.HeapLaws.{inside, occur_set}
 use Rattle.fr_values.specs.SliceLaws.{read}
-use Rattle.fr_frame.proofs.PlaceLaws.{marks, occur_change, shows}
-use Rattle.fr_frame.proofs.SeenLaws.{seen_length, seen_set}
-use Rattle.fr_frame.proofs.SlotLaws.{get_seen, no_place, node_seen, set_seen, used_in, IsNoPlace}
+use Rattle.fr_frame.proofs.ChangedPlaces.{marks, occur_change, shows}
+use Rattle.fr_frame.proofs.SeenSlots.{seen_length, seen_set}
+use Rattle.fr_frame.proofs.SingleSlots.{get_seen, no_place, node_seen, set_seen, used_in, IsNoPlace}
 
 -- What was put at a place.
 

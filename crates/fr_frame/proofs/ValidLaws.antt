@@ -4,7 +4,7 @@ use Rattle.fr_frame.specs.Common.{AreTold, Cell, Field, FieldPlan, Meanings, Pla
 use Rattle.fr_model.specs.Complete.{failing_field}
 use Rattle.fr_frame.specs.Filling.{IsToldAt}
 use Rattle.fr_frame.proofs.AskLaws.{fails, invalid_is, there_passes, there_same}
-use Rattle.fr_frame.proofs.LackLaws.{field_fails, passes_all}
+use Rattle.fr_frame.proofs.LacksByChildren.{field_fails, passes_all}
 
 -- what the plan tells of the validators of child i is asked of its value
 abbrev pub refuses : Meanings → Plan → List FieldPlan → ℕ → (own : Option Val) → Option ReflectErrorKind

@@ -10,5 +10,5 @@ pub use Rattle.fr_model.proofs.Plain.{AllPlain, not_dynamic, plain_child, valid_
 pub use Rattle.fr_model.proofs.Resting.{rests_here, fresh_rests, rest_on, rest_up, rest_put_up, rest_took, rest_converted, wholes_rest, rest_but, last_rests, count_last, holes_rest, opened_rests, put_among, enter_child_rests, item_rests, key_rests, closed_rests}
 pub use Rattle.fr_model.proofs.Structs.{suit_alike, odd_next, suit_nth, SuitFrom, settled_as, has_pointee, count_holes, holes_suit, count_change, suit_change, one_more_is, right_kept, taken_as, ChildrenFit, sound_as, value_fits, value_holds}
 pub use Rattle.fr_model.proofs.Templates.{both_true, preset_template, template_holds, field_default_template, all_of_both}
-pub use Rattle.fr_model.proofs.Tokens.{fresh_holds, change_holds, wholes_hold, holes_hold, nth_holds, opened_holds, enter_child_holds}
+pub use Rattle.fr_model.proofs.TokensInTrees.{fresh_holds, change_holds, wholes_hold, holes_hold, nth_holds, opened_holds, enter_child_holds}
 pub use Rattle.fr_model.proofs.Wholes.{done_but, done_none, without_last, done_put}

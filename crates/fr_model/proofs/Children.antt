@@ -1,7 +1,7 @@
 -- Which children may be entered, by the machine and by the journal.
 use Rattle.std.proofs.Common.{◌≡◌, ◌+◌, ◌<◌, ◌≤◌, ◌&&◌, if◌then◌else◌, ◌∷◌}
 use Rattle.fr_model.proofs.Common.{ℕ, suc, le-ltb, lt-ltb, ltb-true, leb-true, Bool, true, false, List, [], length, nat_lt, nat_le, Option, Some, None, refl, ◌∙◌, ap, arith, is_begun_conversion, without_source, fresh, Def, ShapeId, StructDef, EnumDef, Field, Operation, Table, def_of, Val, first_declared, field_named, array_limit, count_children, Journal, Held, held, is_written, may_enter_children, Tracker, as_fields, selected, Tree, hole, entered, whole, begun, count_trees, Mode, field_refusal, named_refusal, variant_fields, field_found, IsFullAs, Suits, AtCursor}
-use Rattle.fr_model.proofs.Tokens.{fresh_is}
+use Rattle.fr_model.proofs.TokensInTrees.{fresh_is}
 use Rattle.fr_model.proofs.Basis.{without_source_is, IsWhole, by_value, by_entry, Agrees, IsOpen, Enterable, a_field, an_element, a_variant_field}
 
 -- of an array, the journal holds a value exactly where the tree has one

@@ -2,7 +2,7 @@
 use Rattle.std.proofs.Common.{◌≡◌, if◌then◌else◌, ◌∷◌}
 use Rattle.fr_model.proofs.Common.{ℕ, zero, suc, Bool, true, false, [], Some, None, refl, sym, subst, arith, Def, ShapeId, Operation, fits, entries_fit, Table, def_of, is_dynamic, none_twice, keys, Val, Entries, unit, set_of, map_of, no_entries, entry, is_hole, ends_in_hole, key_refusal, value_refusal, with_key, last_of, count_entries, is_key, in_turn, opened, init_map_refusal, init_set_refusal, as_items, ItemsKind, as_entries, EntriesKind, Tree, hole, entered, whole, begun, Trees, no_trees, branch, and_last, child_as, count_trees, count_below, wholes, fresh, tree_occurs, Mode, HasEntries, IsTouched, AreEntries, Suits, IsOff, AllOff, AtCursor, OffBut}
 use Rattle.fr_model.proofs.Becoming.{Placed}
-use Rattle.fr_model.proofs.Items.{items_suit, last_suits, last_leads, last_holds}
+use Rattle.fr_model.proofs.BegunItems.{items_suit, last_suits, last_leads, last_holds}
 use Rattle.fr_model.proofs.Basis.{Enterable, a_value, may_work, enter_touched, fresh_suits, fresh_at_cursor, hole_off, wholes_off, count_last, SuitFrom, settled_as, both_true, fresh_holds, wholes_touched, odd_next}
 
 -- A set is begun

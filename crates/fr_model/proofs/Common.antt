@@ -33,7 +33,7 @@ pub use Rattle.fr_model.specs.Finish.{finished, closed, one_more_tree, closed_al
 pub use Rattle.fr_model.specs.DueNotes.{IsOffTheWay, IsAbove, IsLeft, IsHole, IsCursor, IsDue, StuckOrNoted, NotesWhatIsDue, AreDisjoint, LieApart, NotesLieApart}
 pub use Rattle.fr_model.specs.Gathering.{left_out, is_there, and_last_val, items_in, items_left_out, with_entry_in, entry_leaves_out, entries_in, entries_left_out, with_item_in}
 pub use Rattle.fr_model.specs.Items.{init_array_refusal, item_refusal, is_open_slice, closed_slice, shared_slice_refusal, whole_array_refusal, begun_item_refusal, with_item, shared_slice_by}
-pub use Rattle.fr_model.specs.Journal.{Note, entered_at, wrote_at, Journal, Held, in_parts, written, just_entered, untouched, held, longest, entered_struct, by_entered, entered_value, by_held, by_parts, child_makes, completes_within, completes, journal_run, beside, standing, after_write, at_least_entered, after_entry, is_written, may_enter_children, Standing, covers, beneath, both_notes, each_notes, writing, closing_by, closing, closing_beside, closing_parts, closing_here_by, closing_here, finish_notes, place_of, Progress, initial_progress, rule, then_rules, rules, outcome_in, outcome, may_enter, goes_to_child, goes_to_found, writes, ends, goes_up, end_rule, begin_deferred_rule, finishes_with, finish_rule}
+pub use Rattle.fr_model.specs.Journal.{Note, entered_at, wrote_at, Journal, Held, in_parts, written, just_entered, untouched, held, longest, entered_struct, by_entered, entered_value, by_held, by_parts, child_makes, completes_within, completes, journal_run, beside, standing, after_write, at_least_entered, after_entry, is_written, may_enter_children, Standing, covers, beneath, both_notes, each_notes, writing, closing_by, closing, closing_beside, closing_parts, closing_here_by, closing_here, finish_notes, place_of, Progress, initial_progress, rule, then_rules, rules, outcome_in, outcome, may_enter, goes_to_child, goes_to_found, writes, writes_and_leaves, goes_up, end_rule, begin_deferred_rule, finishes_with, finish_rule}
 pub use Rattle.fr_model.specs.PathLaws.{EnteringAddsItsStep, HasBegun, HasBegunAs, IsAdmittedOn, IsKeptAs, KeptIsAdmitted, step_on, LeadAbove}
 pub use Rattle.fr_model.specs.Places.{Column, strict_column, deferred_column, is_root, Place, count_children, child_count, one_more, product_of, each_child, child_shape, fill_of_field, fill_at, content_shape, part, part_at, array_limit, count_entries, is_key, in_turn, up, shape_at, vals_nth, shape_of_field, shape_of_child, shape_or_zero, pointee_shape, item_shape, fill_by, fill_in}
 pub use Rattle.fr_model.specs.Relation.{HasParts, HasPlace, StandsFor, IsRelated, BothGoOn}

@@ -1,7 +1,7 @@
 -- Conversions in a tree that is changed: each is still one that there is to its place.
 use Rattle.std.proofs.Common.{◌≡◌, ◌+◌, ◌∷◌}
 use Rattle.fr_model.proofs.Common.{ℕ, zero, suc, true, [], Option, Some, None, refl, sym, subst, arith, Field, Def, Table, def_of, List, Val, Vals, no_vals, first, is_set, without_nth, with_ended_item, with_item, with_key, with_entry, and_entry, entry_found, opened, opened_value, parts_as, enter, enter_child, is_open_slice, closed_slice, Place, Tracker, as_items, ItemsKind, as_entries, EntriesKind, tracker_of, over_base, Tree, hole, entered, whole, begun, Trees, no_trees, branch, tree_nth, change_nth, change_child, tree_at, change_at, and_last, child_as, field_as, field_along, shape_in, count_trees, wholes, holes, fresh, ConversionSuits, ConversionsSuit, AllConversionsSuit}
-use Rattle.fr_model.proofs.Tokens.{fresh_is}
+use Rattle.fr_model.proofs.TokensInTrees.{fresh_is}
 use Rattle.fr_model.proofs.Wholes.{either_way}
 
 pub fresh_converts : (table : Table) (s : ℕ) (field : Option Field) (def : Def) → ConversionsSuit table s field (fresh def)

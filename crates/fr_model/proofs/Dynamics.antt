@@ -3,7 +3,7 @@
 use Rattle.std.proofs.Common.{◌≡◌, if◌then◌else◌, ◌<◌, ◌∷◌, ◌++◌}
 use Rattle.fr_model.proofs.Common.{encode_utf8, ℕ, Bool, true, false, List, Option, Some, None, Ok, Err, refl, arith, option_map, Operation, Def, ScalarKind, keys_once, Table, occurs, vals_occur, Val, Vals, bool, char, int, nat, text, list_of, no_vals, first, Dynamic, dyn_bool, dyn_int, dyn_nat, dyn_text, dyn_bytes, or_not_dynamic, from_bool, from_char, from_int, from_nat, from_text, byte_before, bytes_of, from_bytes, from_scalar, converted, zero, suc, [], length, length-append, sym, ap, subst, fits, all_keys_once, members_keys_once, def_of, is_dynamic, dyn, Dynamics, Members, dyn_array, dyn_object, no_dynamics, first_dynamic, no_members, member, is_begun_object, array_of, object_of, array_anew, object_anew, kept_array, kept_object, entry_refusal, entry_found, entry_number, number_or_last, and_entry, with_entry, element_vals, member_vals, member_keys, elements_in, members_of_object, dynamic_in, as_items, ItemsKind, as_entries, EntriesKind, Tree, hole, whole, begun, Trees, no_trees, branch, and_last, count_trees, wholes, fresh, tree_occurs, trees_occur, Mode, strict, deferred, TakesItemsAs, HasEntries, IsTouched, AreTouched, AreDone, Suits, RestsAround, IsOff, AllOff, AtCursor, OffBut}
 use Rattle.fr_model.proofs.Becoming.{stays_kept, Placed, Becoming, IsKept, becoming}
-use Rattle.fr_model.proofs.Items.{last_suits, last_touched, last_leads, last_holds}
+use Rattle.fr_model.proofs.BegunItems.{last_suits, last_touched, last_leads, last_holds}
 use Rattle.fr_model.proofs.Converts.{wholes_convert}
 use Rattle.fr_model.proofs.Basis.{may_work, apart_last, found_at, member_keys_apart, enter_touched, fresh_suits, fresh_at_cursor, wholes_off, all_deferred, rests_here, wholes_rest, fresh_rests, rest_but, last_rests, count_last, SuitFrom, settled_as, both_true, fresh_holds, opened_holds, done_but, done_none, without_last, wholes_touched, suit_alike}
 

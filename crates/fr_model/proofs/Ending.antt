@@ -3,7 +3,7 @@ use Rattle.std.proofs.Common.{◌≡◌, ◌+◌, if◌then◌else◌, ◌∷◌
 use Rattle.fr_model.proofs.Common.{ℕ, zero, suc, Bool, true, false, [], Some, refl, sym, ap, subst, arith, IsChecked, fits, Meanings, Table, occurs, Val, is_set, has_same, without_nth, and_item, with_ended_item, leaves_item_out, number_in, complete, dropped_by_completing, Place, Column, is_root, up, is_set_item, takes_item, above, puts, as_items, ItemsKind, Tree, whole, begun, Trees, no_trees, branch, tree_nth, tree_at, change_at, and_last, shape_in, child_as, count_trees, tree_occurs, trees_occur, Mode, strict, deferred, State, cursor_shape, cursor_tree, AreTouched, IsTouched, Suits, AllOff, OffBut, Leads, BeganAbove, IsInOrder}
 use Rattle.fr_model.proofs.Basis.{LawfulIn, completing_makes, may_work, leads_child, Made, suits_at, suits_changed, off_change, leads_left, leads_deferred, made_at, whole_off, SuitFrom, change_holds}
 use Rattle.fr_model.proofs.Collections.{all_last}
-use Rattle.fr_model.proofs.Items.{last_suits, last_touched, last_holds}
+use Rattle.fr_model.proofs.BegunItems.{last_suits, last_touched, last_holds}
 use Rattle.fr_model.proofs.Wholes.{either_way}
 
 -- Above the cursor, where whatever stands there may be half done

@@ -248,9 +248,6 @@ module _ (table : Table) (root : ℕ) (state : State) (parts : IsAtParts table r
   pub other_apart : is_begun_conversion (cursor_tree other_state) ≡ false
   other_apart = rw same_tree is_alike.apart
 
-  pub other_parts : IsAtParts table root other_state
-  other_parts = rw (same_shape, same_tree) is_alike.parts
-
   pub other_enters : (i : ℕ) (command : Call) → EntersChild table (cursor_shape table root state) i (cursor_tree state) command
       → EntersChild table (cursor_shape table root other_state) i (cursor_tree other_state) command
   other_enters i (Call.BeginField name) so = rw (same_shape, same_tree, is_alike.chosen) so

@@ -27,7 +27,7 @@ pub mod FinishRests
 pub mod Finishes
 pub mod FirstFailure
 pub mod GatheredParts
-pub mod Items
+pub mod BegunItems
 pub mod Keys
 pub mod Move
 pub mod Moves
@@ -52,12 +52,12 @@ pub mod Paths
 pub mod Plain
 pub mod Plannable
 pub mod Resting
-pub mod Rows
+pub mod WorkedScripts
 pub mod Runs
-pub mod Steps
+pub mod StepsAlike
 pub mod Structs
 pub mod SwapScripts
 pub mod Swaps
 pub mod Templates
-pub mod Tokens
+pub mod TokensInTrees
 pub mod Wholes

@@ -4,10 +4,10 @@ use Rattle.std.proofs.Common.{◌≡◌, ◌+◌, ◌<◌, ◌∷◌, ◌++◌, 
 use Rattle.fr_model.proofs.Common.{ConversionSuits, ConversionsSuit, begins_array, without_source, above, source_kept, enters_source, begins_if_proxied, dropped_with_source, dropped_by_proxy, by_proxy, proxy_at, cursor_field, is_begun_conversion, Conversion, puts_child, fresh, begun, ℕ, true, false, [], length, Option, Some, None, refl, Meanings, Table, Val, Call, Place, Column, is_root, Tree, change_at, Mode, strict, deferred, State, cursor_shape, cursor_tree, one_more_call, tree_occurs, complete, finished, puts, puts_and_leaves, leaves, is_set_item, takes_item, is_dynamic_part, brings, replaced, dropped_unless, is_open_slice, RestsAround, number_in, dropped_by_completing, up, dropped_with_item, IsFitting, tree_at, BeganAbove, List, def_of, content_anew, strict_column, Tracker, count_below, Way, enters, at_shape, opens, becomes, init_array_refusal, Bool, unwrap_or, sym, ◌∙◌, ap, subst, arith, Def, with_key, entry_number, with_entry, with_item, child_count, opened, enter_child, put_child, tracker_of, tracker_at, count_trees, Suits, AtCursor, IsInOrder, Field, field_in, as_content, ContentKind, selected}
 use Rattle.fr_model.proofs.Becoming.{Placed, lost, Becoming, content_becomes, source_holds}
 use Rattle.fr_model.proofs.Basis.{MayGoUp, entry, without_source_is, without_source_at, without_source_suits, without_source_apart, fresh_apart, fresh_suits, fresh_at_cursor, fresh_holds, fresh_rests, rests_here, defers, at_cursor, suits_at, Enterable, enterable_apart, opening, opened_rests, enter_child_rests, item_rests, key_rests, template_holds, opened_holds, enter_child_holds}
-use Rattle.fr_model.proofs.Steps.{finishes_as}
+use Rattle.fr_model.proofs.StepsAlike.{finishes_as}
 use Rattle.fr_model.proofs.Templates.{IsTemplate}
 use Rattle.fr_shape.specs.Hooks.{IsLawful}
-use Rattle.fr_model.proofs.Items.{TakesAnItem, array_opens, item_placed, item_holds}
+use Rattle.fr_model.proofs.BegunItems.{TakesAnItem, array_opens, item_placed, item_holds}
 use Rattle.fr_model.proofs.Converts.{fresh_converts, opened_converts, enter_child_converts, put_child_converts, item_converts, key_converts, entry_converts}
 use Rattle.fr_model.proofs.Conversions.{MayConvert, shape_proxy_may}
 use Rattle.fr_model.proofs.Defaulting.{putting, field_there}

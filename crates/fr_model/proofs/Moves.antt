@@ -10,7 +10,7 @@ use Rattle.fr_model.proofs.Ending.{took_in_order, took_holds, made_above, conver
 use Rattle.fr_model.proofs.Converts.{fresh_converts, converts_changed, took_converts}
 use Rattle.fr_model.proofs.FinishRests.{finish_rests}
 use Rattle.fr_model.proofs.Finishes.{finish_keeps}
-use Rattle.fr_model.proofs.Steps.{finished_in_order}
+use Rattle.fr_model.proofs.StepsAlike.{finished_in_order}
 
 -- tokens
 

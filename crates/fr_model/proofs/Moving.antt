@@ -5,7 +5,7 @@ use Rattle.fr_model.proofs.Becoming.{Placed, content_becomes, option_becomes, Is
 use Rattle.fr_model.proofs.Basis.{may_go_up, may_go_deferred, Made, lawful_in, at_cursor, suits_at, up_long, began_strict, closed_rests, settled_as, preset_template, template_holds, field_default_template, completing_makes, began_up}
 use Rattle.fr_model.proofs.Templates.{text_template, bytes_template}
 use Rattle.fr_shape.specs.Hooks.{IsLawful, Meaning, gives, refuses, unsupported}
-use Rattle.fr_model.proofs.Items.{list_opens, takes_a_set_item, takes_an_item, slice_closes, closed_holds, shared_fits}
+use Rattle.fr_model.proofs.BegunItems.{list_opens, takes_a_set_item, takes_an_item, slice_closes, closed_holds, shared_fits}
 use Rattle.fr_model.proofs.Converts.{shut_converts, holes_convert}
 use Rattle.fr_model.proofs.Conversions.{wrapper_may, field_proxy_may}
 use Rattle.fr_model.specs.Contents.{is_deferred as is_deferred_mode}

@@ -4,7 +4,7 @@ use Rattle.fr_model.proofs.Common.{ℕ, zero, suc, true, false, List, [], length
 use Rattle.fr_model.proofs.Beneath.{down, held_down, IsLow, untouched_below, written_below}
 use Rattle.fr_model.proofs.Agreement.{IsWhole, by_value, by_entry, Agrees, AgreeAll, agree_change, down_same, down_other}
 use Rattle.fr_model.proofs.Wholes.{base_hole}
-use Rattle.fr_model.proofs.Tokens.{fresh_is}
+use Rattle.fr_model.proofs.TokensInTrees.{fresh_is}
 use Rattle.fr_model.proofs.Structs.{right_kept, SuitFrom, settled_as, all_from, wholes_suit, count_change, count_holes, holes_suit, suit_change}
 
 -- the place isn't a value

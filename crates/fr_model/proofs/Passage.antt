@@ -6,7 +6,7 @@ use Rattle.fr_model.proofs.Templates.{is_not, some_is}
 use Rattle.fr_shape.specs.Invariants.{keeps_invariants}
 use Rattle.fr_model.proofs.PassageTrees.{IsStraight, IsRight, way_right, no_hole}
 use Rattle.fr_model.proofs.PassageSteps.{Does, Doing, BothDo, does_itself, look_itself, change_is}
-use Rattle.fr_model.proofs.PassageMoves.{Leads, leads_does}
+use Rattle.fr_model.proofs.PassageMoves.{DirectWay, leads_does}
 use Rattle.fr_model.proofs.PassageRuns.{IsLocal, command_does}
 use Rattle.fr_model.proofs.PassageSound.{Makes, SoundHere, SoundOff, done_sound, sound_here, sound_before, sound_at, left_makes, left_sound, taken_sound}
 use Rattle.fr_model.proofs.PassageEnds.{closed_same, closed_fills}
@@ -111,7 +111,7 @@ module _ (hooks : Meanings) (table : Table) (root : ℕ) where
     pub built_so : outcome makes.value ≡ Ok v
 
   -- and where it ends with a value it does so
-  pub finish_ends : (m : ℕ) (state : State) (v : Val) → state.mode ≡ deferred 0 → Leads table root state.cursor state.tree
+  pub finish_ends : (m : ℕ) (state : State) (v : Val) → state.mode ≡ deferred 0 → DirectWay table root state.cursor state.tree
       → fills_none table root (cursor_shape table root state) state Call.FinishDeferred ≡ true
       → run_from hooks table root m state (Call.FinishDeferred ∷ []) ≡ Ok v → Finished state v
   finish_ends m state v mode leads none ok = go (finished hooks table root state.cursor state.tree) refl
@@ -173,7 +173,7 @@ module _ (hooks : Meanings) (table : Table) (root : ℕ) where
   -- what a command makes of such a state
   pub record Before (state next : State) : Type 0 where
     pub mode : next.mode ≡ deferred 0
-    pub leads : Leads table root next.cursor next.tree
+    pub leads : DirectWay table root next.cursor next.tree
     pub sound : SoundOff hooks table root next.cursor next.tree → SoundOff hooks table root state.cursor state.tree
 
   -- and of the place that it ends
@@ -182,7 +182,7 @@ module _ (hooks : Meanings) (table : Table) (root : ℕ) where
     pub makes : SoundOff hooks table root next.cursor next.tree
         → Makes hooks table (cursor_shape table root state) (cursor_tree state)
 
-  changed_before : (state : State) (way : Place) (m : Tree) → Leads table root state.cursor state.tree
+  changed_before : (state : State) (way : Place) (m : Tree) → DirectWay table root state.cursor state.tree
       → Does table (cursor_shape table root state) (cursor_tree state) (cursor_tree state) way m m
       → SoundOff hooks table root (state.cursor ++ way) (change_at state.cursor (λ old. m) state.tree)
       → SoundOff hooks table root state.cursor state.tree
@@ -190,7 +190,7 @@ module _ (hooks : Meanings) (table : Table) (root : ℕ) where
       sound_before hooks table (IsDirect table) root state.cursor way state.tree m leads
       (done_sound hooks table (cursor_shape table root state) (cursor_tree state) way m is)
 
-  pub local_before : (state next : State) (command : Call) → state.mode ≡ deferred 0 → Leads table root state.cursor state.tree → IsLocal command
+  pub local_before : (state next : State) (command : Call) → state.mode ≡ deferred 0 → DirectWay table root state.cursor state.tree → IsLocal command
       → enters_new_or_hole table root (cursor_shape table root state) state command ≡ true
       → works_at_entered table (cursor_shape table root state) state command ≡ true
       → step hooks table root state command ≡ Ok next → Before state next
@@ -212,7 +212,7 @@ module _ (hooks : Meanings) (table : Table) (root : ℕ) where
             sound = changed_before state doing.way doing.m leads is;
           })
 
-  pub end_before : (state next : State) → state.mode ≡ deferred 0 → Leads table root state.cursor state.tree
+  pub end_before : (state next : State) → state.mode ≡ deferred 0 → DirectWay table root state.cursor state.tree
       → fills_none table root (cursor_shape table root state) state Call.End ≡ true
       → step hooks table root state Call.End ≡ Ok next → Ended state next
   end_before state next mode leads none ok = go (end_case state)

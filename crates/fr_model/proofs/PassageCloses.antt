@@ -5,7 +5,7 @@ use Rattle.fr_model.proofs.PassageTrees.{IsRight, way_end, way_put, way_up}
 use Rattle.fr_model.proofs.PassageSides.{is_pointer, IsBeside, Along}
 use Rattle.fr_model.proofs.PassageSteps.{LookSame, change_is}
 use Rattle.fr_model.proofs.PassageCommands.{open_too}
-use Rattle.fr_model.proofs.PassageMoves.{Leads}
+use Rattle.fr_model.proofs.PassageMoves.{DirectWay}
 use Rattle.fr_model.proofs.PassageEnds.{right_apart, along_changed, parents_same, left_along, taken_along, closed_same}
 use Rattle.fr_model.proofs.PassagePairs.{Pair, BothPair, pair_shape, pair_look, pair_right, state_right, look_swapped}
 use Rattle.fr_model.specs.Passage.{IsDirect}
@@ -77,38 +77,38 @@ set_right table s i v entered set right = right
 set_right table s i v (whole w) set right = right
 
 module _ (hooks : Meanings) (table : Table) (root : ℕ) where
-  pub leads_changed : (place : Place) (t m : Tree) → Leads table root place t → IsRight table (shape_in table root place t) m
-      → Leads table root place (change_at place (λ old. m) t)
+  pub leads_changed : (place : Place) (t m : Tree) → DirectWay table root place t → IsRight table (shape_in table root place t) m
+      → DirectWay table root place (change_at place (λ old. m) t)
   leads_changed place t m leads right =
-      subst (λ (there : Place). Leads table root there (change_at place (λ old. m) t)) (append-nil place)
+      subst (λ (there : Place). DirectWay table root there (change_at place (λ old. m) t)) (append-nil place)
       (way_put table (IsDirect table) root place [] t m leads ((way_end table (IsDirect table) root place t leads).0, right))
 
-  pub leads_up : (place : Place) (t : Tree) → Leads table root place t → Leads table root (up place) t
+  pub leads_up : (place : Place) (t : Tree) → DirectWay table root place t → DirectWay table root (up place) t
   leads_up place t leads = way_up table (IsDirect table) root place t leads
 
-  pub no_source : (state : State) → Leads table root state.cursor state.tree → is_source_place state ≡ false
+  pub no_source : (state : State) → DirectWay table root state.cursor state.tree → is_source_place state ≡ false
   no_source state leads =
       (right_apart table _ _ (way_end table (IsDirect table) root (up state.cursor) state.tree (leads_up state.cursor state.tree leads)).1).0
 
-  pub no_part : (state : State) → Leads table root state.cursor state.tree → is_dynamic_part state ≡ false
+  pub no_part : (state : State) → DirectWay table root state.cursor state.tree → is_dynamic_part state ≡ false
   no_part state leads =
       (right_apart table _ _ (way_end table (IsDirect table) root (up state.cursor) state.tree (leads_up state.cursor state.tree leads)).1).1
 
-  parent_right : (state : State) → Leads table root state.cursor state.tree
+  parent_right : (state : State) → DirectWay table root state.cursor state.tree
       → IsRight table (shape_in table root (up state.cursor) state.tree) (tree_at (up state.cursor) state.tree)
   parent_right state leads = (way_end table (IsDirect table) root (up state.cursor) state.tree (leads_up state.cursor state.tree leads)).1
 
-  pub leads_taken : (state : State) (v : Val) → is_set_item state ≡ true → Leads table root state.cursor state.tree
-      → Leads table root (up state.cursor) (change_at (up state.cursor) (with_ended_item (number_in state.cursor) v) state.tree)
+  pub leads_taken : (state : State) (v : Val) → is_set_item state ≡ true → DirectWay table root state.cursor state.tree
+      → DirectWay table root (up state.cursor) (change_at (up state.cursor) (with_ended_item (number_in state.cursor) v) state.tree)
   leads_taken state v set leads =
-      subst (λ (w : Tree). Leads table root (up state.cursor) w) (sym (change_is (up state.cursor) (with_ended_item (number_in state.cursor) v) state.tree))
+      subst (λ (w : Tree). DirectWay table root (up state.cursor) w) (sym (change_is (up state.cursor) (with_ended_item (number_in state.cursor) v) state.tree))
       (leads_changed (up state.cursor) state.tree _ (leads_up state.cursor state.tree leads)
       (set_right table _ (number_in state.cursor) v _ set (parent_right state leads)))
 
-  pub leads_closed : (state : State) → is_open_slice (cursor_tree state) ≡ true → Leads table root state.cursor state.tree
-      → Leads table root state.cursor (change_at state.cursor closed_slice state.tree)
+  pub leads_closed : (state : State) → is_open_slice (cursor_tree state) ≡ true → DirectWay table root state.cursor state.tree
+      → DirectWay table root state.cursor (change_at state.cursor closed_slice state.tree)
   leads_closed state open_now leads =
-      subst (λ (w : Tree). Leads table root state.cursor w) (sym (change_is state.cursor closed_slice state.tree))
+      subst (λ (w : Tree). DirectWay table root state.cursor w) (sym (change_is state.cursor closed_slice state.tree))
       (leads_changed state.cursor state.tree _ leads (closed_right table _ _ open_now (state_right hooks table root state leads)))
 
   -- what it makes of a state in strict mode
@@ -134,7 +134,7 @@ module _ (hooks : Meanings) (table : Table) (root : ℕ) where
       → is_set_item state ≡ true → Ending state ≡ item_ended strict_column hooks table (cursor_shape table root state) state (strictly_made state)
   strict_item state mode e f g = rw (e, f, mode, g) refl
 
-  strict_other : (state : State) → state.mode ≡ strict → Leads table root state.cursor state.tree → is_open_slice (cursor_tree state) ≡ false
+  strict_other : (state : State) → state.mode ≡ strict → DirectWay table root state.cursor state.tree → is_open_slice (cursor_tree state) ≡ false
       → is_root state.cursor ≡ false → is_set_item state ≡ false
       → Ending state ≡ ended hooks table (cursor_shape table root state) state (strictly_made state)
   strict_other state mode leads e f g = rw (e, f, mode, g, no_source state leads) refl
@@ -148,12 +148,12 @@ module _ (hooks : Meanings) (table : Table) (root : ℕ) where
       → is_set_item state ≡ true → Ending state ≡ item_ended deferred_column hooks table (cursor_shape table root state) state (made_later state)
   later_item state mode e f g = rw (e, f, mode, below_start state.cursor f, g) refl
 
-  pub later_other : (state : State) → state.mode ≡ deferred 0 → Leads table root state.cursor state.tree → is_open_slice (cursor_tree state) ≡ false
+  pub later_other : (state : State) → state.mode ≡ deferred 0 → DirectWay table root state.cursor state.tree → is_open_slice (cursor_tree state) ≡ false
       → is_root state.cursor ≡ false → is_set_item state ≡ false → Ending state ≡ Ok (leaves state)
   later_other state mode leads e f g = rw (e, f, mode, below_start state.cursor f, g, no_part state leads) refl
 
   -- in strict mode it goes on only where the place completes
-  pub end_completes : (state next : State) → state.mode ≡ strict → Leads table root state.cursor state.tree → Ending state ≡ Ok next
+  pub end_completes : (state next : State) → state.mode ≡ strict → DirectWay table root state.cursor state.tree → Ending state ≡ Ok next
       → (v : Val) × (strictly_made state ≡ Some v)
   end_completes state next mode leads ok = go (strictly_made state) refl
     where

@@ -1,7 +1,7 @@
 -- Items, entries and sources: each orderly command does the same to two places that look the same, or is refused at both.
 use Rattle.std.proofs.Common.{◌≡◌, ◌<◌, ◌∷◌, inr}
 use Rattle.fr_model.proofs.Common.{ℕ, suc, Bool, true, false, List, [], map, length, Option, Some, None, Result, Ok, Err, refl, sym, append-nil, base_of_tracker, tracker_of, ◌∙◌, ap, ap₂, subst, arith, Def, Field, ShapeId, Operation, ReflectErrorKind, is_dynamic, is_empty_struct, is_nil, slice_get, Table, def_of, product, no_vals, Place, Tracker, as_fields, as_elements, as_content, as_items, as_entries, ItemsKind, EntriesKind, Tree, hole, entered, whole, begun, Trees, no_trees, branch, tree_nth, change_nth, and_last, count_trees, count_below, child_as, fresh, enter, enter_child, State, cursor_tree, one_more_call, Way, enters, is_hole, ends_in_hole, last_of, is_set, is_set_tracker, at_shape, unless_refused, item_refusal, begun_item_refusal, set_item_refusal, convert_in, source_in, proxy_of_field, proxy_at, with_item, with_key, HasEntries, is_closed_slice}
-use Rattle.fr_model.proofs.Tokens.{fresh_is}
+use Rattle.fr_model.proofs.TokensInTrees.{fresh_is}
 use Rattle.fr_model.proofs.Children.{ChildOf, field_of, element_of, variant_field_of, ChildCase, a_child, a_variant_child, no_child, child_case}
 use Rattle.fr_model.proofs.PassageTrees.{IsRightAs, IsRight}
 use Rattle.fr_model.proofs.Templates.{nil_is}

@@ -4,7 +4,7 @@ use Rattle.fr_model.proofs.Common.{ℕ, Bool, true, false, not, List, [], Option
 use Rattle.fr_model.proofs.Templates.{both_true, is_not}
 use Rattle.fr_model.proofs.PassageTrees.{way_right}
 use Rattle.fr_model.proofs.PassageSides.{IsBeside, Along, makes_same, fills_none_strictly}
-use Rattle.fr_model.proofs.PassageMoves.{Leads, fresh_right, fresh_beside}
+use Rattle.fr_model.proofs.PassageMoves.{DirectWay, fresh_right, fresh_beside}
 use Rattle.fr_model.proofs.PassageRuns.{IsLocal}
 use Rattle.fr_model.proofs.PassageSound.{Makes, SoundOff, sound_here}
 use Rattle.fr_model.proofs.PassagePairs.{Pair, BothPair, pair_beside, pair_shape, local_forth, local_back}
@@ -37,7 +37,7 @@ module _ (hooks : Meanings) (table : Table) (root : ℕ) where
       let one = both_true (enters_new_or_hole table root s state command) (works_at_entered table s state command) two.0 in
       record { enters = one.0; works = one.1; fills = two.1 }
 
-  step_before : (state next : State) (command : Call) → state.mode ≡ deferred 0 → Leads table root state.cursor state.tree
+  step_before : (state next : State) (command : Call) → state.mode ≡ deferred 0 → DirectWay table root state.cursor state.tree
       → is_mode_call command ≡ false → IsOrderlyAt state command → step hooks table root state command ≡ Ok next → Before hooks table root state next
   step_before state next command mode leads none orderly ok = go (local_or_end command none)
     where
@@ -48,7 +48,7 @@ module _ (hooks : Meanings) (table : Table) (root : ℕ) where
           (subst (λ (one : Call). fills_none table root (cursor_shape table root state) state one ≡ true) is orderly.fills)
           (subst (λ (one : Call). step hooks table root state one ≡ Ok next) is ok)).before
 
-  ahead : (script : List Call) (m : ℕ) (state : State) (v : Val) → state.mode ≡ deferred 0 → Leads table root state.cursor state.tree
+  ahead : (script : List Call) (m : ℕ) (state : State) (v : Val) → state.mode ≡ deferred 0 → DirectWay table root state.cursor state.tree
       → has_no_mode_calls script ≡ true → is_orderly_from hooks table root state (and_finish script) ≡ true
       → run_from hooks table root m state (and_finish script) ≡ Ok v → SoundOff hooks table root state.cursor state.tree
   ahead [] m state v mode leads none orderly ok =
@@ -67,7 +67,7 @@ module _ (hooks : Meanings) (table : Table) (root : ℕ) where
       parts = both_true (is_orderly_at table root (cursor_shape table root state) state command) _ orderly
 
       go : (r : Result State ReflectErrorKind) → step hooks table root state command ≡ r
-          → ((next : State) → next.mode ≡ deferred 0 → Leads table root next.cursor next.tree
+          → ((next : State) → next.mode ≡ deferred 0 → DirectWay table root next.cursor next.tree
           → is_orderly_from hooks table root next (and_finish script) ≡ true → run_from hooks table root (m + 1) next (and_finish script) ≡ Ok v
           → SoundOff hooks table root next.cursor next.tree) → SoundOff hooks table root state.cursor state.tree
       go (Ok next) is rest =

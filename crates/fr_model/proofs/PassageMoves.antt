@@ -2,7 +2,7 @@
 use Rattle.std.proofs.Common.{◌≡◌, ◌≢◌, ◌<◌, ◌∷◌, ◌⊎◌, inl, inr}
 use Rattle.fr_model.proofs.Common.{ℕ, suc, Bool, true, false, [], refl, sym, ◌∙◌, ap, subst, arith, Meanings, Table, def_of, Val, Place, Tracker, Tree, hole, whole, begun, Trees, tree_nth, change_nth, and_last, count_trees, child_as, shape_in, fresh, State, cursor_tree, is_set_tracker}
 use Rattle.fr_model.proofs.Basis.{count_change, count_last}
-use Rattle.fr_model.proofs.Tokens.{fresh_is}
+use Rattle.fr_model.proofs.TokensInTrees.{fresh_is}
 use Rattle.fr_model.proofs.PassageTrees.{same_or, nth_changed, nth_other, nth_before, nth_last, IsRightAs, IsRight, Way, way_end, way_put}
 use Rattle.fr_model.proofs.PassageSides.{IsOffBeside, AreBeside, AreBesideBut, IsBeside, Along}
 use Rattle.fr_model.proofs.PassageSteps.{AreBegunSo, as_fresh, as_value, Does, nothing, values, begins, fills_one, adds, adds_entry, does}
@@ -15,8 +15,8 @@ fresh_right table s c = fresh_is (IsRight table s) (def_of table c) (λ e. tt) (
 -- In one state
 
 module _ (table : Table) where
-  abbrev pub Leads : ℕ → Place → Tree → Type 0
-  Leads s here t = Way table (IsDirect table) s here t
+  abbrev pub DirectWay : ℕ → Place → Tree → Type 0
+  DirectWay s here t = Way table (IsDirect table) s here t
 
   right_changed : (s : ℕ) (tracker : Tracker) (i : ℕ) (f : Tree → Tree) (ts : Trees) → IsRightAs table s tracker (count_trees ts)
       → IsRightAs table s tracker (count_trees (change_nth i f ts))
@@ -25,7 +25,7 @@ module _ (table : Table) where
   -- a place that is begun so leads to its child, which is fresh
   leads_fresh : (s : ℕ) (tracker : Tracker) (ts : Trees) (i : ℕ) (x : Tree) → IsDirect table s → IsRightAs table s tracker (count_trees ts)
       → i < count_trees ts → tree_nth i ts ≡ x → x ≡ fresh (def_of table (child_as table s tracker i))
-      → Leads s (i ∷ []) (begun tracker ts)
+      → DirectWay s (i ∷ []) (begun tracker ts)
   leads_fresh s tracker ts i x direct right below at is = (
     direct,
     right,
@@ -35,7 +35,7 @@ module _ (table : Table) where
     ),
   )
 
-  leads_on : (s : ℕ) (t : Tree) (way : Place) (m n : Tree) → IsDirect table s → IsRight table s t → Does table s t t way m n → Leads s way m
+  leads_on : (s : ℕ) (t : Tree) (way : Place) (m n : Tree) → IsDirect table s → IsRight table s t → Does table s t t way m n → DirectWay s way m
   leads_on s t way m n direct right (nothing is e e') = rw (is, e) (direct, right)
   leads_on s t way m n direct right (values v left too is e e') = rw (is, e) (direct, tt)
   leads_on s t way m n direct right (begins tracker ts left too holes full is e e') = rw (is, e) (direct, full)
@@ -54,9 +54,9 @@ module _ (table : Table) where
       (subst (IsRightAs table s tracker) (sym (two ∙ ap suc one)) full) (omega (arith, one, two))
       (nth_before (count_trees ts) (and_last ts x) hole (omega (arith, one)) ∙ nth_last ts x) anew)
 
-  pub leads_does : (s : ℕ) (state : State) (way : Place) (m n : Tree) → Leads s state.cursor state.tree
+  pub leads_does : (s : ℕ) (state : State) (way : Place) (m n : Tree) → DirectWay s state.cursor state.tree
       → Does table (shape_in table s state.cursor state.tree) (cursor_tree state) (cursor_tree state) way m n
-      → Leads s (does state way m).cursor (does state way m).tree
+      → DirectWay s (does state way m).cursor (does state way m).tree
   leads_does s state way m n leads is =
       let end = way_end table (IsDirect table) s state.cursor state.tree leads in
       way_put table (IsDirect table) s state.cursor way state.tree m leads (leads_on _ (cursor_tree state) way m n end.0 end.1 is)

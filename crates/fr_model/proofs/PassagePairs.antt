@@ -5,7 +5,7 @@ use Rattle.fr_model.proofs.PassageTrees.{IsRight, way_end, nth_past}
 use Rattle.fr_model.proofs.PassageSides.{IsOffBeside, AreBeside, IsBeside, Along, along_end, along_shape, along_put}
 use Rattle.fr_model.proofs.PassageSteps.{HaveSameHoles, LookSame, Does, does, BothDo, does_swapped, does_itself}
 use Rattle.fr_model.proofs.PassageShapes.{IsDirectHere, direct_here, way_unproxied}
-use Rattle.fr_model.proofs.PassageMoves.{Leads, leads_does, does_beside}
+use Rattle.fr_model.proofs.PassageMoves.{DirectWay, leads_does, does_beside}
 use Rattle.fr_model.proofs.PassageRuns.{IsLocal, command_does}
 use Rattle.fr_model.specs.Passage.{IsDirect, enters_new_or_hole, works_at_entered}
 use Rattle.fr_model.specs.Conversions.{field_has_proxies}
@@ -71,8 +71,8 @@ module _ (hooks : Meanings) (table : Table) (root : ℕ) where
     pub same : one.cursor ≡ other.cursor
     pub strictly : one.mode ≡ strict
     pub deferredly : other.mode ≡ deferred 0
-    pub leads : Leads table root one.cursor one.tree
-    pub leads' : Leads table root other.cursor other.tree
+    pub leads : DirectWay table root one.cursor one.tree
+    pub leads' : DirectWay table root other.cursor other.tree
     pub along : Along hooks table root one.cursor (IsBeside hooks table) one.tree other.tree
 
   abbrev pub BothPair : Result State ReflectErrorKind → Result State ReflectErrorKind → Type 0
@@ -93,10 +93,10 @@ module _ (hooks : Meanings) (table : Table) (root : ℕ) where
   pub pair_look : (one other : State) → Pair one other → LookSame (def_of table (here one)) (cursor_tree one) (cursor_tree other)
   pair_look one other pair = beside_look hooks table (here one) (cursor_tree one) (cursor_tree other) (pair_beside one other pair)
 
-  pub state_right : (state : State) → Leads table root state.cursor state.tree → IsRight table (here state) (cursor_tree state)
+  pub state_right : (state : State) → DirectWay table root state.cursor state.tree → IsRight table (here state) (cursor_tree state)
   state_right state leads = (way_end table (IsDirect table) root state.cursor state.tree leads).1
 
-  pub state_direct : (state : State) → Leads table root state.cursor state.tree → IsDirectHere table (here state)
+  pub state_direct : (state : State) → DirectWay table root state.cursor state.tree → IsDirectHere table (here state)
   state_direct state leads = direct_here table (here state) (way_end table (IsDirect table) root state.cursor state.tree leads).0
 
   pub pair_right : (one other : State) → Pair one other → IsRight table (here one) (cursor_tree other)
@@ -122,7 +122,7 @@ module _ (hooks : Meanings) (table : Table) (root : ℕ) where
             (does_beside hooks table (here one) (cursor_tree one) (cursor_tree other) way m n (pair_beside one other pair) is));
       }
 
-  pub bare : (state : State) → Leads table root state.cursor state.tree → field_has_proxies (cursor_field table root state) ≡ false
+  pub bare : (state : State) → DirectWay table root state.cursor state.tree → field_has_proxies (cursor_field table root state) ≡ false
   bare state leads = way_unproxied table root None state.cursor state.tree leads refl
 
   -- a command that neither ends a place nor changes the mode, orderly in strict mode

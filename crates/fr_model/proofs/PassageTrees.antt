@@ -90,10 +90,6 @@ pub way_right : (table : Table) (Holds : ℕ → Type 0) (s : ℕ) (here : Place
 way_right table Holds s [] t way = way.1
 way_right table Holds s (i ∷ here) t way = way.1
 
-pub way_holds : (table : Table) (Holds : ℕ → Type 0) (s : ℕ) (here : Place) (t : Tree) → Way table Holds s here t → Holds s
-way_holds table Holds s [] t way = way.0
-way_holds table Holds s (i ∷ here) t way = way.0
-
 -- at its end
 pub way_end : (table : Table) (Holds : ℕ → Type 0) (s : ℕ) (here : Place) (t : Tree) → Way table Holds s here t
     → Holds (shape_in table s here t) × IsRight table (shape_in table s here t) (tree_at here t)

@@ -3,7 +3,7 @@
 use Rattle.std.proofs.Common.{◌≡◌, ◌<◌, ◌∷◌, ◌++◌}
 use Rattle.fr_model.proofs.Common.{ℕ, zero, suc, true, false, [], Option, Some, None, refl, sym, ap, subst, arith, Def, ShapeId, fits, Table, def_of, Val, Vals, set_of, map_of, no_vals, first, is_set, without_nth, with_ended_item, number_in, with_key, is_begun_dynamic, with_item, is_open_slice, closed_slice, Place, is_root, up, count_children, parts_as, opened_value, opened, enter, enter_child, Tracker, as_fields, as_elements, as_items, ItemsKind, as_entries, EntriesKind, tracker_of, tracker_at, over_base, Tree, hole, entered, whole, begun, Trees, no_trees, branch, tree_nth, change_nth, change_child, tree_at, change_at, child_as, and_last, count_trees, count_below, holes, wholes, fresh, Suits, AreDone, Rests, AllRest, RestBut, IsBehindBase, RestsAround}
 use Rattle.fr_model.proofs.Wholes.{base_begun, base_without, base_last, done_none, behind_all, without_changed, without_last, done_but, done_left, done_put, done_with, either_way}
-use Rattle.fr_model.proofs.Tokens.{fresh_is}
+use Rattle.fr_model.proofs.TokensInTrees.{fresh_is}
 use Rattle.fr_model.proofs.Structs.{settled_as}
 use Rattle.fr_model.proofs.Templates.{both_true}
 

@@ -3,12 +3,12 @@
 use Rattle.std.proofs.Common.{◌≡◌, ◌+◌, ◌<◌, ◌∷◌, if◌then◌else◌}
 use Rattle.fr_model.proofs.Common.{ℕ, suc, [], refl, sym, subst, arith, Def, Table, def_of, Val, product, no_vals, Place, child_shape, shape_at, Journal, Held, in_parts, written, just_entered, untouched, held, Tracker, Tree, hole, entered, whole, begun, Trees, no_trees, branch, tree_nth, tree_at, child_as, count_trees, HasPlace, HasParts, StandsFor, Suits, Bool, true, false, List, Option, Some, None, Result, Ok, Err, ◌∙◌, ap, ap₂, AllocError, ReflectErrorKind, Invariant, Meanings, IsPlain, Call, IsFieldCall, IsFieldScript, strict_column, is_root, longest, completes, Progress, initial_progress, rule, then_rules, rules, outcome_in, outcome, journal_run, Mode, strict, deferred, State, initial, complete, violates, step, built, build_in, IsRelated, BothGoOn, Refusal, numbered, and_then, run_from, unless_alloc, full_run, IsFitting, AllFitting, IsInOrder}
 use Rattle.fr_model.proofs.Basis.{IsWhole, by_value, by_entry, Agrees, AgreeAll, agree_nth, child_as_is, down, held_down, suit_nth, completing_makes, completes_tree, fresh_agrees, start_in_order}
-use Rattle.fr_model.proofs.Tokens.{fresh_is}
+use Rattle.fr_model.proofs.TokensInTrees.{fresh_is}
 use Rattle.std.specs.Result.{result_ok}
 use Rattle.fr_shape.specs.Invariants.{keeps_invariants}
 use Rattle.fr_shape.specs.InvariantLaws.{plain_keeps}
 use Rattle.fr_model.proofs.Plannable.{none_refused}
-use Rattle.fr_model.proofs.Steps.{agrees_lawful, Alike, BothStep, steps_alike}
+use Rattle.fr_model.proofs.StepsAlike.{agrees_lawful, Alike, BothStep, steps_alike}
 
 -- what a node tells of what the journal holds
 

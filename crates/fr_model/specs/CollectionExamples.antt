@@ -83,8 +83,8 @@ abbrev pub put_pair : (key value : ℕ) → List Call
 put_pair key value = put_key 0 (nat key) ++ put_value 0 (nat value)
 
 -- a number beside a token: any two with the same number are `same`
-abbrev pub marked : (number mark : ℕ) → Val
-marked number mark = product (two (nat number) (token mark))
+abbrev pub marked_number : (number mark : ℕ) → Val
+marked_number number mark = product (two (nat number) (token mark))
 
 abbrev pub pair_in : (key value : ℕ) → Entries → Entries
 pair_in key value es = entry (nat key) (nat value) es
@@ -100,11 +100,11 @@ two_pairs key value next other = map_of (pair_in key value (pair_in next other n
 -- of five items the third is the first's like, and the fifth the second's
 abbrev pub five_items : List Call
 five_items =
-    InitSet ∷ put_set_item 2 (marked 1 0) ++ put_set_item 2 (marked 2 1) ++ put_set_item 2 (marked 1 2)
-    ++ put_set_item 2 (marked 3 3) ++ put_set_item 2 (marked 2 4)
+    InitSet ∷ put_set_item 2 (marked_number 1 0) ++ put_set_item 2 (marked_number 2 1) ++ put_set_item 2 (marked_number 1 2)
+    ++ put_set_item 2 (marked_number 3 3) ++ put_set_item 2 (marked_number 2 4)
 
 abbrev pub three_items : Val
-three_items = set_of (first (marked 1 0) (two (marked 2 1) (marked 3 3)))
+three_items = set_of (first (marked_number 1 0) (two (marked_number 2 1) (marked_number 3 3)))
 
 -- an item that is a pointer to a slice: its first end closes it
 abbrev pub slice_item : List Call
@@ -137,7 +137,7 @@ pub record SetExamples : Type 0 where
       Runs collections 10 (in_deferred (InitSet ∷ set_item (in_field 0 [] ++ in_field 1 (in_field 1 []))))
       (lacks 9 1 (PathStep.SetItem ∷ []))
   pub field_by_field :
-      Runs collections 3 (in_deferred (InitSet ∷ set_item (put_in 1 1 (token 0) ++ put_in 0 0 (nat 1)))) (Ok (set_of (one (marked 1 0))))
+      Runs collections 3 (in_deferred (InitSet ∷ set_item (put_in 1 1 (token 0) ++ put_in 0 0 (nat 1)))) (Ok (set_of (one (marked_number 1 0))))
   pub slice : Runs collections 15 slice_item (Ok (set_of (one (ptr (one_number 1)))))
   pub slice_deferred : Runs collections 15 (in_deferred slice_item) (Ok (set_of (one (ptr (one_number 1)))))
   -- every item has the same path
@@ -163,24 +163,24 @@ pub record SetExamples : Type 0 where
   pub item_of_whole : Runs collections 5 (Set 5 (set_of no_vals) ∷ BeginSetItem ∷ []) (fails 1 5 Operation.SetItemBeforeInitSet)
   -- a value that is set drops the items, and beginning drops none
   pub set_drops :
-      Drops collections 3 strict (begun (as_items ItemsKind.Set) (branch (whole (marked 1 0)) no_trees)) (Set 3 (set_of no_vals)) 0 1
-  pub begin_drops_none : Drops collections 3 strict (whole (set_of (one (marked 1 0)))) InitSet 0 0
-  pub item_drops_none : Drops collections 3 strict (begun (as_items ItemsKind.Set) (branch (whole (marked 1 0)) no_trees)) BeginSetItem 0 0
+      Drops collections 3 strict (begun (as_items ItemsKind.Set) (branch (whole (marked_number 1 0)) no_trees)) (Set 3 (set_of no_vals)) 0 1
+  pub begin_drops_none : Drops collections 3 strict (whole (set_of (one (marked_number 1 0)))) InitSet 0 0
+  pub item_drops_none : Drops collections 3 strict (begun (as_items ItemsKind.Set) (branch (whole (marked_number 1 0)) no_trees)) BeginSetItem 0 0
 
 -- Maps
 
 -- the second key is the first's like
 abbrev pub repeated_key : List Call
-repeated_key = InitMap ∷ put_key 2 (marked 1 0) ++ put_value 1 (token 1) ++ put_key 2 (marked 1 2) ++ put_value 1 (token 3)
+repeated_key = InitMap ∷ put_key 2 (marked_number 1 0) ++ put_value 1 (token 1) ++ put_key 2 (marked_number 1 2) ++ put_value 1 (token 3)
 
 -- the same, begun, with all of it still there
 abbrev pub two_of_one_key : Tree
 two_of_one_key =
     begun (as_entries (EntriesKind.Map 0))
-    (branch (whole (marked 1 0)) (branch (whole (token 1)) (branch (whole (marked 1 2)) (branch (whole (token 3)) no_trees))))
+    (branch (whole (marked_number 1 0)) (branch (whole (token 1)) (branch (whole (marked_number 1 2)) (branch (whole (token 3)) no_trees))))
 
 abbrev pub old_key_new_value : Val
-old_key_new_value = map_of (entry (marked 1 0) (token 3) no_entries)
+old_key_new_value = map_of (entry (marked_number 1 0) (token 3) no_entries)
 
 -- rules for numbers by their keys, in a struct
 abbrev pub rules : Table
@@ -239,7 +239,7 @@ pub record MapExamples : Type 0 where
   pub keys_before_values : Runs collections 8 (in_deferred half_done_entries) (lacks 12 0 [])
   pub key_left_half_done :
       Runs collections 4 (in_deferred (InitMap ∷ in_key (put_in 1 1 (token 0) ++ put_in 0 0 (nat 1)) ++ put_value 1 (token 1)))
-      (Ok (map_of (entry (marked 1 0) (token 1) no_entries)))
+      (Ok (map_of (entry (marked_number 1 0) (token 1) no_entries)))
   -- paths, which count the entries begun here and not those that were there before
   pub path_to_key : Runs collections 6 (InitMap ∷ put_pair 1 2 ++ in_key []) (lacks 8 0 (PathStep.MapKey 1 ∷ []))
   pub path_to_value :
@@ -269,9 +269,9 @@ pub record MapExamples : Type 0 where
   pub second_value : Runs collections 6 (InitMap ∷ put_pair 1 2 ++ BeginValue ∷ []) (fails 7 6 Operation.ValueBeforeKey)
   -- a value that is set drops keys and values, and beginning drops none
   pub set_drops :
-      Drops collections 4 strict (begun (as_entries (EntriesKind.Map 0)) (branch (whole (marked 1 0)) (branch hole no_trees)))
+      Drops collections 4 strict (begun (as_entries (EntriesKind.Map 0)) (branch (whole (marked_number 1 0)) (branch hole no_trees)))
       (Set 4 (map_of no_entries)) 0 1
-  pub begin_drops_none : Drops collections 4 strict (whole (map_of (entry (marked 1 0) (token 1) no_entries))) InitMap 0 0
+  pub begin_drops_none : Drops collections 4 strict (whole (map_of (entry (marked_number 1 0) (token 1) no_entries))) InitMap 0 0
   pub key_drops_none :
-      Drops collections 4 strict (begun (as_entries (EntriesKind.Map 0)) (branch (whole (marked 1 0)) (branch (whole (token 1)) no_trees)))
+      Drops collections 4 strict (begun (as_entries (EntriesKind.Map 0)) (branch (whole (marked_number 1 0)) (branch (whole (token 1)) no_trees)))
       BeginKey 0 0

@@ -294,8 +294,8 @@ arcs =
     ∷ plain_shape (codes "ArcInner") (pointer_to (Some KnownPointer.Arc) 2) ∷ []
 
 -- texts behind pointers, and pointers that can't be built
-abbrev pub boxes : Table
-boxes =
+abbrev pub boxed_shapes : Table
+boxed_shapes =
     u32 ∷ string ∷ plain_shape (codes "str") Def.Str
     ∷ plain_shape (codes "BoxStr") (pointer_to (Some KnownPointer.Box) 2)
     ∷ plain_shape (codes "RefStr") (pointer_to (Some KnownPointer.SharedReference) 2)
@@ -316,20 +316,20 @@ abbrev pub put_pointee : (shape : ℕ) → Val → List Call
 put_pointee shape v = BeginSmartPtr ∷ Set shape v ∷ End ∷ []
 
 abbrev pub begins_pointer : ℕ → Operation → Type 0
-begins_pointer root operation = Runs boxes root (BeginSmartPtr ∷ []) (refused_first (operation_failed root operation))
+begins_pointer root operation = Runs boxed_shapes root (BeginSmartPtr ∷ []) (refused_first (operation_failed root operation))
 
 pub record PointerExamples : Type 0 where
   pub fields_by_name :
       Runs arcs 4 (in_deferred (BeginSmartPtr ∷ BeginField (codes "x") ∷ Set 0 (nat 42) ∷ End
       ∷ BeginField (codes "b") ∷ Set 0 (nat 43) ∷ End ∷ End ∷ [])) (Ok (ptr (product (two (nat 42) (nat 43)))))
-  pub owned_text : Runs boxes 3 (put_pointee 1 (text (codes "hi"))) (Ok (ptr (text (codes "hi"))))
-  pub path : Runs boxes 11 (BeginSmartPtr ∷ End ∷ []) (lacks 1 0 (PathStep.Deref ∷ []))
-  pub begun_anew : Runs boxes 11 (put_pointee 0 (nat 1) ++ BeginSmartPtr ∷ End ∷ []) (lacks 4 0 (PathStep.Deref ∷ []))
-  pub begun_again : Runs boxes 11 (in_deferred (put_pointee 0 (nat 1) ++ BeginSmartPtr ∷ End ∷ [])) (Ok (ptr (nat 1)))
-  pub whole_anew : Runs boxes 11 (in_deferred (Set 11 (ptr (nat 1)) ∷ BeginSmartPtr ∷ End ∷ [])) (lacks 4 0 [])
-  pub anew_drops : Drops boxes 13 strict pointer_to_token BeginSmartPtr 0 1
-  pub again_drops_none : Drops boxes 13 (deferred 0) pointer_to_token BeginSmartPtr 0 0
-  pub whole_drops : Drops boxes 13 (deferred 0) (whole (ptr (token 0))) BeginSmartPtr 0 1
+  pub owned_text : Runs boxed_shapes 3 (put_pointee 1 (text (codes "hi"))) (Ok (ptr (text (codes "hi"))))
+  pub path : Runs boxed_shapes 11 (BeginSmartPtr ∷ End ∷ []) (lacks 1 0 (PathStep.Deref ∷ []))
+  pub begun_anew : Runs boxed_shapes 11 (put_pointee 0 (nat 1) ++ BeginSmartPtr ∷ End ∷ []) (lacks 4 0 (PathStep.Deref ∷ []))
+  pub begun_again : Runs boxed_shapes 11 (in_deferred (put_pointee 0 (nat 1) ++ BeginSmartPtr ∷ End ∷ [])) (Ok (ptr (nat 1)))
+  pub whole_anew : Runs boxed_shapes 11 (in_deferred (Set 11 (ptr (nat 1)) ∷ BeginSmartPtr ∷ End ∷ [])) (lacks 4 0 [])
+  pub anew_drops : Drops boxed_shapes 13 strict pointer_to_token BeginSmartPtr 0 1
+  pub again_drops_none : Drops boxed_shapes 13 (deferred 0) pointer_to_token BeginSmartPtr 0 0
+  pub whole_drops : Drops boxed_shapes 13 (deferred 0) (whole (ptr (token 0))) BeginSmartPtr 0 1
   -- of several refusals the first
   pub no_pointer : begins_pointer 0 Operation.PointerNotConstructible
   pub not_constructible : begins_pointer 9 Operation.PointerNotConstructible
@@ -339,9 +339,9 @@ pub record PointerExamples : Type 0 where
   pub borrowed_slice : begins_pointer 7 Operation.SlicePointerNotBuildable
   -- a `str` takes an owned text, and no other shape but its own
   pub no_number :
-      Runs boxes 3 (BeginSmartPtr ∷ Set 0 (nat 1) ∷ []) (refused 1 (ReflectErrorKind.WrongShape (id 2) (id 0)) (PathStep.Deref ∷ []))
+      Runs boxed_shapes 3 (BeginSmartPtr ∷ Set 0 (nat 1) ∷ []) (refused 1 (ReflectErrorKind.WrongShape (id 2) (id 0)) (PathStep.Deref ∷ []))
   pub no_other_text :
-      Runs boxes 3 (BeginSmartPtr ∷ Set 10 (text (codes "hi")) ∷ [])
+      Runs boxed_shapes 3 (BeginSmartPtr ∷ Set 10 (text (codes "hi")) ∷ [])
       (refused 1 (ReflectErrorKind.WrongShape (id 2) (id 10)) (PathStep.Deref ∷ []))
-  pub own_shape : Runs boxes 3 (put_pointee 2 (text (codes "hi"))) (Ok (ptr (text (codes "hi"))))
-  pub no_str_at_string : Runs boxes 1 (Set 2 (text (codes "hi")) ∷ []) (refused_first (ReflectErrorKind.WrongShape (id 1) (id 2)))
+  pub own_shape : Runs boxed_shapes 3 (put_pointee 2 (text (codes "hi"))) (Ok (ptr (text (codes "hi"))))
+  pub no_str_at_string : Runs boxed_shapes 1 (Set 2 (text (codes "hi")) ∷ []) (refused_first (ReflectErrorKind.WrongShape (id 1) (id 2)))

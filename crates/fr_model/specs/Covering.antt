@@ -10,10 +10,10 @@ way_down (i ∷ above) [] = None
 way_down (i ∷ above) (j ∷ here) = if i == j then way_down above here else None
 
 -- there is such a way, and it ends where it begins
-abbrev pub stays : Option Place → Bool
-stays (Some []) = true
-stays (Some (i ∷ way)) = false
-stays None = false
+abbrev pub is_empty_way : Option Place → Bool
+is_empty_way (Some []) = true
+is_empty_way (Some (i ∷ way)) = false
+is_empty_way None = false
 
 -- there is such a way, and it leads further down
 abbrev pub goes_on : Option Place → Bool
@@ -23,7 +23,7 @@ goes_on None = false
 
 -- the note says that this very place was entered
 abbrev pub is_entry_at : Place → Note → Bool
-is_entry_at here (entered_at noted) = stays (way_down noted here)
+is_entry_at here (entered_at noted) = is_empty_way (way_down noted here)
 is_entry_at here (wrote_at noted v) = false
 
 -- the note is on a place strictly beneath this one

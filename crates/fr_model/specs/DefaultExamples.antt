@@ -7,8 +7,8 @@ use Rattle.fr_model.specs.ContentExamples.{fails, id, u32, resource, struct_of, 
 
 -- Defaults of fields
 
-abbrev pub marked : Field → DefaultSource → Field
-marked field source = record field { default = Some source }
+abbrev pub defaulting_by : Field → DefaultSource → Field
+defaulting_by field source = record field { default = Some source }
 
 -- an enum of one variant with one field
 abbrev pub variant_with : (name : List ℕ) → Field → Shape
@@ -18,20 +18,20 @@ variant_with name field = plain_shape name (enum_of EnumRepr.U8 (variant_of_name
 abbrev pub defaults : Table
 defaults =
     with_preset u32 (nat 0) ∷ resource
-    ∷ plain_shape (codes "Own") (struct_of (marked (plain_field (codes "a") 0) (DefaultSource.Custom (nat 5)) ∷ []))
+    ∷ plain_shape (codes "Own") (struct_of (defaulting_by (plain_field (codes "a") 0) (DefaultSource.Custom (nat 5)) ∷ []))
     ∷ plain_shape (codes "Both") (struct_of (
-    marked (plain_field (codes "a") 0) DefaultSource.FromTrait ∷ marked (plain_field (codes "b") 1) DefaultSource.FromTrait ∷ []
+    defaulting_by (plain_field (codes "a") 0) DefaultSource.FromTrait ∷ defaulting_by (plain_field (codes "b") 1) DefaultSource.FromTrait ∷ []
     ))
     ∷ plain_shape (codes "Bare") (struct_of (plain_field (codes "a") 0 ∷ plain_field (codes "b") 1 ∷ []))
     ∷ with_preset (variant_with (codes "Preset") (plain_field (codes "a") 0)) (variant 0 (one (nat 1)))
     ∷ record (variant_with (codes "Attr") (plain_field (codes "a") 0)) { default_attr = true }
-    ∷ variant_with (codes "Marked") (marked (plain_field (codes "a") 1) DefaultSource.FromTrait)
+    ∷ variant_with (codes "Marked") (defaulting_by (plain_field (codes "a") 1) DefaultSource.FromTrait)
     ∷ plain_shape (codes "Option") (Def.Option (id 0))
     ∷ with_preset (plain_shape (codes "OptRes") (Def.Option (id 1))) none
     ∷ plain_shape (codes "Two") (struct_of (plain_field (codes "a") 9 ∷ plain_field (codes "b") 1 ∷ []))
-    ∷ variant_with (codes "Custom") (marked (plain_field (codes "a") 0) (DefaultSource.Custom (nat 5)))
+    ∷ variant_with (codes "Custom") (defaulting_by (plain_field (codes "a") 0) (DefaultSource.Custom (nat 5)))
     ∷ variant_with (codes "Skipped") (record (plain_field (codes "a") 0) { skip = true })
-    ∷ variant_with (codes "Shapes") (marked (plain_field (codes "a") 0) DefaultSource.FromTrait) ∷ []
+    ∷ variant_with (codes "Shapes") (defaulting_by (plain_field (codes "a") 0) DefaultSource.FromTrait) ∷ []
 
 -- a struct that is begun with these two children
 abbrev pub begun_two : Tree → Tree → Tree
@@ -93,7 +93,7 @@ checked_field = record (plain_field (codes "a") 0) { validators = at_least_ten �
 abbrev pub checked : Table
 checked =
     u32 ∷ variant_with (codes "Checked") checked_field
-    ∷ variant_with (codes "CheckedOwn") (marked checked_field (DefaultSource.Custom (nat 5))) ∷ []
+    ∷ variant_with (codes "CheckedOwn") (defaulting_by checked_field (DefaultSource.Custom (nat 5))) ∷ []
 
 abbrev pub too_small : (s n : ℕ) → ReflectErrorKind
 too_small s n = invalid_field s (Some 0) 0 (message at_least_ten (nat n))

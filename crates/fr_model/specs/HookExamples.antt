@@ -8,17 +8,17 @@ use Rattle.fr_model.specs.Step.{violates}
 use Rattle.fr_shape.specs.Hooks.{Meaning, gives, refuses, unsupported}
 
 -- hook 0 gives 7, hook 1 refuses, and any other parses nothing
-abbrev pub meant_by : (hook : ℕ) → Meaning
-meant_by zero = gives (nat 7)
-meant_by (suc zero) = refuses (codes "no")
-meant_by _ = unsupported
+abbrev pub meaning_of_hook : (hook : ℕ) → Meaning
+meaning_of_hook zero = gives (nat 7)
+meaning_of_hook (suc zero) = refuses (codes "no")
+meaning_of_hook _ = unsupported
 
 -- what a struct of a single 5 doesn't pass
 abbrev pub hooks : Meanings
 hooks = record no_hooks {
   check = λ hook v. not (same v (product (one (nat 5))));
-  parse = λ table hook target text. meant_by hook;
-  parse_bytes = λ table hook target bytes. meant_by hook;
+  parse = λ table hook target text. meaning_of_hook hook;
+  parse_bytes = λ table hook target bytes. meaning_of_hook hook;
 }
 
 abbrev pub parsed_by : Shape → ℕ → Shape

@@ -180,9 +180,9 @@ abbrev pub writes : Progress → Option Val → Option Progress
 writes run (Some v) = Some (record run { notes = wrote_at run.cursor v ∷ run.notes })
 writes run None = None
 
-abbrev pub ends : Progress → Option Val → Option Progress
-ends run (Some v) = Some (record run { notes = wrote_at run.cursor v ∷ run.notes; cursor = up run.cursor })
-ends run None = None
+abbrev pub writes_and_leaves : Progress → Option Val → Option Progress
+writes_and_leaves run (Some v) = Some (record run { notes = wrote_at run.cursor v ∷ run.notes; cursor = up run.cursor })
+writes_and_leaves run None = None
 
 abbrev pub goes_up : Progress → Progress
 goes_up run = record run { cursor = up run.cursor }
@@ -248,7 +248,7 @@ finishes_with run None = None
 -- `end` by the mode: in strict mode the place's value is noted, where it makes one; in deferred mode nothing is, and the place
 -- has to lie deeper than that at which deferred mode began
 abbrev pub end_rule : Table → ℕ → Progress → Mode → Option Progress
-end_rule table s run strict = if is_root run.cursor then None else ends run (completes strict_column table run.notes s run.cursor)
+end_rule table s run strict = if is_root run.cursor then None else writes_and_leaves run (completes strict_column table run.notes s run.cursor)
 end_rule table s run (deferred start) = if nat_lt start (length run.cursor) then Some (goes_up run) else None
 
 abbrev pub begin_deferred_rule : Progress → Mode → Option Progress

@@ -2,7 +2,7 @@
 use Rattle.std.specs.Prelude.{◌∷◌, ◌++◌}
 use Rattle.fr_model.specs.Common.{ℕ, true, List, [], Some, None, Ok, codes, Def, KnownPointer, InitCall, Invariant, Operation, ReflectErrorKind, TrackerKind, Table, plain_field, plain_shape, Val, nat, token, product, some, list_of, ptr, no_vals, PathStep}
 use Rattle.fr_model.specs.Basis.{Call, missing_field, as_items, ItemsKind, Tree, whole, begun, no_trees, branch, strict, deferred, BeginDeferred, BeginListItem, BeginNthField, BeginSmartPtr, BeginSome, End, FinishDeferred, InitArray, InitList, InitListWithCapacity, Set, SetEmptySharedSlice}
-use Rattle.fr_model.specs.ContentExamples.{fails, lacks, id, u32, resource, struct_of, pointer_to, one, two, put_in, in_deferred, refused, Runs, Drops, foo_bar, foo, options, point, results, put_err, boxes, in_field}
+use Rattle.fr_model.specs.ContentExamples.{fails, lacks, id, u32, resource, struct_of, pointer_to, one, two, put_in, in_deferred, refused, Runs, Drops, foo_bar, foo, options, point, results, put_err, boxed_shapes, in_field}
 use Rattle.fr_model.specs.Step.{violates}
 
 -- lists, slices behind pointers and arrays, of numbers, opaque shapes and structs
@@ -82,7 +82,7 @@ pub record ListExamples : Type 0 where
   pub no_whole_list : Runs sequences 0 (Set 0 (nat 1) ∷ InitList ∷ []) (fails 1 0 Operation.InitListOfWholeOther)
   pub begun_as_struct : Runs sequences 2 (put_in 0 0 (nat 1) ++ InitList ∷ []) (refused 3 (unexpected InitCall.List TrackerKind.Struct) [])
   pub begun_as_pointer :
-      Runs boxes 11 (BeginSmartPtr ∷ Set 0 (nat 1) ∷ End ∷ InitList ∷ []) (refused 3 (unexpected InitCall.List TrackerKind.SmartPointer) [])
+      Runs boxed_shapes 11 (BeginSmartPtr ∷ Set 0 (nat 1) ∷ End ∷ InitList ∷ []) (refused 3 (unexpected InitCall.List TrackerKind.SmartPointer) [])
   pub begun_as_option :
       Runs options 4 (BeginSome ∷ Set 0 (nat 1) ∷ End ∷ InitList ∷ []) (refused 3 (unexpected InitCall.List TrackerKind.Option) [])
   pub begun_as_result : Runs results 2 (put_err 1 ++ InitList ∷ []) (refused 3 (unexpected InitCall.List TrackerKind.Result) [])

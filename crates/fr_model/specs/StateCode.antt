@@ -65,9 +65,9 @@ tracker_comes_back (as_items _) = refl
 tracker_comes_back (as_entries (EntriesKind.Map base)) = refl
 tracker_comes_back (as_entries (EntriesKind.Object keys)) = refl
 
-abbrev pub keys_in : Val → List (List ℕ)
-keys_in (list_of vs) = restored_keys vs
-keys_in _ = []
+abbrev pub restored_keys_in : Val → List (List ℕ)
+restored_keys_in (list_of vs) = restored_keys vs
+restored_keys_in _ = []
 
 abbrev pub nat_in : Val → ℕ
 nat_in (nat n) = n
@@ -103,7 +103,7 @@ abbrev mutual
   restored (variant number no_vals) = entered
   restored (variant number (first numbers no_vals)) = entered
   restored (variant number (first numbers (first keys vs))) =
-      begun (tracker_restored number numbers (keys_in keys)) (all_restored vs)
+      begun (tracker_restored number numbers (restored_keys_in keys)) (all_restored vs)
   restored _ = entered
 
   pub all_restored : Vals → Trees

@@ -1,7 +1,7 @@
 -- The place above the one at which a builder works, by the slot that the place on top knows as its owner's: what it is, and which field of
 -- it the builder's place is.
-use Rattle.std.proofs.Common.{◌≡◌, ◌+◌, ℕ, length, false, List, [], ◌∷◌, ◌++◌, Some, None, option_map, refl, sym, ◌∙◌, ap, subst, Option, ◌<◌}
-use Rattle.fr_partial.specs.Common.{Body, Cell, FrameOwner, IsLast, IsOpen, Kid, Node, Place, Plan, Slot, Tracker, Tree, Trees, at, begun, begun_body, begun_plot, body_of, cursor_in, entered_body, entered_plot, heap_of, is_begun_dynamic, is_root, is_set, kid_shown, node_along, own_tree, tree_at, tree_of, trees_in, trees_of, up, whole_plot, Def, Field, IsOfShape, LookupPathsAgree, LookupsAgree, NodeId, ShapeId, Table, TypePlanNode, child_tree, def_of, is_begun_conversion, shape_in, Along}
+use Rattle.std.proofs.Common.{◌≡◌, ◌+◌, ℕ, length, false, List, [], ◌∷◌, ◌++◌, Some, None, option_map, refl, sym, ◌∙◌, ap, subst, ◌<◌}
+use Rattle.fr_partial.specs.Common.{Body, Cell, FrameOwner, IsLast, IsOpen, Kid, Node, Place, Plan, Slot, Tracker, Tree, Trees, at, begun, begun_body, begun_plot, body_of, cursor_in, entered_body, entered_plot, heap_of, is_begun_dynamic, is_root, is_set, kid_shown, node_along, own_tree, tree_at, tree_of, trees_in, trees_of, up, whole_plot, Def, IsOfShape, LookupPathsAgree, LookupsAgree, NodeId, ShapeId, Table, TypePlanNode, def_of, is_begun_conversion, shape_in}
 use Rattle.fr_frame.specs.declared.places.Place.{Place as Entry}
 use Rattle.fr_frame.specs.declared.places.SlotId.{SlotId}
 use Rattle.fr_frame.specs.Heap.{node_of}
@@ -11,16 +11,15 @@ use Rattle.fr_frame.specs.Kids.{cells_in, child_owner, Holds}
 use Rattle.fr_store.specs.HoldLaws.{holds_at}
 use Rattle.fr_store.specs.LeaveLaws.{below_root, owner_append, up_append}
 use Rattle.fr_store.specs.StackMoves.{tree_in_slots}
-use Rattle.fr_store.specs.Ways.{Leads, kid_at, owner_along, owner_below, Reaches}
+use Rattle.fr_store.specs.Ways.{LeadsUnstored, kid_at, owner_along, owner_below}
 use Rattle.fr_store.specs.WayLaws.{leads_at, leads_reach, tree_of_at}
-use Rattle.fr_partial.proofs.PlaceLaws.{found_is, Tells}
-use Rattle.fr_model.specs.Tree.{field_along, field_below, shape_below}
-use Rattle.fr_store.specs.ShapeLaws.{along, root_shaped}
+use Rattle.fr_moves.specs.PlaceLaws.{found_is, Tells}
+use Rattle.fr_model.specs.Tree.{field_along, field_below}
 use Rattle.fr_plan.specs.Lookups.{node_at}
-use Rattle.fr_partial.specs.Underway.{IsReady}
-use Rattle.fr_partial.proofs.FitLaws.{is_there}
+use Rattle.fr_moves.specs.Underway.{IsReady}
+use Rattle.fr_moves.specs.FitLaws.{is_there}
 use Rattle.fr_plan.specs.ReachLaws.{NodesAreReached, ReachedHaveNodes}
-use Rattle.fr_store.specs.SourceLaws.{none_sourced}
+use Rattle.fr_moves.specs.AboveLaws.{above_shaped, field_last}
 
 -- whether a place is a set, a dynamic value or a conversion, and which fields it has, is told by its outline
 
@@ -39,13 +38,6 @@ source_outlined _ = refl
 pub field_outlined : (def : Def) (i : ℕ) (body : Body) → field_below def i (own_tree (outline body)) ≡ field_below def i (own_tree body)
 field_outlined def i entered_body = refl
 field_outlined def i _ = refl
-
--- the field that a child is of the place above it
-pub field_last : (table : Table) (s : ℕ) (field : Option Field) (above : Place) (i : ℕ) (t : Tree)
-    → field_along table s field (above ++ i ∷ []) t ≡ field_below (def_of table (shape_in table s above t)) i (tree_at above t)
-field_last table s field [] i t = refl
-field_last table s field (j ∷ above) i t =
-    field_last table (shape_below table s j t) (field_below (def_of table s) j t) above i (child_tree j t)
 
 -- it is begun, and lies in this slot, built by this node; and the other place is its child of this number
 pub record IsAbove (slots : List Slot) (place : Place) (built : NodeId) (owner : FrameOwner) (tree : Tree) : Type 0 where
@@ -78,14 +70,14 @@ module _ {plan : Plan} {slots : List Slot} {stack : List ℕ} (shown : IsOpen pl
       k : Kid
       k = kid_shown (heap_of slots) stack
 
-      leads : Leads (above ++ i ∷ []) k
-      leads = subst (λ (p : Place). Leads p k) is shown.stands.leads
+      leads : LeadsUnstored (above ++ i ∷ []) k
+      leads = subst (λ (p : Place). LeadsUnstored p k) is shown.stands.leads
 
-      go : (x : Kid) → kid_at above k ≡ x → Leads (i ∷ []) (kid_at above k)
+      go : (x : Kid) → kid_at above k ≡ x → LeadsUnstored (i ∷ []) (kid_at above k)
           → Holds plan (heap_of slots) (node_along plan plan.root above k) (owner_along FrameOwner.Root above k)
           (0 + length above) (kid_at above k) → Stands (above ++ i ∷ [])
-      go (at slot stored entered_plot) e l h = absurd (subst (λ (x : Kid). Leads (i ∷ []) x) e l).1
-      go (at slot stored (whole_plot v)) e l h = absurd (subst (λ (x : Kid). Leads (i ∷ []) x) e l).1
+      go (at slot stored entered_plot) e l h = absurd (subst (λ (x : Kid). LeadsUnstored (i ∷ []) x) e l).1
+      go (at slot stored (whole_plot v)) e l h = absurd (subst (λ (x : Kid). LeadsUnstored (i ∷ []) x) e l).1
       go (at slot stored (begun_plot tracker kids)) e l h =
           let held = subst (λ (x : Kid). Holds plan (heap_of slots) (node_along plan plan.root above k)
           (owner_along FrameOwner.Root above k) (0 + length above) x) e h in
@@ -107,7 +99,7 @@ module _ {plan : Plan} {slots : List Slot} {stack : List ℕ} (shown : IsOpen pl
             node_is = ap (λ (p : Place). node_along plan plan.root p k) (sym (up_append above i));
             ends = ap (λ (p : Place). p ++ i ∷ []) (sym (up_append above i));
           }
-      go _ e l h = absurd (subst (λ (x : Kid). Leads (i ∷ []) x) e l)
+      go _ e l h = absurd (subst (λ (x : Kid). LeadsUnstored (i ∷ []) x) e l)
 
   pub above_here : is_root (cursor_in slots stack) ≡ false → Stands (cursor_in slots stack)
   above_here below =
@@ -167,31 +159,12 @@ module _ (agree : LookupsAgree) (paths : LookupPathsAgree) (reached : NodesAreRe
   abbrev k : Kid
   k = kid_shown (heap_of slots) stack
 
-  reaches : is_root cursor ≡ false → Reaches (up cursor) k
-  reaches below =
-      let last = below_root cursor below in
-      let leads : Leads (last.0 ++ last.1 ∷ []) k = subst (λ (p : Place). Leads p k) last.2 ready.shown.stands.leads in
-      subst (λ (p : Place). Reaches p k) (sym (ap up last.2 ∙ up_append last.0 last.1)) (leads_reach last.0 (last.1 ∷ []) k leads)
-
-  pub above_along : is_root cursor ≡ false
-      → Along table plan (node_along plan plan.root (up cursor) k) (shape_in table root.0 (up cursor) (tree_in_slots slots stack))
-      (tree_at (up cursor) (tree_in_slots slots stack))
-  above_along below =
-      along agree table root plan ready.checked ready.inside ready.planned reached nodes (up cursor) k plan.root root.0 None
-      (none_sourced reached nodes table root plan ready.checked ready.inside ready.planned)
-      (root_shaped agree table root plan ready.checked ready.inside ready.planned paths) ready.suits.suits ready.suits.conversions
-      (reaches below)
-
-  pub above_shaped : is_root cursor ≡ false
-      → IsOfShape plan (node_along plan plan.root (up cursor) k) (shape_in table root.0 (up cursor) (tree_in_slots slots stack))
-  above_shaped below = (above_along below).node_is
-
   -- of the place that is found there
   module _ (below : is_root cursor ≡ false) (found : Entry) (is : found.node ≡ node_along plan plan.root (up cursor) k) where
     shaped : IsOfShape plan found.node (shape_in table root.0 (up cursor) (tree_in_slots slots stack))
     shaped =
         subst (λ (n : NodeId). IsOfShape plan n (shape_in table root.0 (up cursor) (tree_in_slots slots stack))) (sym is)
-        (above_shaped below)
+        (above_shaped agree paths reached nodes table root plan slots stack ready below)
 
     pub above_inside : found.node.0 < length plan.nodes
     above_inside = is_there plan.nodes found.node.0 shaped.there

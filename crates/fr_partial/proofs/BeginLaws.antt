@@ -1,51 +1,16 @@
 -- Going on to a child: what it is refused for, and what it means.
 use Rattle.std.proofs.Common.{◌≡◌, ℕ, suc, ◌+◌, ◌<◌, Bool, true, false, List, [], ◌∷◌, length, Option, Some, None, Ok, Err, nat_lt, slice_get, inl, refl, sym, ◌∙◌, ap, subst, arith}
-use Rattle.fr_partial.specs.Common.{Call, ComesTo, Def, Describes, Field, IsFullAs, IsRefused, Meanings, Move, Opening, Operation, ReflectErrorKind, Sees, ShapeId, Site, State, Table, Tracker, Tree, VariantDef, Way, as_tracker, cursor_tree, def_of, field_found, field_refusal, named_refusal, option_or, selected, shape_at, step, variant_fields, variants_of}
+use Rattle.fr_partial.specs.Common.{Call, ComesTo, Def, Describes, Field, IsFullAs, IsRefused, Meanings, Move, Opening, Operation, ReflectErrorKind, Sees, ShapeId, Site, State, Table, Tree, VariantDef, Way, as_tracker, cursor_tree, def_of, field_found, field_refusal, named_refusal, selected, shape_at, step, variant_fields, variants_of}
 use Rattle.std.specs.Str.{bytes_eq}
 use Rattle.std.proofs.lemmas.Bool.{lt-ltb}
 use Rattle.fr_shape.specs.Named.{first_declared}
 use Rattle.fr_plan.specs.Names.{declared_field}
 use Rattle.fr_model.specs.Entering.{Way as Onward, enters}
 use Rattle.fr_model.specs.Scripts.{value_brought}
-use Rattle.fr_partial.specs.Moving.{child_way}
-use Rattle.fr_partial.proofs.AnewLaws.{below_limit, child_gone, to_child_seen}
-use Rattle.fr_partial.proofs.TrackerLaws.{struct_tracker, array_tracker, enum_tracker, variant_count}
+use Rattle.fr_moves.specs.Moving.{child_way}
+use Rattle.fr_moves.specs.AnewLaws.{child_gone, to_child_seen}
 use Rattle.fr_partial.proofs.DecidingLaws.{goes}
 use Rattle.fr_partial.proofs.SeenLaws.{shape_seen, def_seen, named_seen, refusal_seen, selected_seen}
-
--- what may be entered is there
-
-neither : (first rest : Option Operation) → option_or first rest ≡ None → first ≡ None
-neither (Some operation) rest e = cc
-neither None rest e = refl
-
--- it is one of the children that the place is begun with
-pub opened_within : (table : Table) (s : ℕ) (t : Tree) (i : ℕ) (opening : Opening) → Describes table s t opening
-    → field_refusal (def_of table s) t i ≡ None → i < opening.count
-opened_within table s t i opening says may = go (def_of table s) says.begun may
-  where
-    go : (def : Def) → IsFullAs def (as_tracker opening.tracker) opening.count → field_refusal def t i ≡ None → i < opening.count
-    go (Def.Struct struct) full none =
-        let below : i < length struct.fields = below_limit i (length struct.fields) Operation.FieldIndexOutOfBounds none in
-        omega (arith, below, (struct_tracker struct (as_tracker opening.tracker) opening.count says.plain full).1)
-    go (Def.Array item n) full none =
-        let below : i < n = below_limit i n Operation.ArrayIndexOutOfBounds (neither _ _ none) in
-        omega (arith, below, (array_tracker item n (as_tracker opening.tracker) opening.count says.plain full).1)
-    go (Def.Enum enumeration) full none =
-        let is = enum_tracker enumeration (as_tracker opening.tracker) opening.count says.plain full in
-        let one : selected t ≡ Some is.variant = says.variant is.variant is.tracker_is in
-        let below : i < length (variant_fields (Def.Enum enumeration) is.variant)
-        = below_limit i (length (variant_fields (Def.Enum enumeration) is.variant)) Operation.VariantFieldIndexOutOfBounds
-        (rw one at none) in
-        omega (
-          arith,
-          below,
-          variant_count enumeration is.variant opening.count
-              (subst (λ (f : Tracker). IsFullAs (Def.Enum enumeration) f opening.count) is.tracker_is full),
-        )
-    go (Def.Slice item) full none = cc
-    go Def.Opaque full none = cc
-    go _ full none = cc
 
 declared_below : (name : List ℕ) (k : ℕ) (fields : List Field) (i : ℕ) → first_declared name k fields ≡ Some i
     → i < k + length fields

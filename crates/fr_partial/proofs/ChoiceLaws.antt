@@ -9,7 +9,7 @@ use Rattle.fr_refusals.specs.declared.choosing.Chosen.{Chosen}
 use Rattle.fr_refusals.specs.Choosing.{found_refusal}
 use Rattle.fr_partial.specs.Choosing.{Selects}
 use Rattle.fr_partial.proofs.DecidingLaws.{admitted, cannot, is_not, remains}
-use Rattle.fr_partial.proofs.PlaceLaws.{here_along}
+use Rattle.fr_moves.specs.PlaceLaws.{here_along}
 use Rattle.fr_partial.proofs.ReachLaws.{node_reached}
 use Rattle.fr_partial.proofs.SeenLaws.{def_seen}
 use Rattle.fr_plan.specs.ReachLaws.{NodesAreReached, ReachedHaveNodes}

@@ -1,56 +1,23 @@
 -- Entering a content, a side or a pointee: what it means.
-use Rattle.std.proofs.Common.{◌≡◌, ℕ, zero, suc, ◌+◌, ◌<◌, Bool, true, false, [], ◌∷◌, Option, Some, None, Ok, inl, inr, refl, sym, ◌∙◌, ap, subst, arith}
-use Rattle.fr_partial.specs.Common.{Beginning, Call, ComesTo, ContentKind, Def, IsFullAs, Leads, Meanings, Mode, Move, OffBut, Operation, Place, Sees, ShapeId, Site, Suits, Table, Tracker, Tree, Trees, Way, as_content, as_tracker, beginning_in, beginning_of_some, begun, branch, child_as, content_shape, count_trees, cursor_tree, def_of, is_around, is_option, is_result, no_trees, pointer_refusal, points_to_slice, shape_at, shape_in, side_call, step, tree_at, tree_nth, beginning_of_inner}
+use Rattle.std.proofs.Common.{◌≡◌, ℕ, Bool, true, false, Option, Some, None, Ok, inl, inr, refl, sym, ◌∙◌, ap, subst}
+use Rattle.fr_partial.specs.Common.{Beginning, Call, ComesTo, ContentKind, Def, IsFullAs, Meanings, Mode, Move, Operation, Sees, ShapeId, Site, Table, Tracker, Tree, Way, as_content, as_tracker, beginning_in, beginning_of_some, content_shape, cursor_tree, def_of, is_around, is_option, is_result, pointer_refusal, points_to_slice, shape_at, side_call, step, beginning_of_inner}
 use Rattle.fr_model.specs.Entering.{Way as Onward, enters}
 use Rattle.fr_model.specs.Scripts.{value_brought}
 use Rattle.fr_model.specs.Step.{begin_side, content_kept}
-use Rattle.fr_model.specs.Tree.{shapes_from}
-use Rattle.fr_model.specs.Well.{HasContent, PointsTo, SuitAll}
+use Rattle.fr_model.specs.Well.{HasContent, PointsTo}
 use Rattle.fr_frame.specs.declared.places.Tracker.{Tracker as Started}
 use Rattle.fr_refusals.specs.Beginnings.{kept_by}
-use Rattle.fr_partial.specs.Beginnings.{IsSide, MayBeginAround}
-use Rattle.fr_partial.proofs.TrackerLaws.{IsFullTree, full_tree}
+use Rattle.fr_partial.specs.Sides.{IsSide}
+use Rattle.fr_moves.specs.Beginnings.{MayBeginAround}
+use Rattle.fr_moves.specs.TrackerLaws.{IsFullTree, full_tree}
 use Rattle.fr_partial.proofs.DecidingLaws.{goes}
 use Rattle.fr_partial.proofs.LookLaws.{begun_inner, begun_some}
 use Rattle.fr_partial.proofs.SeenLaws.{in_seen, seen_by}
-use Rattle.fr_partial.proofs.StateLaws.{IsSiteInOrder}
+use Rattle.fr_moves.specs.StateLaws.{IsSiteInOrder}
 use Rattle.fr_model.specs.Trackers.{Conversion}
 use Rattle.fr_partial.specs.Sources.{Begins}
 use Rattle.fr_partial.proofs.KeptLaws.{kept_in_is, may_begin_in}
-
--- What stands at the cursor suits its shape.
-
-within : (mode : Mode) (i : ℕ) (Below : Tree → Type 0) (ts : Trees) → OffBut mode i Below ts → i < count_trees ts
-within mode i Below no_trees off = absurd off
-within mode zero Below (branch t ts) off = omega arith
-within mode (suc i) Below (branch t ts) off = let rest = within mode i Below ts off.1 in omega (arith, rest)
-
-open_child : (mode : Mode) (i : ℕ) (Below : Tree → Type 0) (ts : Trees) → OffBut mode i Below ts → Below (tree_nth i ts)
-open_child mode i Below no_trees off = absurd off
-open_child mode zero Below (branch t ts) off = off.0
-open_child mode (suc i) Below (branch t ts) off = open_child mode i Below ts off.1
-
-suits_nth : (table : Table) (s : ℕ) (tracker : Tracker) (first : ℕ) (ts : Trees) (i m : ℕ) → m ≡ first + i → i < count_trees ts
-    → SuitAll table (shapes_from table s tracker (count_trees ts) first) ts → Suits table (child_as table s tracker m) (tree_nth i ts)
-suits_nth table s tracker first no_trees i m e h all = absurd (omega arith)
-suits_nth table s tracker first (branch t ts) zero m e h all =
-    let same : first ≡ m = omega arith in
-    subst (λ (n : ℕ). Suits table (child_as table s tracker n) t) same all.0
-suits_nth table s tracker first (branch t ts) (suc i) m e h all =
-    suits_nth table s tracker (suc first) ts i m (omega arith) (omega arith) all.1
-
-suits_along : (mode : Mode) (table : Table) (s : ℕ) (place : Place) (t : Tree) → Suits table s t → Leads mode place t
-    → Suits table (shape_in table s place t) (tree_at place t)
-suits_along mode table s [] t suits leads = suits
-suits_along mode table s (i ∷ place) (begun tracker ts) suits leads =
-    suits_along mode table (child_as table s tracker i) place (tree_nth i ts)
-    (suits_nth table s tracker 0 ts i i (omega arith) (within mode i (λ child. Leads mode place child) ts leads) suits.1)
-    (open_child mode i (λ child. Leads mode place child) ts leads)
-suits_along mode table s (i ∷ place) _ suits leads = absurd leads
-
-pub suits_here : (site : Site) → IsSiteInOrder site → Suits site.shapes (shape_at site) (cursor_tree site.state)
-suits_here site ordered =
-    suits_along site.state.mode site.shapes site.root site.state.cursor site.state.tree ordered.suits ordered.leads
+use Rattle.fr_moves.specs.SuitLaws.{suits_here}
 
 pub full_here : (site : Site) → IsSiteInOrder site → IsFullTree (def_of site.shapes (shape_at site)) (cursor_tree site.state)
 full_here site ordered = full_tree site.shapes (shape_at site) (cursor_tree site.state) (suits_here site ordered)

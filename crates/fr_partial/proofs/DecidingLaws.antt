@@ -2,7 +2,7 @@
 use Rattle.std.proofs.Common.{◌≡◌, ◌≢◌, ℕ, Option, Some, None, Ok, Err, inl, sym, ◌∙◌, ap, subst}
 use Rattle.fr_partial.specs.Common.{Call, Change, ComesTo, Expected, IsRefused, MayGo, MayStay, Meanings, Move, Operation, ReflectErrorKind, Sees, ShapeId, Site, State, Table, Tree, Val, Way, at_shape, carried_by, cursor_tree, shape_at, step, unless_refused}
 use Rattle.fr_model.specs.Scripts.{occurs_if_any, value_brought, FitsIfAny}
-use Rattle.fr_partial.specs.Moving.{gone, stays}
+use Rattle.fr_moves.specs.Moving.{gone, stays}
 use Rattle.fr_partial.proofs.SeenLaws.{shape_seen}
 
 -- nothing is refused

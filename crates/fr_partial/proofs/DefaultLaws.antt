@@ -9,8 +9,9 @@ use Rattle.fr_frame.specs.FieldDefaults.{default_in, default_of}
 use Rattle.fr_model.proofs.Templates.{field_default_template}
 use Rattle.fr_partial.proofs.BeginLaws.{describes_here}
 use Rattle.fr_partial.proofs.DecidingLaws.{remains}
-use Rattle.fr_partial.proofs.FitLaws.{is_there}
-use Rattle.fr_partial.proofs.LookLaws.{begun_named, AsBegun}
+use Rattle.fr_moves.specs.FitLaws.{is_there}
+use Rattle.fr_partial.proofs.LookLaws.{begun_named}
+use Rattle.fr_moves.specs.LookLaws.{AsBegun}
 use Rattle.fr_partial.proofs.PutLaws.{admits}
 use Rattle.fr_partial.proofs.SeenLaws.{seen_by}
 

@@ -1,5 +1,5 @@
 -- What `begin_inner` comes to, or why it is refused.
-use Rattle.std.proofs.Common.{◌≡◌, ℕ, Bool, true, false, slice_get, Option, Some, None, Ok, Err, inl, refl, sym, ◌∙◌, ap, subst}
+use Rattle.std.proofs.Common.{◌≡◌, ℕ, Bool, true, false, slice_get, Option, Some, None, Ok, refl, sym, ◌∙◌, ap, subst}
 use Rattle.fr_partial.specs.Common.{Beginning, Call, ComesTo, Def, Describes, IsFullAs, IsRefused, Mode, Meanings, Move, Opening, Operation, ReflectErrorKind, Sees, ShapeId, Site, Table, Tree, Way, as_tracker, at_shape, beginning_of_inner, content_shape, cursor_tree, def_of, entered, field_refusal, fresh, is_option, shape_at, step}
 use Rattle.fr_shape.specs.declared.shape.HookId.{HookId}
 use Rattle.fr_model.specs.Conversions.{by_wrapper, convert_in, source_in}
@@ -8,12 +8,12 @@ use Rattle.fr_model.specs.Trackers.{Conversion}
 use Rattle.fr_partial.specs.Sources.{Begins}
 use Rattle.fr_frame.specs.declared.places.ContentKind.{ContentKind as Begun}
 use Rattle.fr_frame.specs.declared.places.Tracker.{Tracker as Started}
-use Rattle.fr_partial.proofs.AnewLaws.{fresh_refusal}
+use Rattle.fr_moves.specs.AnewLaws.{fresh_refusal}
 use Rattle.fr_partial.proofs.ContentLaws.{content_goes, full_here, inner_wanted, option_full}
 use Rattle.fr_partial.proofs.DecidingLaws.{admitted, cannot, goes}
 use Rattle.fr_partial.proofs.KeptLaws.{inner_kept_is, may_begin_inner}
-use Rattle.fr_partial.proofs.SeenLaws.{def_seen, seen_by, shape_seen}
-use Rattle.fr_partial.proofs.StateLaws.{IsSiteInOrder}
+use Rattle.fr_partial.proofs.SeenLaws.{def_seen, seen_by}
+use Rattle.fr_moves.specs.StateLaws.{IsSiteInOrder}
 
 module _ {site : Site} {table : Table} {shape : ShapeId} {seen : Tree} (at : Sees site table shape seen) where
   -- what the place wraps, or is built from, and the hook that converts from that, as the site sees them
@@ -31,16 +31,6 @@ module _ {site : Site} {table : Table} {shape : ShapeId} {seen : Tree} (at : See
       ap (λ (x : Option ShapeId). begins_inner site.shapes (shape_at site) site.state x
       (convert_in (slice_get site.shapes (shape_at site)))) (sym (source_is ∙ source_seen))
       ∙ ap (begins_inner site.shapes (shape_at site) site.state source) (sym (convert_is ∙ convert_seen))
-
-  -- it wraps nothing
-  pub wraps_nothing : None ≡ source_in (slice_get table shape.0)
-      → IsRefused site Call.BeginInner (ReflectErrorKind.OperationFailed shape Operation.NoInner)
-  wraps_nothing none =
-      inl (
-        (λ out. cc),
-        λ hooks. inner_is None (convert_in (slice_get table shape.0)) none refl hooks
-            ∙ ap (λ (s : ShapeId). Err (ReflectErrorKind.OperationFailed s Operation.NoInner)) (shape_seen at),
-      )
 
   module _ (source : ShapeId) (source_is : Some source ≡ source_in (slice_get table shape.0)) where
     -- no hook converts: the place starts anew

@@ -10,14 +10,14 @@ use Rattle.fr_frame.specs.declared.places.EntriesKind.{EntriesKind as MadeEntrie
 use Rattle.fr_frame.specs.declared.places.ItemsKind.{ItemsKind as MadeItems}
 use Rattle.fr_frame.specs.declared.places.Tracker.{Tracker as Made}
 use Rattle.fr_refusals.specs.declared.dynamic_places.DynamicParts.{DynamicParts}
-use Rattle.fr_partial.proofs.ContentLaws.{suits_here}
+use Rattle.fr_moves.specs.SuitLaws.{suits_here}
 use Rattle.fr_values.proofs.MadeDynamic.{settled_plain}
 use Rattle.fr_partial.proofs.DecidingLaws.{remains}
-use Rattle.fr_partial.proofs.FitLaws.{fits_apart}
+use Rattle.fr_moves.specs.FitLaws.{fits_apart}
 use Rattle.fr_partial.proofs.SeenLaws.{array_seen, def_seen, dynamic_seen, list_seen, map_seen, set_seen}
-use Rattle.fr_partial.specs.Moving.{opened_here}
-use Rattle.fr_partial.proofs.StateLaws.{IsSiteInOrder}
-use Rattle.fr_partial.proofs.TreeLaws.{alike_here}
+use Rattle.fr_moves.specs.Moving.{opened_here}
+use Rattle.fr_moves.specs.StateLaws.{IsSiteInOrder}
+use Rattle.fr_moves.specs.TreeLaws.{alike_here}
 
 -- Which may be opened.
 

@@ -1,31 +1,21 @@
 -- What a text or bytes that are parsed come to: the value that they mean is put, or is refused.
-use Rattle.std.proofs.Common.{◌≡◌, ℕ, Bool, true, false, ◌||◌, not, ◌&&◌, refl, sym, ◌∙◌, ap, eq-eqb}
-use Rattle.fr_partial.specs.Common.{Call, Change, IsChecked, IsMeant, Meanings, Move, Operation, Sees, ShapeId, Site, Table, Tree, Value, converts_at, def_of, is_dynamic, shape_at, step, takes_shape, view}
+use Rattle.std.proofs.Common.{◌≡◌, ℕ, refl, sym, ◌∙◌, ap}
+use Rattle.fr_partial.specs.Common.{Call, Change, IsChecked, IsMeant, Meanings, Move, Operation, Sees, ShapeId, Site, Table, Tree, Value, shape_at, step, view}
 use Rattle.fr_shape.specs.Hooks.{Meaning, gives, IsLawful}
 use Rattle.fr_model.specs.Scripts.{brings}
-use Rattle.fr_model.specs.Step.{puts_parsed, is_str, is_owned_string}
+use Rattle.fr_model.specs.Step.{puts_parsed}
 use Rattle.fr_model.proofs.Templates.{bytes_template, text_template}
 use Rattle.fr_model.proofs.Templates.{IsTemplate, template_holds}
-use Rattle.fr_partial.specs.Moving.{ComesToBy}
+use Rattle.fr_partial.specs.Deciding.{ComesToBy}
 use Rattle.fr_partial.specs.ParseHooks.{input_meant, input_refusal, parse_call}
 use Rattle.fr_partial.specs.declared.parse.ParseInput.{ParseInput}
 use Rattle.fr_partial.proofs.PutLaws.{taken}
 use Rattle.fr_partial.proofs.SeenLaws.{seen_by}
+use Rattle.fr_moves.specs.SetLaws.{keeps_own, takes_own}
 
 abbrev unparsing : ParseInput → Operation
 unparsing (ParseInput.Text codes) = Operation.NoParsing
 unparsing (ParseInput.Bytes bytes) = Operation.NoParsingOfBytes
-
--- a place takes a value of its own shape as it is
-pub takes_own : (table : Table) (s : ℕ) → takes_shape table s s ≡ true
-takes_own table s = ap (λ (b : Bool). b || (is_str (def_of table s) && is_owned_string (def_of table s))) (eq-eqb s s refl)
-
-pub keeps_own : (table : Table) (s : ℕ) → converts_at table s s ≡ false
-keeps_own table s = ap (λ (b : Bool). is_dynamic (def_of table s) && not b) (eq-eqb s s refl) ∙ none (is_dynamic (def_of table s))
-  where
-    none : (b : Bool) → (b && false) ≡ false
-    none true = refl
-    none false = refl
 
 module _ {site : Site} {table : Table} {shape : ShapeId} {seen : Tree} (at : Sees site table shape seen) (hooks : Meanings) where
   meant_seen : (input : ParseInput) → input_meant hooks table shape.0 input ≡ input_meant hooks site.shapes (shape_at site) input

@@ -1,34 +1,22 @@
 -- Putting a value or a default at a place: what it comes to, and what it is refused for.
-use Rattle.std.proofs.Common.{◌≡◌, ℕ, Bool, true, false, ◌&&◌, if◌then◌else◌, Option, Some, None, Result, Ok, Err, IsOk, inl, inr, nat_eq, refl, sym, ◌∙◌, ap}
+use Rattle.std.proofs.Common.{◌≡◌, ℕ, Bool, true, false, ◌&&◌, Option, Some, None, Result, Ok, Err, IsOk, inl, inr, nat_eq, refl, sym, ◌∙◌, ap}
 use Rattle.std.proofs.lemmas.Bool.{eqb-true}
-use Rattle.fr_partial.specs.Common.{Call, Change, ComesTo, Def, IsChecked, IsRefused, IsUnconverted, Meanings, Move, Operation, ReflectErrorKind, ScalarKind, Sees, ShapeId, Site, State, Table, Tree, Val, Value, converted, converts_at, copies_to_convert, def_of, fits, is_dynamic, occurs, operation_failed, preset_of, settled, shape_at, step, takes_shape, unit, unless_refused, view}
+use Rattle.fr_partial.specs.Common.{Call, Change, ComesTo, Def, IsChecked, IsRefused, IsUnconverted, Meanings, Move, Operation, ReflectErrorKind, ScalarKind, Sees, ShapeId, Site, Table, Tree, Val, Value, converted, converts_at, copies_to_convert, def_of, fits, is_dynamic, occurs, operation_failed, preset_of, settled, shape_at, step, takes_shape, unit, view}
 use Rattle.fr_shape.specs.Fits.{keys_once}
 use Rattle.fr_shape.specs.Val.{Dynamic, dyn, text}
-use Rattle.fr_model.specs.Step.{is_str, is_owned_string, set, set_refusal, puts, puts_default, puts_dynamic}
+use Rattle.fr_model.specs.Step.{is_str, is_owned_string, puts, puts_default, puts_dynamic}
 use Rattle.fr_refusals.specs.SettingDynamic.{copies_at}
 use Rattle.fr_values.proofs.MadeDynamic.{settled_plain}
 use Rattle.fr_values.proofs.ConvertedLaws.{converted_once}
 use Rattle.fr_model.proofs.Templates.{IsTemplate, preset_template, template_holds}
 use Rattle.fr_partial.proofs.DecidingLaws.{remains}
-use Rattle.fr_partial.proofs.FitLaws.{both_true, fits_in}
+use Rattle.fr_moves.specs.FitLaws.{both_true, fits_in}
 use Rattle.fr_partial.proofs.SeenLaws.{seen_by, shape_of_number, shape_seen}
+use Rattle.fr_moves.specs.SetLaws.{set_is}
 
 -- what comes to a state is no refusal
 pub admits : {A E : Type 0} {made : Result A E} {a : A} → made ≡ Ok a → IsOk made
 admits {A} {E} {made} {a} e = rw e refl
-
--- it is put as it is, if it may, where the place doesn't convert it
-pub set_is : (table : Table) (s given : ℕ) (state : State) (v : Val) → set table s state given v
-    ≡ (if converts_at table s given then puts_dynamic state given (converted table s (def_of table given) v)
-    else unless_refused (set_refusal table s given) (puts state v))
-set_is table s given state v = go (is_dynamic (def_of table s)) (nat_eq s given) refl refl
-  where
-    go : (a b : Bool) → is_dynamic (def_of table s) ≡ a → nat_eq s given ≡ b → set table s state given v
-        ≡ (if converts_at table s given then puts_dynamic state given (converted table s (def_of table given) v)
-        else unless_refused (set_refusal table s given) (puts state v))
-    go false b d e = rw d refl
-    go true true d e = rw (d, e) refl
-    go true false d e = rw (d, e) refl
 
 -- one that it converts takes memory only where it is copied
 pub only_copies : (table : Table) (s given : ℕ) → converts_at table s given ≡ true → copies_at table s given ≡ false

@@ -4,7 +4,8 @@ use Rattle.fr_partial.specs.Common.{HasItems, Mode, Operation, ShapeId, Site, Ta
 use Rattle.fr_model.specs.Collections.{key_refusal}
 use Rattle.fr_refusals.specs.KeyRefusals.{key_refusal_by, value_refusal_by}
 pub use Rattle.fr_partial.specs.Looks.{Sees}
-use Rattle.fr_partial.proofs.LookLaws.{alike_by, begun_array, begun_in, begun_named, begun_refusal, begun_set_item, items_alike, AsBegun}
+use Rattle.fr_moves.specs.LookLaws.{alike_by, AsBegun}
+use Rattle.fr_partial.proofs.LookLaws.{begun_array, begun_in, begun_named, begun_refusal, begun_set_item, items_alike}
 
 -- of a map it is known whether its last child is there; where there is no map, that doesn't matter
 where_map : {X : Type 0} (of_map lacks there : Bool) (by_child : Bool → X) (otherwise : X) → (of_map ≡ true → lacks ≡ there)

@@ -1,49 +1,15 @@
--- Pointers to slices: how they come to be open for items, and what that means.
-use Rattle.std.proofs.Common.{◌≡◌, ℕ, Bool, true, false, Option, Some, None, is_some, Ok, Err, unwrap_or, if◌then◌else◌, inl, inr, refl, sym, ◌∙◌, ap}
-use Rattle.fr_partial.specs.Common.{Call, Change, ComesTo, Def, IsRefused, ItemsKind, Mode, Move, Operation, ReflectErrorKind, ShapeId, Site, Table, Tree, Val, Value, as_items, begun, begun_as, closed_slice, def_of, deferred, fits, hole, is_open_slice, kept_slice, list_of, no_vals, occurs, shape_at, slice_anew, strict, view}
+-- A pointer to no items: it fits, and what it means to put one.
+use Rattle.std.proofs.Common.{◌≡◌, ℕ, Bool, true, false, Option, Some, None, Ok, Err, if◌then◌else◌, inl, inr, refl, sym, ◌∙◌, ap}
+use Rattle.fr_partial.specs.Common.{Call, Change, ComesTo, Def, IsRefused, Move, Operation, ReflectErrorKind, ShapeId, Site, Table, Val, Value, def_of, fits, list_of, no_vals, occurs, shape_at, view}
 use Rattle.fr_shape.specs.declared.shape.KnownPointer.{KnownPointer}
 use Rattle.fr_shape.specs.declared.shape.PointerDef.{PointerDef}
 use Rattle.fr_shape.specs.Val.{ptr}
 use Rattle.fr_model.specs.Contents.{is_slice}
 use Rattle.fr_model.specs.Items.{shared_slice_by, shared_slice_refusal}
 use Rattle.fr_model.specs.Step.{puts, set_empty_shared_slice}
-use Rattle.fr_store.specs.StackMoves.{IsBegunSlice}
 use Rattle.fr_values.proofs.MadeDynamic.{settled_plain}
 use Rattle.fr_partial.proofs.PutLaws.{admits}
 use Rattle.fr_partial.proofs.SeenLaws.{shape_of_number}
-
--- What of it is kept.
-
--- what is kept is the place, open
-pub slice_kept : (mode : Mode) (tree : Tree) → is_some (kept_slice mode tree) ≡ true
-    → begun_as (as_items ItemsKind.Slice) tree ≡ unwrap_or (kept_slice mode tree) slice_anew
-slice_kept strict tree is = cc
-slice_kept (deferred start) (begun (as_items ItemsKind.Slice) ts) is = refl
-slice_kept (deferred start) (begun (as_items ItemsKind.ClosedSlice) ts) is = refl
-slice_kept (deferred start) _ is = cc
-
-pub slice_there : (mode : Mode) (tree : Tree) → is_some (kept_slice mode tree) ≡ true → IsBegunSlice tree
-slice_there strict tree is = cc
-slice_there (deferred start) (begun (as_items ItemsKind.Slice) ts) is = tt
-slice_there (deferred start) (begun (as_items ItemsKind.ClosedSlice) ts) is = tt
-slice_there (deferred start) _ is = cc
-
--- or it starts anew
-pub starts_anew : (kept : Option Tree) (anew : Tree) → is_some kept ≡ false → anew ≡ unwrap_or kept anew
-starts_anew (Some tree) anew none = cc
-starts_anew None anew none = refl
-
--- Closing one.
-
-pub open_there : (tree : Tree) → is_open_slice tree ≡ true → IsBegunSlice tree
-open_there (begun (as_items ItemsKind.Slice) ts) is = tt
-open_there _ is = cc
-
-pub closed_alike : (tree : Tree) → begun_as (as_items ItemsKind.ClosedSlice) tree ≡ closed_slice tree
-closed_alike hole = refl
-closed_alike _ = refl
-
--- A pointer to no items.
 
 no_items_fit : (table : Table) (s : ℕ) → is_slice (def_of table s) ≡ true → fits table s (list_of no_vals) ≡ true
 no_items_fit table s is = go (def_of table s) refl is

@@ -1,15 +1,11 @@
 -- Starting by a plan that is there: its root's shape, and what is left to refuse.
-use Rattle.std.proofs.Common.{◌≡◌, [], Option, Some, Result, Ok, Err, IfOk, option_map, sym, ap, ◌∙◌}
+use Rattle.std.proofs.Common.{◌≡◌, [], Option, Some, option_map, sym, ap, ◌∙◌}
 use Rattle.fr_partial.specs.Common.{IsChecked, IsPlanFrom, Plan, Table, TypePlanNode, option_or, unsized_refusal}
 use Rattle.fr_shape.specs.declared.error.AllocError.{AllocError}
 use Rattle.fr_model.specs.Run.{alloc_refusal}
 use Rattle.fr_plan.specs.Lookups.{node_at}
 use Rattle.fr_plan.specs.PathLaws.{PathsAgree}
 use Rattle.fr_plan.specs.RefusalLaws.{RefusesFirst, refusal_in}
-
-pub if_ok : {A E : Type 0} {P Q : A → Type 0} → (result : Result A E) → ((a : A) → P a → Q a) → IfOk result P → IfOk result Q
-if_ok (Ok a) then holds = then a holds
-if_ok (Err e) then holds = tt
 
 -- the root's node has the root's shape
 pub root_shape : PathsAgree → (table : Table) (plan : Plan) (node : TypePlanNode) → IsChecked table

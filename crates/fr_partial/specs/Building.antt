@@ -11,7 +11,7 @@ use Rattle.fr_model.specs.Step.{build, violates}
 use Rattle.fr_model.specs.Tree.{Mode, strict, deferred, State}
 use Rattle.fr_partial.specs.declared.reflect_error.ReflectError.{ReflectError}
 use Rattle.fr_partial.specs.BuiltValue.{BuiltValue}
-use Rattle.fr_partial.specs.Sites.{Site}
+use Rattle.fr_moves.specs.Sites.{Site}
 
 abbrev pub build_refusal_in : Mode → (at_root : Option Invariant) → Option Invariant
 build_refusal_in (deferred start) at_root = Some Invariant.BuildDeferred

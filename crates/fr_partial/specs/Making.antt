@@ -3,21 +3,13 @@ use Rattle.std.specs.Prelude.{◌≡◌, ◌⊎◌, ℕ, Result, Ok, Err}
 use Rattle.fr_shape.specs.declared.error.ReflectErrorKind.{ReflectErrorKind}
 use Rattle.fr_model.specs.Tree.{State}
 use Rattle.fr_partial.specs.declared.reflect_error.ReflectError.{ReflectError}
-use Rattle.fr_partial.specs.declared.work.Parts.{Parts}
-use Rattle.fr_partial.specs.Sites.{Site, held_at}
-use Rattle.fr_partial.specs.Works.{site}
+use Rattle.fr_moves.specs.Sites.{Site, held_at}
 
 -- What was meant came about: where it is a state, that is the state then, over the same table and root; where it is a refusal, that is the
 -- error's kind; or memory ran out.
 abbrev pub IsMoved : Site → (meant : Result State ReflectErrorKind) → Result Site ReflectError → Type 0
 IsMoved before meant (Ok after) = (meant ≡ Ok after.state) × (after.shapes ≡ before.shapes) × (after.root ≡ before.root)
 IsMoved before meant (Err error) = (error.kind ≡ ReflectErrorKind.OutOfMemory) ⊎ (meant ≡ Err error.kind)
-
--- the same of its parts, while they are changed where they are
-abbrev pub IsMade : {A : Type 0} → (before after : Parts) → (meant : Result State ReflectErrorKind) → Result A ReflectErrorKind → Type 0
-IsMade before after meant (Ok done) =
-    (meant ≡ Ok (site after).state) × ((site after).shapes ≡ (site before).shapes) × ((site after).root ≡ (site before).root)
-IsMade before after meant (Err kind) = (kind ≡ ReflectErrorKind.OutOfMemory) ⊎ (meant ≡ Err kind)
 
 -- how often a token is held then: not at all where the move was refused
 abbrev pub left_at : Result Site ReflectError → ℕ → ℕ

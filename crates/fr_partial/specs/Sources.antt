@@ -6,7 +6,7 @@ use Rattle.fr_model.specs.Scripts.{value_brought}
 use Rattle.fr_model.specs.Step.{begin_custom_deserialization, begin_custom_deserialization_from_shape, enters_source, step}
 use Rattle.fr_model.specs.Trackers.{Conversion}
 use Rattle.fr_partial.specs.Builder.{Builder}
-use Rattle.fr_partial.specs.Sites.{Site, shape_at}
+use Rattle.fr_moves.specs.Sites.{Site, shape_at}
 use Rattle.fr_partial.specs.declared.reflect_error.ReflectError.{ReflectError}
 
 -- the call brings no value, and begins this conversion

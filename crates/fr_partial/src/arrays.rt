@@ -2,10 +2,10 @@
 ghost use Rattle.std.specs.Prelude.{◌≡◌};
 ghost use Rattle.fr_partial.specs.Common.{Call, Decides, IsCall, IsNotOutOfMemory, NeedsNone, Room, cursor_tree, false, holds, is_begun, is_begun_conversion, true};
 
-use crate::moves::{Change, Move};
 use crate::work::Work;
 use crate::{Partial, ReflectError};
 use fr_frame::{Opening, Tracker};
+use fr_moves::{Change, Move};
 use fr_refusals::array_opening;
 use fr_shape::{Hooks, Ledger, ReflectErrorKind};
 

@@ -7,12 +7,12 @@ ghost use Rattle.fr_shape.specs.Invariants.{keeps_invariants};
 ghost use Rattle.fr_model.specs.Step.{violates};
 ghost use Rattle.fr_partial.specs.Builder.{left_built};
 ghost use Rattle.fr_partial.specs.Building.{build_refusal, meant_by_build, IsBuiltSo, IsKeptIf};
-ghost use Rattle.fr_partial.specs.Ending.{PassesValidators};
+ghost use Rattle.fr_moves.specs.Ending.{PassesValidators};
 
-use crate::ending::take_root;
-use crate::work::{Parts, Work};
+use crate::work::Work;
 use crate::{Built, ReflectError};
 use fr_model::law_completes;
+use fr_moves::{Parts, take_root};
 use fr_plan::TypePlanCore;
 use fr_refusals::Mode;
 use fr_shape::{

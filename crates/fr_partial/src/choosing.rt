@@ -4,8 +4,8 @@ ghost use Rattle.std.specs.Prelude.{Option, ◌≡◌};
 ghost use Rattle.fr_shape.specs.declared.shape.VariantDef.{VariantDef as Variant};
 ghost use Rattle.fr_partial.specs.Choosing.{Selects};
 
-use crate::moves::{Change, Move};
 use crate::work::Work;
+use fr_moves::{Change, Move};
 use fr_plan::{law_plan_complete, law_plan_lookups, law_plan_reach};
 use fr_refusals::{choose, enum_of};
 use fr_shape::{Expected, Operation, ReflectErrorKind, ShapeId, ShapeTable};

@@ -2,9 +2,9 @@
 ghost use Rattle.fr_partial.specs.Common.{Call, Decides, IsCall, Room, holds};
 
 use crate::choosing::select;
-use crate::moves::Move;
 use crate::work::Work;
 use crate::{Partial, ReflectError};
+use fr_moves::Move;
 use fr_refusals::nth_variant;
 use fr_shape::{Hooks, Ledger, Operation, ReflectErrorKind};
 

@@ -2,11 +2,11 @@
 //! works; and `set_nth_field_to_default`.
 ghost use Rattle.fr_partial.specs.Common.{Call, Decides, IsCall, Room, holds};
 
-use crate::moves::{Change, Move, child_way};
 use crate::set::copy_template;
 use crate::work::Work;
 use crate::{Partial, ReflectError};
 use fr_frame::{default_in, named_refusal, nth_opening, opening_at, selected};
+use fr_moves::{Change, Move, child_way};
 use fr_shape::{Hooks, Ledger, OutOfMemory, ReflectErrorKind};
 
 impl<'t> Work<'t> {

@@ -1,10 +1,10 @@
 //! `begin_inner`: on to what a wrapper wraps, or is built from.
 ghost use Rattle.fr_partial.specs.Common.{Call, Decides, IsCall, Room, holds};
 
-use crate::moves::{Move, Way};
 use crate::work::Work;
 use crate::{Partial, ReflectError};
 use fr_frame::{ContentKind, PartialValue, Tracker, nth_opening};
+use fr_moves::{Move, Way};
 use fr_refusals::{beginning_of_inner, by_wrapper, content_of, convert_in, source_in};
 use fr_shape::{Hooks, Ledger, Operation, ReflectErrorKind};
 

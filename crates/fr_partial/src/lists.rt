@@ -3,10 +3,10 @@
 ghost use Rattle.std.specs.Prelude.{◌≡◌};
 ghost use Rattle.fr_partial.specs.Common.{Call, Decides, IsCall, IsNotOutOfMemory, NeedsNone, Room, cursor_tree, holds, is_begun, true};
 
-use crate::moves::{Change, Move, Way};
 use crate::work::Work;
 use crate::{Partial, ReflectError};
 use fr_frame::{ItemsKind, Opening, Tracker};
+use fr_moves::{Change, Move, Way};
 use fr_refusals::{DynamicParts, init_list_refusal, is_dynamic, item_opening};
 use fr_shape::{Hooks, Ledger, ReflectErrorKind};
 

@@ -2,10 +2,10 @@
 ghost use Rattle.fr_partial.specs.Common.{Call, Decides, IsCall, IsNotOutOfMemory, NeedsNone, Room, cursor_tree, holds, is_begun, true};
 ghost use Rattle.std.specs.Prelude.{◌≡◌};
 
-use crate::moves::{Change, Move, Way};
 use crate::work::Work;
 use crate::{Partial, ReflectError};
 use fr_frame::{EntriesKind, Opening, Tracker};
+use fr_moves::{Change, Move, Way};
 use fr_refusals::{DynamicParts, init_map_refusal, is_dynamic, key_opening, value_opening};
 use fr_shape::{Hooks, Ledger, ReflectErrorKind};
 

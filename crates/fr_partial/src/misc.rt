@@ -3,14 +3,14 @@ ghost use Rattle.std.specs.Prelude.{◌≡◌};
 ghost use Rattle.fr_partial.specs.Common.{Call, Decides, IsCall, IsNotOutOfMemory, NeedsNone, None, Room, RoseBy, Some, cursor_tree, false, holds, is_open_slice, is_root, length, strict, takes_no_memory, true};
 ghost use Rattle.fr_model.specs.Step.{begin_deferred, is_source_place};
 ghost use Rattle.fr_partial.specs.Builder.{meaning, meaning_of_build, IsBuild};
-ghost use Rattle.fr_partial.specs.Ending.{PassesValidators};
-ghost use Rattle.fr_partial.specs.Moving.{NeedsMessageAlone};
+ghost use Rattle.fr_moves.specs.Ending.{PassesValidators};
+ghost use Rattle.fr_partial.specs.Deciding.{NeedsMessageAlone};
 
-use crate::moves::{Change, Move, Rules};
 use crate::work::Work;
 use crate::{Built, Partial, ReflectError};
 use fr_frame::Taker;
 use fr_model::law_removed;
+use fr_moves::{Change, Move, Rules};
 use fr_refusals::{Mode, is_open_slice};
 use fr_shape::{Hooks, Invariant, Ledger, ReflectErrorKind};
 

@@ -1,9 +1,9 @@
 //! `begin_object_entry`: a dynamic value that is an object, entry by entry.
 ghost use Rattle.fr_partial.specs.Common.{Call, Decides, IsCall, Room, holds};
 
-use crate::moves::{Move, Way};
 use crate::work::Work;
 use crate::{Partial, ReflectError};
+use fr_moves::{Move, Way};
 use fr_refusals::entry_refusal;
 use fr_shape::{Hooks, Ledger, ReflectErrorKind};
 

@@ -1,10 +1,10 @@
 //! `begin_some`: on to the content of an option.
 ghost use Rattle.fr_partial.specs.Common.{Call, Decides, IsCall, Room, holds};
 
-use crate::moves::{Move, Way};
 use crate::work::Work;
 use crate::{Partial, ReflectError};
 use fr_frame::{ContentKind, Tracker};
+use fr_moves::{Move, Way};
 use fr_refusals::{beginning_of_some, content_of};
 use fr_shape::{Expected, Hooks, Ledger, ReflectErrorKind};
 

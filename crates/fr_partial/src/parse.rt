@@ -5,12 +5,12 @@ ghost use Rattle.fr_shape.specs.declared.hooks.HookFault.{HookFault as Fault};
 ghost use Rattle.fr_partial.specs.Common.{Call, IfOk, IsCall, IsChecked, IsMeant, IsNotOutOfMemory, NeedsNone, Room, cursor_tree, false, holds, shape_at, true};
 ghost use Rattle.fr_partial.specs.Builder.{here};
 ghost use Rattle.fr_partial.specs.declared.parse.ParseInput.{ParseInput as TheInput};
-ghost use Rattle.fr_partial.specs.Moving.{DecidesBy};
+ghost use Rattle.fr_partial.specs.Deciding.{DecidesBy};
 ghost use Rattle.fr_partial.specs.ParseHooks.{input_meant, input_refusal, input_unparsed, may_want_memory, parse_call};
 
-use crate::moves::{Change, Move};
 use crate::work::Work;
 use crate::{Partial, ReflectError};
+use fr_moves::{Change, Move};
 use fr_shape::{
     HookFault, Hooks, Ledger, Operation, ReflectErrorKind, ShapeId, ShapeTable, Value, law_hooks,
     parse_scalar,

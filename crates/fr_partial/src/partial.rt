@@ -1,14 +1,14 @@
 //! The builder.
-ghost use Rattle.std.specs.Prelude.{◌+◌};
-ghost use Rattle.fr_partial.specs.Common.{Call, ConversionsSuit, IfOk, IsCall, IsChecked, IsInOrder, IsMeant, IsNotOutOfMemory, IsNumbered, List, NeedsNone, None, RestsAround, Room, cursor_tree, holds, ℕ};
+ghost use Rattle.std.specs.Prelude.{◌+◌, ◌≡◌};
+ghost use Rattle.fr_partial.specs.Common.{Call, ConversionsSuit, IfOk, IsCall, IsChecked, IsInOrder, IsMeant, IsNotOutOfMemory, IsNumbered, List, NeedsNone, None, RestsAround, Room, RoseBy, cursor_tree, holds, path_of, ℕ};
 ghost use Rattle.fr_partial.specs.Builder.{meaning, site_of};
-ghost use Rattle.fr_partial.specs.Ending.{PassesValidators};
-ghost use Rattle.fr_partial.specs.Moving.{carries, DecidesBy, NeedsMessageAlone, WasDecided};
+ghost use Rattle.fr_moves.specs.Ending.{PassesValidators};
+ghost use Rattle.fr_partial.specs.Deciding.{carries, DecidesBy, NeedsMessageAlone, WasDecided};
 
 use crate::ReflectError;
-use crate::moves::Move;
 use crate::work::Work;
 use fr_model::law_removed;
+use fr_moves::Move;
 use fr_shape::{Hooks, Ledger, ReflectErrorKind, law_hooks};
 use std::marker::Model;
 
@@ -83,5 +83,16 @@ impl<'t, H: Hooks> Partial<'t, H> {
             },
             Err(kind) => Err(work.refuse(kind, ledger)),
         }
+    }
+
+    /// The error of a call that is refused before it changes anything: all is released.
+    pub(crate) fn refuse(self, kind: ReflectErrorKind, ledger: &mut Ledger) -> ReflectError
+        requires room { Room (holds self) ledger.old }
+        ensures kind { result.kind ≡ kind }
+        ensures path { result.path ≡ path_of self.entry.state }
+        ensures released { RoseBy (holds self.entry) ledger.old ledger.new }
+    {
+        let Partial { hooks: _, work } = self;
+        work.refuse(kind, ledger)
     }
 }

@@ -8,9 +8,9 @@ ghost use Rattle.fr_model.specs.Step.{begins_from_shape};
 ghost use Rattle.fr_model.specs.Tree.{cursor_field};
 ghost use Rattle.fr_partial.specs.Sources.{BeginsByField, BeginsFromShape, builder_then};
 
-use crate::moves::{Change, Move};
 use crate::work::Work;
 use crate::{Partial, ReflectError};
+use fr_moves::{Change, Move};
 use fr_refusals::{by_proxy, proxy_at, proxy_of_field};
 use fr_shape::{Hooks, Ledger, ProxyDef, ReflectErrorKind};
 

@@ -3,10 +3,10 @@ ghost use Rattle.std.specs.Prelude.{◌≡◌};
 ghost use Rattle.fr_partial.specs.Common.{Call, Decides, IfOk, IsCall, Room, holds, list_of, no_vals, view};
 ghost use Rattle.fr_shape.specs.Val.{ptr};
 
-use crate::moves::{Change, Move, Way};
 use crate::work::Work;
 use crate::{Partial, ReflectError};
 use fr_frame::{ContentKind, Tracker};
+use fr_moves::{Change, Move, Way};
 use fr_refusals::{beginning_in, pointer_refusal, points_to_slice, shared_slice_refusal};
 use fr_shape::{Hooks, Items, Ledger, OutOfMemory, ReflectErrorKind, Value};
 use std::alloc::Global;

@@ -3,8 +3,8 @@ ghost use Rattle.fr_partial.specs.Common.{IfOk, IfSome, length, path_of, strict}
 ghost use Rattle.std.specs.Prelude.{◌↔◌, IsNone, IsTrue, ◌+◌, ◌≡◌, ◌≢◌};
 ghost use Rattle.fr_partial.specs.Builder.{here};
 
-use crate::kept_path::copy_path;
 use crate::{Partial, ReflectError};
+use fr_moves::copy_path;
 use fr_path::Path;
 use fr_refusals::Mode;
 use fr_shape::{Hooks, OutOfMemory, ReflectErrorKind, ShapeId, ShapeTable};

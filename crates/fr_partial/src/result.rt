@@ -1,11 +1,11 @@
 //! `begin_ok` and `begin_err`: on to either side of a result.
 ghost use Rattle.fr_partial.specs.Common.{Call, Decides, IsCall, Room, as_tracker, holds, side_call};
-ghost use Rattle.fr_partial.specs.Beginnings.{IsSide};
+ghost use Rattle.fr_partial.specs.Sides.{IsSide};
 
-use crate::moves::{Move, Way};
 use crate::work::Work;
 use crate::{Partial, ReflectError};
 use fr_frame::{ContentKind, Tracker};
+use fr_moves::{Move, Way};
 use fr_refusals::{beginning_in, is_result};
 use fr_shape::{Expected, Hooks, Ledger, ReflectErrorKind};
 

@@ -5,9 +5,9 @@ ghost use Rattle.fr_shape.specs.Val.{dyn};
 ghost use Rattle.fr_partial.specs.Builder.{here};
 ghost use Rattle.fr_refusals.specs.SettingDynamic.{copies_at};
 
-use crate::moves::{Change, Move};
 use crate::work::Work;
 use crate::{Partial, ReflectError};
+use fr_moves::{Change, Move};
 use fr_refusals::{converts, takes_shape};
 use fr_shape::{
     Dyn, Hooks, Ledger, Operation, OutOfMemory, ReflectErrorKind, Shaped, Template, Value,

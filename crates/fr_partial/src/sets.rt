@@ -2,10 +2,10 @@
 ghost use Rattle.std.specs.Prelude.{◌≡◌};
 ghost use Rattle.fr_partial.specs.Common.{Call, Decides, IsCall, IsNotOutOfMemory, NeedsNone, Room, cursor_tree, holds, is_begun, true};
 
-use crate::moves::{Change, Move, Way};
 use crate::work::Work;
 use crate::{Partial, ReflectError};
 use fr_frame::{ItemsKind, Opening, Tracker};
+use fr_moves::{Change, Move, Way};
 use fr_refusals::{init_set_refusal, set_item_opening};
 use fr_shape::{Hooks, Ledger, ReflectErrorKind};
 

@@ -3,9 +3,9 @@ ghost use Rattle.fr_frame.specs.Heap.{as_conversion};
 ghost use Rattle.fr_partial.specs.Common.{Call, ComesTo};
 ghost use Rattle.fr_partial.specs.Sources.{Begins};
 
-use crate::moves::{Move, Way};
 use crate::work::Work;
 use fr_frame::Conversion;
+use fr_moves::{Move, Way};
 use fr_refusals::{beginning_in, source_tracker};
 
 impl<'t> Work<'t> {

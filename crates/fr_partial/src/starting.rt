@@ -7,10 +7,10 @@ ghost use Rattle.fr_model.specs.Tree.{initial};
 ghost use Rattle.fr_partial.specs.Starting.{RefusedWith};
 
 use crate::Partial;
-use crate::held_plan::HeldPlan;
-use crate::work::{Frames, Parts, Work};
+use crate::work::Work;
 use fr_frame::{FrameOwner, Slots};
 use fr_model::law_well;
+use fr_moves::{Frames, HeldPlan, Parts};
 use fr_path::Path;
 use fr_plan::{TypePlanCore, law_first_refusal, law_plan_lookups, law_plan_paths};
 use fr_refusals::Mode;

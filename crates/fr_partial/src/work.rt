@@ -4,67 +4,35 @@ ghost use Rattle.std.specs.Prelude.{◌+◌, ◌≡◌};
 ghost use Rattle.fr_partial.specs.Common.{Conserved, ConversionsSuit, IfErr, IsChecked, IsErr, IsInOrder, IsMeant, IsNotOutOfMemory, IsNumbered, None, RestsAround, Room, RoseBy, Sees, body_of, carried, false, held_at, held_in, is_map, lacks_last, lacks_value, length, meant_by, mode_of, own_tree, path_of, strict, true};
 ghost use Rattle.fr_model.specs.Step.{begin_deferred};
 ghost use Rattle.fr_partial.specs.Making.{left_at, IsMoved};
-ghost use Rattle.fr_partial.specs.Ending.{PassesValidators};
-ghost use Rattle.fr_partial.specs.Moving.{is_late, needs_message_alone, needs_none};
-ghost use Rattle.fr_partial.specs.Sites.{tree_at_site};
+ghost use Rattle.fr_moves.specs.Ending.{PassesValidators};
+ghost use Rattle.fr_moves.specs.Moving.{is_late, needs_message_alone, needs_none};
+ghost use Rattle.fr_moves.specs.Sites.{tree_at_site};
 
 use crate::ReflectError;
-use crate::deferring::defer;
-use crate::held_plan::HeldPlan;
-use crate::making::make;
-use crate::moves::Move;
-use crate::placing::place_here;
-use fr_frame::{PartialValue, Slots};
+use fr_frame::PartialValue;
 use fr_model::law_paths;
+use fr_moves::{Move, Parts, defer, make, place_here};
 use fr_path::Path;
 use fr_refusals::Mode;
 use fr_shape::{Hooks, Ledger, ReflectErrorKind, ShapeId, ShapeTable};
-use fr_store::{FrameStore, Stack};
 use std::alloc::Global;
 use std::marker::Model;
 
-/// The open places of a value of shape `root`, and those that were left half done.
-#[derive(Drop)]
-pub struct Frames<'t> {
-    pub table: &'t ShapeTable,
-    pub root: ShapeId,
-    /// All these places, and what was put at them.
-    pub slots: Slots,
-    /// The slots of the open ones, the root's first and that of the place at which the builder
-    /// works last.
-    pub stack: Stack,
-    /// The slots of those that were left half done.
-    pub store: FrameStore,
-    pub mode: Mode,
-}
-
-/// What a builder goes by, and all that its calls change.
-#[derive(Drop)]
-pub struct Parts<'t> {
-    pub alloc: Global,
-    pub plan: HeldPlan<'t>,
-    pub frames: Frames<'t>,
-    /// The path of the place at which the builder works.
-    pub path: Path,
-    /// How many calls succeeded.
-    pub calls: u32,
-}
-
-/// The same on the heap, so that a call moves no more than where it is. Contracts see the table,
-/// the root's shape and the state.
+/// What a builder works with, on the heap, so that a call moves no more than where it is. Contracts
+/// see the table, the root's shape and the state.
 #[derive(Drop)]
 pub struct Work<'t> {
     pub(crate) parts: Box<Parts<'t>>,
 }
 
 impl<'t> Model for Work<'t> {
-    ghost use Rattle.fr_partial.specs.Sites.{Site, site_code};
+    ghost use Rattle.fr_moves.specs.Sites.{Site, site_code};
 
     ghost Value = { Site };
 
     ghost coded = { site_code };
 
-    ghost use Rattle.fr_partial.specs.Works.{site, IsSound};
+    ghost use Rattle.fr_moves.specs.Works.{site, IsSound};
 
     ghost view = { λ work. site work.parts.value };
 

@@ -10,7 +10,7 @@ use Rattle.fr_plan.specs.declared.nodes.NodeId.{NodeId}
 use Rattle.fr_plan.specs.declared.outlines.Mark.{Mark}
 use Rattle.fr_plan.specs.declared.outlines.Outline.{Outline}
 use Rattle.fr_plan.specs.declared.outlines.Walk.{Walk}
-use Rattle.fr_plan.specs.Build.{Built, Made, MadeAll, and_then, unless, none_yet, marked, with_node, back_reference, each_built, children_built, finish, build_new, build_by, start_of, planned}
+use Rattle.fr_plan.specs.Build.{Built, Made, MadeAll, and_then, unless, none_yet, with_shape_mark, with_node, back_reference, each_built, children_built, finish, build_new, build_by, start_of, planned}
 
 -- the node is one of the walk's
 abbrev pub IsInside : Built Made → Type 0
@@ -40,7 +40,7 @@ new_inside : (builds : Walk → ShapeId → Built Made) (walk : Walk) (id : Shap
 unfolding build_new
 new_inside builds walk id None = with_node_inside walk (back_reference id)
 new_inside builds walk id (Some shape) =
-    and_then_inside (each_built builds (none_yet (marked walk id Mark.Building)) (own_sources shape)) _ (λ sources.
+    and_then_inside (each_built builds (none_yet (with_shape_mark walk id Mark.Building)) (own_sources shape)) _ (λ sources.
     and_then_inside (children_built builds sources.walk id shape.def shape) _ (λ children.
     finish_inside id shape sources.nodes children))
 

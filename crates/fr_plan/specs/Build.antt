@@ -50,8 +50,8 @@ abbrev pub with_node : Walk → Outline → Made
 with_node walk outline =
     record { walk = record walk { nodes = walk.nodes ++ outline ∷ [] }; node = record { 0 = length walk.nodes } }
 
-abbrev pub marked : Walk → ShapeId → Mark → Walk
-marked walk id mark = record walk { marks = slice_set walk.marks id.0 mark }
+abbrev pub with_shape_mark : Walk → ShapeId → Mark → Walk
+with_shape_mark walk id mark = record walk { marks = slice_set walk.marks id.0 mark }
 
 -- a node that refers back to the shape's own
 abbrev pub back_reference : ShapeId → Outline
@@ -112,7 +112,7 @@ children_built builds walk id (Def.Enum enumeration) shape =
 children_built builds walk id def shape = each_built builds (none_yet walk) (children_by def shape)
 
 abbrev pub done : ShapeId → Made → Made
-done id made = record made { walk = marked made.walk id (Mark.Done made.node) }
+done id made = record made { walk = with_shape_mark made.walk id (Mark.Done made.node) }
 
 -- the shape's own node, behind all that were built for it; or the shape is refused
 unfoldable pub finish : ShapeId → Shape → (sources : List NodeId) → (children : MadeAll) → Built Made
@@ -129,7 +129,7 @@ finish id shape sources children =
 unfoldable pub build_new : (builds : Walk → ShapeId → Built Made) → Walk → ShapeId → Option Shape → Built Made
 build_new builds walk id None = Ok (with_node walk (back_reference id))
 build_new builds walk id (Some shape) =
-    and_then (each_built builds (none_yet (marked walk id Mark.Building)) (own_sources shape)) (λ sources.
+    and_then (each_built builds (none_yet (with_shape_mark walk id Mark.Building)) (own_sources shape)) (λ sources.
     and_then (children_built builds sources.walk id shape.def shape) (λ children. finish id shape sources.nodes children))
 
 -- a shape, by how far it has come

@@ -5,13 +5,13 @@ use Rattle.fr_plan.specs.declared.nodes.NodeId.{NodeId}
 use Rattle.fr_plan.specs.declared.nodes.ProxyNodes.{ProxyNodes}
 
 -- the node of the first entry of this format, else the one for all formats
-abbrev pub node_in : List (List ℕ × NodeId) → (generic : Option NodeId) → List ℕ → Option NodeId
-node_in [] generic format = generic
-node_in (entry ∷ entries) generic format =
-    if bytes_eq entry.0 format then Some entry.1 else node_in entries generic format
+abbrev pub node_among : List (List ℕ × NodeId) → (generic : Option NodeId) → List ℕ → Option NodeId
+node_among [] generic format = generic
+node_among (entry ∷ entries) generic format =
+    if bytes_eq entry.0 format then Some entry.1 else node_among entries generic format
 
 abbrev pub node_for : ProxyNodes → Option (List ℕ) → Option NodeId
-node_for proxies (Some format) = node_in proxies.format_specific.items proxies.generic format
+node_for proxies (Some format) = node_among proxies.format_specific.items proxies.generic format
 node_for proxies None = proxies.generic
 
 -- there is a node, whatever its format

@@ -4,7 +4,7 @@ ghost use Rattle.fr_shape.specs.declared.shape.ProxyDef.{ProxyDef as Proxy};
 ghost use Rattle.fr_shape.specs.Plannable.{built_from, refusal_of};
 ghost use Rattle.fr_shape.specs.Lists.{is_nil};
 ghost use Rattle.fr_shape.specs.Checked.{proxies_of};
-ghost use Rattle.fr_plan.specs.Build.{with_node, marked, back_reference, finish};
+ghost use Rattle.fr_plan.specs.Build.{with_node, with_shape_mark, back_reference, finish};
 ghost use Rattle.fr_plan.specs.Results.{Gives};
 
 use crate::nodes::NodeId;
@@ -62,7 +62,7 @@ impl Walk {
     }
 
     pub(crate) fn mark(&mut self, id: ShapeId, mark: Mark)
-        ensures { self.new ≡ marked self.old id mark }
+        ensures { self.new ≡ with_shape_mark self.old id mark }
     {
         if (id.0 as usize) < self.marks.len() {
             *self.marks.get_mut(Idx::new(id.0)) = mark;

@@ -1,2 +1,2 @@
-pub mod LastLaws
-pub mod LookLaws
+pub mod BegunLooks
+pub mod LastIsThere

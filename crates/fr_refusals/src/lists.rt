@@ -82,7 +82,7 @@ fn unbegun_refusal(table: &ShapeTable, shape: ShapeId) -> Operation
 }
 
 /// As what a place is begun that takes one more item, and how many it has, or why it takes none.
-#[tactic(auto, using(crate::proofs::LookLaws::begun_items))]
+#[tactic(auto, using(crate::proofs::BegunLooks::begun_items))]
 #[inline]
 pub fn item_opening(
     table: &ShapeTable,

@@ -68,7 +68,7 @@ fn lacks_last(children: &Children) -> bool
 
 /// As what a begun map is entered at one more key, and how many children it has, or why none can be
 /// begun.
-#[tactic(auto, using(crate::proofs::LookLaws::begun_items))]
+#[tactic(auto, using(crate::proofs::BegunLooks::begun_items))]
 #[inline]
 pub fn key_opening(partial: &PartialValue) -> Result<Opening, Operation>
     ensures items { IfOk result (λ opening.

@@ -57,7 +57,7 @@ pub fn init_set_refusal(
 
 /// As what a set is begun that takes one more item, and how many it has, or why the place takes
 /// none.
-#[tactic(auto, using(crate::proofs::LookLaws::begun_items))]
+#[tactic(auto, using(crate::proofs::BegunLooks::begun_items))]
 #[inline]
 pub fn set_item_opening(
     table: &ShapeTable,

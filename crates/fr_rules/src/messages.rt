@@ -1,11 +1,11 @@
 //! What is said of a value that fails its field's validator.
 ghost use Rattle.std.specs.Prelude.{◌≡◌, IfOk, string_bytes};
 ghost use Rattle.fr_shape.specs.View.{view};
-ghost use Rattle.fr_shape.specs.Validators.{number_in, number_text, message};
+ghost use Rattle.fr_shape.specs.Validators.{integer_in, number_text, message};
 ghost use Rattle.fr_rules.specs.Validators.{validator_of};
 
 use crate::ValidatorKind;
-use crate::numbers::{Number, number_in};
+use crate::numbers::{Number, integer_in};
 use crate::validators::text_in;
 use fr_shape::{OutOfMemory, Text, Value};
 use std::alloc::{AllocError, Global};
@@ -59,9 +59,9 @@ fn words(alloc: Global, kind: &ValidatorKind, value: &Value) -> Result<String, A
 /// The number that a value is, in decimal digits; of any other value nothing.
 fn number_text(alloc: Global, value: &Value) -> Result<String, AllocError>
     ensures { IfOk result (λ digits. string_bytes digits
-        ≡ number_text (number_in (view value.now))) }
+        ≡ number_text (integer_in (view value.now))) }
 {
-    match number_in(value) {
+    match integer_in(value) {
         Some(Number::Int(z)) => format!(in alloc; "{z}"),
         Some(Number::Nat(n)) => format!(in alloc; "{n}"),
         None => Ok(String::new(alloc)),

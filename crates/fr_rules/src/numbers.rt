@@ -2,7 +2,7 @@
 ghost use Rattle.std.specs.Prelude.{◌≡◌};
 ghost use Rattle.std.specs.Option.{option_map};
 ghost use Rattle.fr_shape.specs.View.{view};
-ghost use Rattle.fr_shape.specs.Validators.{number_in};
+ghost use Rattle.fr_shape.specs.Validators.{integer_in};
 ghost use Rattle.fr_rules.specs.Validators.{whole};
 
 use fr_shape::Value;
@@ -15,8 +15,8 @@ pub(crate) enum Number {
 }
 
 /// The number that a value is, if it is one.
-pub(crate) fn number_in(value: &Value) -> Option<Number>
-    ensures { option_map whole result ≡ number_in (view value.now) }
+pub(crate) fn integer_in(value: &Value) -> Option<Number>
+    ensures { option_map whole result ≡ integer_in (view value.now) }
 {
     match value {
         Value::Int(z) => Some(Number::Int(*z)),

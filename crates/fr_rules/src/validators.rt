@@ -1,11 +1,11 @@
 //! Validators of a field's value, each with the kind of the scalar that it is made for.
 ghost use Rattle.std.specs.Prelude.{◌≡◌, ◌↔◌, IsOk, IsTrue, IfErr};
 ghost use Rattle.fr_shape.specs.View.{view};
-ghost use Rattle.fr_shape.specs.Validators.{bytes_in, number_in, is_compared, is_least, is_most, begins_with, is_within, is_url};
+ghost use Rattle.fr_shape.specs.Validators.{bytes_in, integer_in, is_compared, is_least, is_most, begins_with, is_within, is_url};
 ghost use Rattle.fr_rules.specs.Validators.{passes_held, IsRefusal};
 
 use crate::messages::message;
-use crate::numbers::{Number, number_in};
+use crate::numbers::{Number, integer_in};
 use fr_shape::{FieldRef, HookId, Hooks, OutOfMemory, ReflectErrorKind, ScalarKind, Text, Value};
 use std::alloc::Global;
 
@@ -108,9 +108,9 @@ fn is_compared(kind: ScalarKind) -> bool
 
 /// Whether a number is no less than `low`.
 fn is_least(low: i64, value: &Value) -> bool
-    ensures { result ≡ is_least low (number_in (view value.now)) }
+    ensures { result ≡ is_least low (integer_in (view value.now)) }
 {
-    match number_in(value) {
+    match integer_in(value) {
         Some(Number::Int(z)) => i128::from(low) <= z,
         Some(Number::Nat(n)) => match u128::try_from(low) {
             Ok(low) => low <= n,
@@ -122,9 +122,9 @@ fn is_least(low: i64, value: &Value) -> bool
 
 /// Whether a number is no more than `high`.
 fn is_most(high: i64, value: &Value) -> bool
-    ensures { result ≡ is_most high (number_in (view value.now)) }
+    ensures { result ≡ is_most high (integer_in (view value.now)) }
 {
-    match number_in(value) {
+    match integer_in(value) {
         Some(Number::Int(z)) => z <= i128::from(high),
         Some(Number::Nat(n)) => match u128::try_from(high) {
             Ok(high) => n <= high,

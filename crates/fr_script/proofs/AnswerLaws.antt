@@ -15,7 +15,7 @@ use Rattle.fr_script.specs.Headline.{IsBuiltRightly, IsRefusedRightly, completed
 use Rattle.fr_script.specs.Outcomes.{is_want_of_memory}
 use Rattle.fr_script.specs.Reports.{built, refused, outcome_of_run, run_of, none_answered}
 use Rattle.fr_script.specs.Tokens.{counted_once, StandOnce}
-use Rattle.fr_script.proofs.ReleasedLaws.{released_tokens, stand_once}
+use Rattle.fr_script.proofs.ReleasedTokens.{released_tokens, stand_once}
 
 pub not_memory : (kind : ReflectErrorKind) → is_want_of_memory kind ≡ false → kind ≡ ReflectErrorKind.OutOfMemory → ⊥
 not_memory kind other e =

@@ -13,7 +13,7 @@ use Rattle.fr_model.specs.declared.command.Command.{Command}
 use Rattle.fr_model.specs.Commands.{Call, call_of, calls_of}
 use Rattle.fr_model.specs.Scripts.{value_brought, tokens_if_any, tokens_of}
 use Rattle.fr_script.specs.Documents.{is_new, are_new, may_be_brought, first_invalid}
-use Rattle.fr_script.specs.Marks.{AreMarks, marked, marked_if_any, marked_by, here_or, first_unmarked}
+use Rattle.fr_script.specs.Marks.{AreMarks, tokens_marked, marked_if_any, marked_by, here_or, first_unmarked}
 
 -- the same tokens were brought, in another order
 AreSame : List ℕ → List ℕ → Type 0
@@ -92,12 +92,12 @@ module _ (ledger : List ℕ) where
   within : (brought : List ℕ) (s : ℕ) → may_come brought s ≡ true → s < length ledger
   within brought s may = grind (arith, nat_tests, may)
 
-  tokens_meet : (ts brought : List ℕ) (marks : List Bool) → AreMarks ledger brought marks → Meets brought ts (marked ts marks)
+  tokens_meet : (ts brought : List ℕ) (marks : List Bool) → AreMarks ledger brought marks → Meets brought ts (tokens_marked ts marks)
   unfolding Meets
   tokens_meet [] brought marks are = (refl, are)
   tokens_meet (s ∷ ss) brought marks are =
       let test = may_be_marked brought marks s are in
-      chosen brought s ss (nat_lt s (length marks) && not (get_or marks s false)) (marked ss (set marks s true)) test
+      chosen brought s ss (nat_lt s (length marks) && not (get_or marks s false)) (tokens_marked ss (set marks s true)) test
       (λ may. tokens_meet ss (s ∷ brought) (set marks s true) (one_marked brought marks s are (within brought s (sym test ∙ may))))
 
   module _ (table : Table) where
@@ -117,7 +117,7 @@ module _ (ledger : List ℕ) where
     value_meets : (brought : List ℕ) (marks : List Bool) (value : Option (ℕ × Val)) → AreMarks ledger brought marks → MeetsValue brought value (marked_if_any table value marks)
     unfolding MeetsValue
     value_meets brought marks (Some (shape, v)) are =
-        fitting_meets brought shape v (nat_lt shape (length table) && fits table shape v) (marked (tokens v) marks) refl (tokens_meet (tokens v) brought marks are)
+        fitting_meets brought shape v (nat_lt shape (length table) && fits table shape v) (tokens_marked (tokens v) marks) refl (tokens_meet (tokens v) brought marks are)
     value_meets brought marks None are = (refl, are)
 
     decided : (brought : List ℕ) (call : Call) (calls : List Call) (i : ℕ) (found : Option (List Bool)) → MeetsValue brought (value_brought call) found
@@ -171,4 +171,4 @@ module _ (table : Table) (marks : List Bool) (script : List Command) (i : ℕ) (
   not_valid none = here ∙ ap (here_or i (λ after. from after (i + 1) (drop (i + 1) script))) none
 
   pub go_on : (after : List Bool) → marked_by table (call_of command) marks ≡ Some after → from marks i (drop i script) ≡ from after (i + 1) (drop (i + 1) script)
-  go_on after found = here ∙ ap (here_or i (λ marked. from marked (i + 1) (drop (i + 1) script))) found
+  go_on after found = here ∙ ap (here_or i (λ tokens_marked. from tokens_marked (i + 1) (drop (i + 1) script))) found

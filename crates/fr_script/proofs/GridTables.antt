@@ -1,8 +1,7 @@
 -- The table of the grid is what the builder asks, and plain.
-use Rattle.std.proofs.Common.{◌≡◌, ℕ, zero, suc, ◌<◌, ◌^◌, Bool, true, List, [], ◌∷◌, Some, None, length, slice_get, refl, subst, arith}
+use Rattle.std.proofs.Common.{◌≡◌, ℕ, zero, suc, Bool, true, List, ◌∷◌, Some, None, length, slice_get, refl, subst, arith}
 use Rattle.fr_shape.specs.Checked.{IsChecked, EachKeeps, ids_in_range, name_is_new, parts_are_sized, variants_apart, validators_suit, templates_fit, conversion_suits, hooks_in_range, option_preset_is_none}
-use Rattle.fr_shape.specs.Look.{def_of, variants_of, IsIn}
-use Rattle.fr_shape.specs.Numbered.{IsNumbered, field_count}
+use Rattle.fr_shape.specs.Look.{IsIn}
 use Rattle.fr_shape.specs.Plannable.{IsPlain, refusal_of, is_plain_shape}
 use Rattle.fr_shape.specs.declared.shape.Shape.{Shape}
 use Rattle.fr_shape.specs.declared.shape.VariantDef.{VariantDef}
@@ -35,28 +34,6 @@ grid_checked = record {
   conversions = each_keeps (λ i shape. conversion_suits shape) refl refl refl refl;
   hooks = each_keeps (λ i shape. hooks_in_range shape) refl refl refl refl;
   options = each_keeps (λ i shape. option_preset_is_none shape) refl refl refl refl;
-}
-
-few_fields : (id : ℕ) → field_count (def_of grid_table id) < 2 ^ 32
-few_fields zero = omega arith
-few_fields (suc zero) = omega arith
-few_fields (suc (suc zero)) = omega arith
-few_fields (suc (suc (suc zero))) = omega arith
-few_fields (suc (suc (suc (suc id)))) = omega arith
-
-no_variants : (id : ℕ) → variants_of (def_of grid_table id) ≡ []
-no_variants zero = refl
-no_variants (suc zero) = refl
-no_variants (suc (suc zero)) = refl
-no_variants (suc (suc (suc zero))) = refl
-no_variants (suc (suc (suc (suc id)))) = refl
-
-pub grid_numbered : IsNumbered grid_table
-grid_numbered = record {
-  shapes = omega arith;
-  fields = few_fields;
-  variants = λ id. rw (no_variants id) (omega arith);
-  variant_fields = λ id i variant is. let none : None ≡ Some variant = rw (no_variants id) at is in absurd cc;
 }
 
 pub grid_plain : IsPlain grid_table grid

@@ -101,9 +101,6 @@ one_at_most s t = go (nat_eq s t)
 none_elsewhere : (s t : ℕ) → (s ≡ t → ⊥) → occurs (token s) t ≡ 0
 none_elsewhere s t other = let no : nat_eq s t ≡ false = ne_eqb s t other in rw no refl
 
-one_there : (s : ℕ) → occurs (token s) s ≡ 1
-one_there s = let yes : nat_eq s s ≡ true = eq-eqb s s refl in rw yes refl
-
 put_once : (field step t : ℕ) → brings (put_in field (suc step)) t ≤ 1
 put_once field step t = go (field == 2)
   where

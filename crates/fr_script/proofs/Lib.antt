@@ -1,3 +1,4 @@
+pub mod AdmittedCommands
 pub mod AnswerLaws
 pub mod Arguments
 pub mod BroughtLaws
@@ -7,12 +8,11 @@ pub mod GridRuns
 pub mod GridTables
 pub mod GridTokens
 pub mod InOrder
-pub mod MarkLaws
+pub mod MarkedTokens
 pub mod MemberLaws
 pub mod PlanLaws
-pub mod ReleasedLaws
+pub mod ReleasedTokens
 pub mod RuleLaws
-pub mod RunLaws
 pub mod SizeLaws
 pub mod SummaryLaws
 pub mod TakeLaws

@@ -1,6 +1,6 @@
 -- Counting off what the items of a list have, one after another.
-use Rattle.std.proofs.Common.{◌≡◌, ℕ, ◌+◌, ◌<◌, List, [], ◌∷◌, ◌++◌, length, get_or, take, true, false, nat_le, sum_by, sym, ap, ◌∙◌, arith}
-use Rattle.std.proofs.lemmas.Bool.{le-leb, lt-leb}
+use Rattle.std.proofs.Common.{◌≡◌, ℕ, ◌+◌, ◌<◌, List, [], ◌∷◌, ◌++◌, length, get_or, take, false, nat_le, sum_by, sym, ap, ◌∙◌, arith}
+use Rattle.std.proofs.lemmas.Bool.{lt-leb}
 use Rattle.std.proofs.lemmas.List.{take_more}
 use Rattle.std.proofs.lemmas.List.Sums.{sum_by_push, sum_by-take-le}
 
@@ -16,9 +16,6 @@ module _ {X : Type 0} (f : X → ℕ) (xs : List X) (i : ℕ) (left limit : ℕ)
     -- the next item has more than what is left
     pub too_many : left < f x → limit < sum_by f xs
     too_many more = omega (arith, with_next, sum_by-take-le f xs (i + 1))
-
-pub is_within : (left total limit : ℕ) → left + total ≡ limit → true ≡ nat_le total limit
-is_within left total limit e = sym (le-leb total limit (omega arith))
 
 pub is_over : (total limit : ℕ) → limit < total → false ≡ nat_le total limit
 is_over total limit more = sym (lt-leb total limit more)

@@ -2,10 +2,7 @@
 use Rattle.std.proofs.Common.{◌≡◌, ◌⊎◌, ⊎_elim, ℕ, ◌+◌, ◌-◌, ◌*◌, ◌<◌, ◌≤◌, ◌^◌, min, List, Option, Some, None, false, length, replicate, refl, ap, sym, ◌∙◌, subst, arith}
 use Rattle.std.specs.Option.{option_map_or}
 use Rattle.std.proofs.lemmas.List.{length-map}
-use Rattle.serde_json.specs.Written.{has_float}
-use Rattle.fr_shape.specs.Checked.{IsChecked}
 use Rattle.fr_shape.specs.Look.{Table, IsIn}
-use Rattle.fr_shape.specs.Numbered.{IsNumbered}
 use Rattle.fr_shape.specs.Plannable.{IsPlain}
 use Rattle.fr_shape.specs.Tokens.{occurs}
 use Rattle.fr_shape.specs.Val.{Val}
@@ -21,9 +18,9 @@ use Rattle.fr_script.specs.Summaries.{made_by, summary_data, sum_of_grid, tokens
 use Rattle.fr_script.specs.Tokens.{counted_once}
 use Rattle.fr_script.proofs.AnswerLaws.{not_memory}
 use Rattle.fr_script.proofs.GridRuns.{makes_grid}
-use Rattle.fr_script.proofs.GridTables.{grid_checked, grid_numbered, grid_plain, grid_in}
+use Rattle.fr_script.proofs.GridTables.{grid_plain, grid_in}
 use Rattle.fr_script.proofs.GridTokens.{generated_fields, generated_length, generated_released, generated_valid, sum_within}
-use Rattle.fr_script.proofs.ReleasedLaws.{released_tokens}
+use Rattle.fr_script.proofs.ReleasedTokens.{released_tokens}
 
 some_is : {A : Type 0} {x y : A} → Some x ≡ Some y → x ≡ y
 some_is same = cc
@@ -61,18 +58,9 @@ pub summary_is : (count commands released sum : ℕ) (v : Val) (after : List ℕ
 summary_is count commands released sum v after few made long settled counted told =
     rw (long, counted ∙ released_count count v after few made settled, sum_told count sum v few made told) refl
 
-pub summary_float_free : (commands released sum : ℕ) → has_float (summary_data commands released sum) ≡ false
-summary_float_free commands released sum = refl
-
 -- what build_script asks of the table, the script and the ledger
 pub in_table : (table : Table) → table ≡ grid_table → IsIn table grid
 in_table table is = subst (λ (t : Table). IsIn t grid) (sym is) grid_in
-
-pub table_numbered : (table : Table) → table ≡ grid_table → IsNumbered table
-table_numbered table is = subst IsNumbered (sym is) grid_numbered
-
-pub table_checked : (table : Table) → table ≡ grid_table → IsChecked table
-table_checked table is = subst IsChecked (sym is) grid_checked
 
 pub script_valid : (table : Table) (script : List Call) (ledger : List ℕ) (count : ℕ) → count ≤ 50000 → table ≡ grid_table
     → script ≡ generated count → ledger ≡ replicate (count + 8) 0 → IsValid table script ledger

@@ -112,83 +112,83 @@ has_proxied shapes = list_any (λ (shape : Shape). has_proxies shape.proxy shape
 
 -- How many places a call may enter, over a table in which some shape has a proxy or none has: one where its name begins with
 -- `begin_`. But `begin_deferred` enters none, and neither do those from the shape where no shape has a proxy.
-abbrev pub begins : (proxied : Bool) → Call → ℕ
-begins proxied (Call.BeginField name) = 1
-begins proxied (Call.BeginNthField i) = 1
-begins proxied (Call.SetNthFieldToDefault i) = 0
-begins proxied (Call.Set shape v) = 0
-begins proxied Call.SetDefault = 0
-begins proxied (Call.ParseFromStr text) = 0
-begins proxied (Call.ParseFromBytes bytes) = 0
-begins proxied Call.SetEmptySharedSlice = 0
-begins proxied Call.InitList = 0
-begins proxied (Call.InitListWithCapacity n) = 0
-begins proxied Call.InitArray = 0
-begins proxied Call.BeginListItem = 1
-begins proxied Call.InitMap = 0
-begins proxied Call.BeginKey = 1
-begins proxied Call.BeginValue = 1
-begins proxied Call.InitSet = 0
-begins proxied Call.BeginSetItem = 1
-begins proxied (Call.BeginObjectEntry key) = 1
-begins proxied Call.BeginSome = 1
-begins proxied Call.BeginOk = 1
-begins proxied Call.BeginErr = 1
-begins proxied Call.BeginSmartPtr = 1
-begins proxied Call.BeginInner = 1
-begins proxied Call.BeginCustomDeserialization = 1
-begins proxied (Call.BeginCustomDeserializationWithFormat format) = 1
-begins proxied Call.BeginCustomDeserializationFromShape = if proxied then 1 else 0
-begins proxied (Call.BeginCustomDeserializationFromShapeWithFormat format) = if proxied then 1 else 0
-begins proxied (Call.SelectNthVariant i) = 0
-begins proxied (Call.SelectVariantNamed name) = 0
-begins proxied (Call.SelectVariant discriminant) = 0
-begins proxied Call.End = 0
-begins proxied Call.BeginDeferred = 0
-begins proxied Call.FinishDeferred = 0
+abbrev pub places_begun : (proxied : Bool) → Call → ℕ
+places_begun proxied (Call.BeginField name) = 1
+places_begun proxied (Call.BeginNthField i) = 1
+places_begun proxied (Call.SetNthFieldToDefault i) = 0
+places_begun proxied (Call.Set shape v) = 0
+places_begun proxied Call.SetDefault = 0
+places_begun proxied (Call.ParseFromStr text) = 0
+places_begun proxied (Call.ParseFromBytes bytes) = 0
+places_begun proxied Call.SetEmptySharedSlice = 0
+places_begun proxied Call.InitList = 0
+places_begun proxied (Call.InitListWithCapacity n) = 0
+places_begun proxied Call.InitArray = 0
+places_begun proxied Call.BeginListItem = 1
+places_begun proxied Call.InitMap = 0
+places_begun proxied Call.BeginKey = 1
+places_begun proxied Call.BeginValue = 1
+places_begun proxied Call.InitSet = 0
+places_begun proxied Call.BeginSetItem = 1
+places_begun proxied (Call.BeginObjectEntry key) = 1
+places_begun proxied Call.BeginSome = 1
+places_begun proxied Call.BeginOk = 1
+places_begun proxied Call.BeginErr = 1
+places_begun proxied Call.BeginSmartPtr = 1
+places_begun proxied Call.BeginInner = 1
+places_begun proxied Call.BeginCustomDeserialization = 1
+places_begun proxied (Call.BeginCustomDeserializationWithFormat format) = 1
+places_begun proxied Call.BeginCustomDeserializationFromShape = if proxied then 1 else 0
+places_begun proxied (Call.BeginCustomDeserializationFromShapeWithFormat format) = if proxied then 1 else 0
+places_begun proxied (Call.SelectNthVariant i) = 0
+places_begun proxied (Call.SelectVariantNamed name) = 0
+places_begun proxied (Call.SelectVariant discriminant) = 0
+places_begun proxied Call.End = 0
+places_begun proxied Call.BeginDeferred = 0
+places_begun proxied Call.FinishDeferred = 0
 
 -- how many places it leaves
-abbrev pub ends : Call → ℕ
-ends (Call.BeginField name) = 0
-ends (Call.BeginNthField i) = 0
-ends (Call.SetNthFieldToDefault i) = 0
-ends (Call.Set shape v) = 0
-ends Call.SetDefault = 0
-ends (Call.ParseFromStr text) = 0
-ends (Call.ParseFromBytes bytes) = 0
-ends Call.SetEmptySharedSlice = 0
-ends Call.InitList = 0
-ends (Call.InitListWithCapacity n) = 0
-ends Call.InitArray = 0
-ends Call.BeginListItem = 0
-ends Call.InitMap = 0
-ends Call.BeginKey = 0
-ends Call.BeginValue = 0
-ends Call.InitSet = 0
-ends Call.BeginSetItem = 0
-ends (Call.BeginObjectEntry key) = 0
-ends Call.BeginSome = 0
-ends Call.BeginOk = 0
-ends Call.BeginErr = 0
-ends Call.BeginSmartPtr = 0
-ends Call.BeginInner = 0
-ends Call.BeginCustomDeserialization = 0
-ends (Call.BeginCustomDeserializationWithFormat format) = 0
-ends Call.BeginCustomDeserializationFromShape = 0
-ends (Call.BeginCustomDeserializationFromShapeWithFormat format) = 0
-ends (Call.SelectNthVariant i) = 0
-ends (Call.SelectVariantNamed name) = 0
-ends (Call.SelectVariant discriminant) = 0
-ends Call.End = 1
-ends Call.BeginDeferred = 0
-ends Call.FinishDeferred = 0
+abbrev pub places_ended : Call → ℕ
+places_ended (Call.BeginField name) = 0
+places_ended (Call.BeginNthField i) = 0
+places_ended (Call.SetNthFieldToDefault i) = 0
+places_ended (Call.Set shape v) = 0
+places_ended Call.SetDefault = 0
+places_ended (Call.ParseFromStr text) = 0
+places_ended (Call.ParseFromBytes bytes) = 0
+places_ended Call.SetEmptySharedSlice = 0
+places_ended Call.InitList = 0
+places_ended (Call.InitListWithCapacity n) = 0
+places_ended Call.InitArray = 0
+places_ended Call.BeginListItem = 0
+places_ended Call.InitMap = 0
+places_ended Call.BeginKey = 0
+places_ended Call.BeginValue = 0
+places_ended Call.InitSet = 0
+places_ended Call.BeginSetItem = 0
+places_ended (Call.BeginObjectEntry key) = 0
+places_ended Call.BeginSome = 0
+places_ended Call.BeginOk = 0
+places_ended Call.BeginErr = 0
+places_ended Call.BeginSmartPtr = 0
+places_ended Call.BeginInner = 0
+places_ended Call.BeginCustomDeserialization = 0
+places_ended (Call.BeginCustomDeserializationWithFormat format) = 0
+places_ended Call.BeginCustomDeserializationFromShape = 0
+places_ended (Call.BeginCustomDeserializationFromShapeWithFormat format) = 0
+places_ended (Call.SelectNthVariant i) = 0
+places_ended (Call.SelectVariantNamed name) = 0
+places_ended (Call.SelectVariant discriminant) = 0
+places_ended Call.End = 1
+places_ended Call.BeginDeferred = 0
+places_ended Call.FinishDeferred = 0
 
 -- after some call there were more begins than ends by over the limit
 abbrev pub too_deep : (proxied : Bool) → (begun ended : ℕ) → List Call → Bool
 too_deep proxied begun ended [] = false
 too_deep proxied begun ended (call ∷ calls) =
-    if nat_lt (ended + ends call + DEPTH_LIMIT) (begun + begins proxied call) then true
-    else too_deep proxied (begun + begins proxied call) (ended + ends call) calls
+    if nat_lt (ended + places_ended call + DEPTH_LIMIT) (begun + places_begun proxied call) then true
+    else too_deep proxied (begun + places_begun proxied call) (ended + places_ended call) calls
 
 unfoldable pub sizes_pass : Document → Result (Unit {0}) DocFault
 sizes_pass document = do

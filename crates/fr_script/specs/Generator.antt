@@ -104,10 +104,6 @@ abbrev pub generated : (count : ℕ) → List Call
 generated count =
     Call.BeginDeferred ∷ (steps count ++ (last_changes count 8 ++ Call.FinishDeferred ∷ []))
 
--- how many tokens it is run with
-abbrev pub tokens_for : (count : ℕ) → ℕ
-tokens_for count = count + 8
-
 -- The value
 
 -- the last of the first so many steps that set this field of this cell, and 0 where none did

@@ -18,15 +18,15 @@ pub record AreMarks (ledger brought : List ℕ) (marks : List Bool) : Type 0 whe
   pub each : (t : ℕ) → t < length ledger → slice_index_or marks t false ≡ is_taken ledger brought t
 
 -- the marks with these tokens marked too, if each is a token of the ledger and none was marked when its turn came
-abbrev pub marked : List ℕ → List Bool → Option (List Bool)
-marked [] marks = Some marks
-marked (t ∷ ts) marks =
-    if nat_lt t (length marks) && not (slice_index_or marks t false) then marked ts (slice_set marks t true) else None
+abbrev pub tokens_marked : List ℕ → List Bool → Option (List Bool)
+tokens_marked [] marks = Some marks
+tokens_marked (t ∷ ts) marks =
+    if nat_lt t (length marks) && not (slice_index_or marks t false) then tokens_marked ts (slice_set marks t true) else None
 
 -- the same with the tokens of the value, if there is one, where it fits the shape that is named with it, which is in the table
 abbrev pub marked_if_any : Table → Option (ℕ × Val) → List Bool → Option (List Bool)
 marked_if_any table (Some (shape, v)) marks =
-    if nat_lt shape (length table) && fits table shape v then marked (tokens v) marks else None
+    if nat_lt shape (length table) && fits table shape v then tokens_marked (tokens v) marks else None
 marked_if_any table None marks = Some marks
 
 -- the same with the tokens of what a call brings

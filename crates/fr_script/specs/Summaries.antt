@@ -12,13 +12,13 @@ use Rattle.fr_script.specs.Reports.{line_of}
 use Rattle.fr_script.specs.declared.generating.TheConstants.{STEP_LIMIT}
 
 -- the number that a value is, and 0 for any other
-abbrev pub number_in : Val → ℕ
-number_in (nat n) = n
-number_in _ = 0
+abbrev pub natural_in : Val → ℕ
+natural_in (nat n) = n
+natural_in _ = 0
 
 abbrev pub numbers_in : Vals → ℕ
 numbers_in no_vals = 0
-numbers_in (first v vs) = number_in v + numbers_in vs
+numbers_in (first v vs) = natural_in v + numbers_in vs
 
 -- the sum of x and y of a cell, which are the numbers among its parts
 abbrev pub sum_of_cell : Val → ℕ

@@ -1,4 +1,4 @@
-//! Laws of documents: each is the contract of a function that does nothing.
+//! Laws of documents and of generated scripts: each is the contract of a function that does nothing.
 ghost use Rattle.std.specs.Prelude.{◌≡◌, List, [], ℕ, None, Some, Ok};
 ghost use Rattle.fr_model.specs.Commands.{Call};
 ghost use Rattle.fr_model.specs.Scripts.{IsValid};
@@ -8,6 +8,7 @@ ghost use Rattle.fr_script.specs.DocumentFacts.{IsInOrder, Succeeds};
 ghost use Rattle.fr_script.specs.Documents.{Document, document_of, first_invalid};
 ghost use Rattle.fr_script.specs.FirstInvalid.{IsFirstInvalid};
 ghost use Rattle.fr_script.specs.Reports.{outcome_of, status_of};
+ghost use Rattle.fr_script.specs.Summaries.{GeneratedMakesAValue};
 
 use fr_plan::law_first_refusal;
 
@@ -34,3 +35,8 @@ pub fn law_successes()
 {
     law_first_refusal();
 }
+
+/// Whatever number of steps a script is generated of, its journal completes to a value.
+pub fn law_generated_scripts()
+    ensures makes_a_value { GeneratedMakesAValue }
+{}

@@ -26,7 +26,9 @@ mod validity;
 pub use answering::Answer;
 pub use building::{ScriptError, build_script};
 pub use document::{Document, read_document};
-pub use document_laws::{law_documents_in_order, law_successes, law_valid_scripts};
+pub use document_laws::{
+    law_documents_in_order, law_generated_scripts, law_successes, law_valid_scripts,
+};
 pub use fr_doc::{
     CleanSink, CleanSource, DOCUMENT_LIMIT, DocFault, DocPlace, DocSize, Failed, MemSink,
     MemSource, ReadError, ReaderSource, Sink, Source, TableFault, WriterSink,

@@ -3,7 +3,7 @@ ghost use Rattle.std.specs.Prelude.{[], ◌∷◌};
 ghost use Rattle.fr_model.specs.Commands.{call_of};
 ghost use Rattle.fr_shape.specs.Tokens.{tokens, vals_tokens, entries_tokens};
 ghost use Rattle.fr_shape.specs.View.{view, vals_view, entries_view};
-ghost use Rattle.fr_script.specs.Marks.{marked, marked_by, Marks};
+ghost use Rattle.fr_script.specs.Marks.{marked_by, tokens_marked, Marks};
 
 use fr_model::Command;
 use fr_shape::{Items, ShapeTable, Value, fits};
@@ -25,7 +25,7 @@ pub fn mark_command(table: &ShapeTable, command: &Command, marks: &mut [bool]) -
 
 /// Marks a token. False where there is no such token, or it was marked before.
 fn mark_token(token: u32, marks: &mut [bool]) -> bool
-    ensures { Marks (marked (token ∷ []) marks.old) result marks.new }
+    ensures { Marks (tokens_marked (token ∷ []) marks.old) result marks.new }
 {
     let token = token as usize;
     if token >= marks.len() || marks[token] {
@@ -38,7 +38,7 @@ fn mark_token(token: u32, marks: &mut [bool]) -> bool
 /// Marks the tokens of a value from left to right, up to the first that can't be marked.
 #[cycle(marking)]
 fn mark_value(v: &Value, marks: &mut [bool]) -> bool
-    ensures { Marks (marked (tokens (view v.now)) marks.old) result marks.new }
+    ensures { Marks (tokens_marked (tokens (view v.now)) marks.old) result marks.new }
 {
     match v {
         Value::Token(token) => mark_token(*token, marks),
@@ -64,7 +64,7 @@ fn mark_value(v: &Value, marks: &mut [bool]) -> bool
 
 #[cycle(marking)]
 fn mark_values(values: &Items<Value>, marks: &mut [bool]) -> bool
-    ensures { Marks (marked (vals_tokens (vals_view values.now)) marks.old) result marks.new }
+    ensures { Marks (tokens_marked (vals_tokens (vals_view values.now)) marks.old) result marks.new }
 {
     for value in values.as_slice() {
         if !mark_value(value, marks) {
@@ -76,7 +76,7 @@ fn mark_values(values: &Items<Value>, marks: &mut [bool]) -> bool
 
 #[cycle(marking)]
 fn mark_entries(entries: &Items<(Value, Value)>, marks: &mut [bool]) -> bool
-    ensures { Marks (marked (entries_tokens (entries_view entries.now)) marks.old) result
+    ensures { Marks (tokens_marked (entries_tokens (entries_view entries.now)) marks.old) result
         marks.new }
 {
     for entry in entries.as_slice() {

@@ -2,7 +2,7 @@
 ghost use Rattle.std.specs.Prelude.{◌≡◌, ◌+◌, ◌<◌, ◌≤◌, ◌^◌, length, sum_by, nat_le};
 ghost use Rattle.fr_model.specs.Commands.{call_of, calls_of};
 ghost use Rattle.fr_model.specs.Conversions.{has_proxies};
-ghost use Rattle.fr_script.specs.Documents.{begins, ends, has_proxied, part_count, part_total, sizes_pass, too_deep};
+ghost use Rattle.fr_script.specs.Documents.{has_proxied, part_count, part_total, places_begun, places_ended, sizes_pass, too_deep};
 ghost use Rattle.fr_script.specs.Reading.{document_view};
 ghost use Rattle.fr_script.specs.Sizes.{CountsOff};
 
@@ -131,8 +131,8 @@ fn is_proxied(shape: &Shape) -> bool
 /// How many places a command enters, where some shape has a proxy or none has, and how many it
 /// leaves: one at most.
 fn levels(proxied: bool, command: &Command) -> (usize, usize)
-    ensures begins { result.0 ≡ begins proxied (call_of command.now) }
-    ensures ends { result.1 ≡ ends (call_of command.now) }
+    ensures begins { result.0 ≡ places_begun proxied (call_of command.now) }
+    ensures ends { result.1 ≡ places_ended (call_of command.now) }
     ensures few { (result.0 ≤ 1) × (result.1 ≤ 1) }
 {
     match command {

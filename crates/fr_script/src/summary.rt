@@ -1,6 +1,6 @@
 //! The run of a generated script, and its summary.
 ghost use Rattle.std.specs.Prelude.{◌≡◌, ◌≤◌, min, string_bytes, IfOk};
-ghost use Rattle.fr_script.specs.Summaries.{summary_data, summary_of, sum_of_grid, sum_of_cell, number_in};
+ghost use Rattle.fr_script.specs.Summaries.{summary_data, summary_of, sum_of_grid, sum_of_cell, natural_in};
 ghost use Rattle.fr_shape.specs.View.{view};
 ghost use Rattle.serde_json.specs.View.{view as data_of};
 
@@ -78,14 +78,14 @@ fn sum_of_cell(cell: &Value) -> u64
     };
     let mut sum = 0u64;
     for part in parts.as_slice() {
-        sum = sum.saturating_add(number_in(part));
+        sum = sum.saturating_add(natural_in(part));
     }
     sum
 }
 
 /// The number that a value is, and 0 for any other.
-fn number_in(value: &Value) -> u64
-    ensures { result ≡ min (number_in (view value.now)) u64.MAX }
+fn natural_in(value: &Value) -> u64
+    ensures { result ≡ min (natural_in (view value.now)) u64.MAX }
 {
     match value {
         Value::Nat(n) => u64::try_from(*n).unwrap_or(u64::MAX),

@@ -1,5 +1,6 @@
 pub mod Apart
 pub mod Faults
+pub mod FewParts
 pub mod FieldsKept
 pub mod InTurn
 pub mod KeysApart

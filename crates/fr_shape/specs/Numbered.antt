@@ -1,5 +1,6 @@
 -- Shapes, fields and variants are told by numbers of 32 bits, so a table has no more of them than that.
-use Rattle.std.specs.Prelude.{◌≡◌, ℕ, ◌<◌, ◌^◌, length, slice_get, Some}
+use Rattle.std.specs.Prelude.{◌≡◌, ℕ, ◌<◌, ◌^◌, Bool, ◌&&◌, length, nat_lt, slice_get, Some}
+use Rattle.std.specs.List.{list_all}
 use Rattle.fr_shape.specs.declared.shape.Def.{Def}
 use Rattle.fr_shape.specs.declared.shape.VariantDef.{VariantDef}
 use Rattle.fr_shape.specs.Look.{Table, def_of, variants_of}
@@ -31,3 +32,20 @@ pub record IsNumbered (table : Table) : Type 0 where
   pub variant_fields :
       (id i : ℕ) (variant : VariantDef) → slice_get (variants_of (def_of table id)) i ≡ Some variant
       → length variant.fields < 2 ^ 32
+
+-- The same as a test
+
+abbrev pub are_few : (count : ℕ) → Bool
+are_few count = nat_lt count (2 ^ 32)
+
+abbrev pub has_few_fields : VariantDef → Bool
+has_few_fields variant = are_few (length variant.fields)
+
+-- the fields of a struct, or the variants of an enum and the fields of each
+abbrev pub parts_are_few : Def → Bool
+parts_are_few def =
+    are_few (field_count def) && (are_few (length (variants_of def)) && list_all has_few_fields (variants_of def))
+
+-- the shapes, and the parts of each
+abbrev pub all_are_few : Table → Bool
+all_are_few table = are_few (length table) && list_all (λ shape. parts_are_few shape.def) table

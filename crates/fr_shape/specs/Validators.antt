@@ -26,10 +26,10 @@ is_compared ScalarKind.String = false
 is_compared ScalarKind.CowStr = false
 
 -- the number that an integer value is, and the bytes of a text (of any other value nothing)
-abbrev pub number_in : Val → Option ℤ
-number_in (int z) = Some z
-number_in (nat n) = Some (pos n)
-number_in _ = None
+abbrev pub integer_in : Val → Option ℤ
+integer_in (int z) = Some z
+integer_in (nat n) = Some (pos n)
+integer_in _ = None
 
 abbrev pub bytes_in : Val → List ℕ
 bytes_in (text bytes) = bytes
@@ -61,8 +61,8 @@ is_url bytes = begins_with (codes "http://") bytes || begins_with (codes "https:
 -- lengths count bytes; a pattern is a text to be found; `checks` is the meaning of the hooks' tests.
 abbrev pub passes : (checks : ℕ → Val → Bool) → ScalarKind → ValidatorDef → Val → Bool
 passes checks kind (ValidatorDef.Custom hook) v = checks hook.0 v
-passes checks kind (ValidatorDef.Min low) v = if is_compared kind then is_least low (number_in v) else true
-passes checks kind (ValidatorDef.Max high) v = if is_compared kind then is_most high (number_in v) else true
+passes checks kind (ValidatorDef.Min low) v = if is_compared kind then is_least low (integer_in v) else true
+passes checks kind (ValidatorDef.Max high) v = if is_compared kind then is_most high (integer_in v) else true
 passes checks kind (ValidatorDef.MinLength low) v = nat_le low (length (bytes_in v))
 passes checks kind (ValidatorDef.MaxLength high) v = nat_le (length (bytes_in v)) high
 passes checks kind ValidatorDef.Url v = is_url (bytes_in v)
@@ -89,8 +89,8 @@ quoted bytes = codes "'" ++ bytes ++ codes "'"
 -- what is said of a value that doesn't pass
 abbrev pub message : ValidatorDef → Val → List ℕ
 message (ValidatorDef.Custom hook) v = codes "custom validation failed"
-message (ValidatorDef.Min low) v = codes "must be >= " ++ signed_decimal low ++ codes ", got " ++ number_text (number_in v)
-message (ValidatorDef.Max high) v = codes "must be <= " ++ signed_decimal high ++ codes ", got " ++ number_text (number_in v)
+message (ValidatorDef.Min low) v = codes "must be >= " ++ signed_decimal low ++ codes ", got " ++ number_text (integer_in v)
+message (ValidatorDef.Max high) v = codes "must be <= " ++ signed_decimal high ++ codes ", got " ++ number_text (integer_in v)
 message (ValidatorDef.MinLength low) v =
     codes "length must be >= " ++ decimal low ++ codes ", got " ++ decimal (length (bytes_in v))
 message (ValidatorDef.MaxLength high) v =

@@ -50,8 +50,9 @@ impl ShapeTable {
         self.shapes.get(id.0 as usize)
     }
 
-    pub(crate) fn as_slice(&self) -> &[Shape]
-        ensures { result.now ≡ self.now }
+    /// All shapes, in the order of their numbers.
+    pub fn as_slice(&self) -> &[Shape]
+        ensures shapes { result.now ≡ self.now }
     {
         self.shapes.as_slice()
     }

@@ -1,10 +1,10 @@
 -- Laws of entering again, for proofs: a child of the top that was stored is on top then, as it is.
 use Rattle.std.proofs.Common.{◌≡◌, ℕ, true, false, List, [], ◌∷◌, ◌++◌, append-nil, append_assoc, refl, sym, ◌∙◌, ap, subst}
-use Rattle.fr_store.specs.Common.{AllMarked, AllMarkedAmong, AllStayPut, AreLeftRightly, Def, HasChild, IsLast, IsOpen, IsOpenAt, IsStoredChild, Kid, Leads, Place, Plan, Plot, Reaches, Shows, Slot, Tracker, Tree, Trees, along_put_at, at, at_for_at, begun, begun_plot, change_at, change_child, cursor_in, enter, entered_plot, heap_of, kid_at, kid_at_append, kid_here, leads_put_at, left_at, left_put_at, marked_nth, nth_put, open_reach, open_top, put_append, put_at, put_nth, slots_above, slots_along, stored_but, top_slot, tree_change_at, tree_here, tree_in, tree_of, tree_of_at, tree_of_nth, tree_put_nth, with_mark}
-use Rattle.fr_store.proofs.ChildLaws.{kids_stored, placed_child, plot_has}
+use Rattle.fr_store.specs.Common.{AllMarked, AllMarkedAmong, AllStayPut, AreLeftRightly, Def, HasChild, IsLast, IsOpen, IsOpenAt, IsStoredChild, Kid, LeadsUnstored, Place, Plan, Plot, Reaches, Shows, Slot, Tracker, Tree, Trees, along_put_at, at, at_for_at, begun, begun_plot, change_at, change_child, cursor_in, enter, entered_plot, heap_of, kid_at, kid_at_append, kid_here, leads_put_at, left_at, left_put_at, marked_nth, nth_put, open_reach, open_top, put_append, put_at, put_nth, slots_above, slots_along, stored_but, top_slot, tree_change_at, tree_here, tree_in, tree_of, tree_of_at, tree_of_nth, tree_put_nth, with_mark}
+use Rattle.fr_store.proofs.ChildrenOfTops.{kids_stored, placed_child, plot_has}
 use Rattle.fr_store.proofs.EnteringLaws.{GoesTo}
 use Rattle.fr_store.proofs.HeadLaws.{reaches_child}
-use Rattle.fr_store.proofs.MarkLaws.{open_marked, tree_kept}
+use Rattle.fr_store.proofs.MarkedAnew.{open_marked, tree_kept}
 
 -- a place in a slot is entered already
 entered_as_is : (def : Def) (plot : Plot) → tree_in plot ≡ enter def (tree_in plot)
@@ -40,9 +40,9 @@ open_again {plan} {before} after {stack} {next} open_now {p} last tracker {i} de
     ∙ ap (λ (x : Kid). put_at place (put_at (i ∷ []) (at child false plot) x) k) begun_now in
     let marks : AllMarked true (at child true plot)
     = subst (λ (x : Kid). AllMarked true x) placed.1 (marked_nth true i found.0 stored_kids) in
-    let leads : Leads (place ++ i ∷ []) (put_at place new k) = leads_put_at place [] (i ∷ []) new k
-    (subst (λ (p : Place). Leads p k) (sym (append-nil place)) open_now.stands.leads)
-    (refl, stored_but i (λ below. Leads [] below) (at child false plot) found.0 found.2 stored_kids (refl, marks.1)) in
+    let leads : LeadsUnstored (place ++ i ∷ []) (put_at place new k) = leads_put_at place [] (i ∷ []) new k
+    (subst (λ (p : Place). LeadsUnstored p k) (sym (append-nil place)) open_now.stands.leads)
+    (refl, stored_but i (λ below. LeadsUnstored [] below) (at child false plot) found.0 found.2 stored_kids (refl, marks.1)) in
     let longer : stack ++ child ∷ [] ≡ slots_along (place ++ i ∷ []) (put_at place new k)
     = ap (λ (s : List ℕ). s ++ child ∷ []) top.last ∙ append_assoc (slots_above place k) (top.slot ∷ []) (child ∷ [])
     ∙ ap (λ (x : Kid). slots_above place k ++ top.slot ∷ slots_along [] x) (sym (nth_put i (at child false plot) found.0 found.2))
@@ -55,6 +55,6 @@ open_again {plan} {before} after {stack} {next} open_now {p} last tracker {i} de
     ∙ ap (change_child i (enter def)) (sym (sym (tree_of_at place k) ∙ ap tree_of begun_now))) in
     subst (λ (t : Tree). IsOpenAt plan after next (place ++ i ∷ []) t × AllStayPut k (kid_here after next))
     tree (open_marked open_now after (place ++ i ∷ []) false (reaches_child place k top.slot false tracker found.0
-    i reach begun_now found.2) is shows (place ++ i ∷ []) (subst (λ (x : Kid). Leads (place ++ i ∷ []) x) (sym above) leads)
+    i reach begun_now found.2) is shows (place ++ i ∷ []) (subst (λ (x : Kid). LeadsUnstored (place ++ i ∷ []) x) (sym above) leads)
     (along ∙ longer ∙ ap (slots_along (place ++ i ∷ [])) (sym above)) (left_put_at (place ++ i ∷ []) k (at_for_at child plot is)
     (subst (λ (x : Kid). AreLeftRightly x) is (left_at (place ++ i ∷ []) k open_now.stands.left)) open_now.stands.left))

@@ -3,20 +3,20 @@ use Rattle.std.proofs.Common.{◌≡◌, ℕ, zero, suc, ◌<◌, ◌≤◌, Boo
 use Rattle.fr_store.specs.Common.{All, Cell, ComesEarlier, Contains, FrameOwner, Heap, Holds, IsHere, IsPlaced, IsStoredHere, Kid, Kids, NodeId, Pairs, Place, Plan, at, begun_plot, body_in, cell_of, cells_count, cells_found, cells_in, count_kids, from_last, gone, is_map_found, kid, kid_at, kid_at_append, kid_nth, no_kids, slot_here, slot_of_cell, slotted}
 use Rattle.std.proofs.lemmas.Bool.{ltb-true, ltb-false}
 use Rattle.std.proofs.lemmas.List.Elements.{All-nil, All-cons, All-append, All-weaker, All-map, Contains-append_left, Contains-append_right}
-use Rattle.fr_values.specs.Cells.{slot_at}
+use Rattle.fr_values.specs.Cells.{slot_in_cells}
 use Rattle.fr_store.specs.Beneath.{is_map_body, number_if, slot_if, slotted_numbers}
 use Rattle.fr_store.specs.PlaceOrder.{IsAfterBelow, slot_at as slot_of_place}
 use Rattle.fr_store.specs.Prunes.{kids_below}
 use Rattle.fr_store.proofs.ChildOrder.{from_last_within, from_last_onto, listed_after}
 use Rattle.fr_store.proofs.EarlierLaws.{siblings}
 use Rattle.fr_store.proofs.PairLaws.{first_in, in_map, pairs_append, pairs_map}
-use Rattle.fr_store.proofs.PlaceLaws.{placed_below, placed_child}
+use Rattle.fr_store.proofs.PlacesInSlots.{placed_below, placed_child}
 use Rattle.fr_store.proofs.PruneLaws.{plot_cells}
 use Rattle.fr_store.proofs.SpreadLaws.{AreClosed, IsChild}
 
 -- Cells and children.
 
-slot_of_kid : (c : ℕ) (ks : Kids) → slot_at (cells_in ks) c ≡ slot_of_cell (cell_of (kid_nth c ks))
+slot_of_kid : (c : ℕ) (ks : Kids) → slot_in_cells (cells_in ks) c ≡ slot_of_cell (cell_of (kid_nth c ks))
 slot_of_kid c no_kids = refl
 slot_of_kid zero (kid k ks) = refl
 slot_of_kid (suc c) (kid k ks) = slot_of_kid c ks
@@ -79,7 +79,7 @@ module _ (x : Kid) where
   next i = from_last (is_map_kid x) (length (cells_in (kids_below x))) i
 
   abbrev found : ℕ → Option ℕ
-  found i = slot_at (cells_in (kids_below x)) (from_last (is_map_kid x) (length (cells_in (kids_below x))) i)
+  found i = slot_in_cells (cells_in (kids_below x)) (from_last (is_map_kid x) (length (cells_in (kids_below x))) i)
 
   all_among : (i : ℕ) → i ≤ count → All (IsAmong x i) (numbers i)
   all_among zero h = All-nil (IsAmong x zero)
@@ -159,11 +159,11 @@ module _ (plan : Plan) (heap : Heap) (node : NodeId) (owner : FrameOwner) (depth
       All-map So below nums (All-weaker (IsAmong (kid_at p k) (length (cells_in (kids_below (kid_at p k))))) (λ c. So (below c))
       (λ c is. so c (placed_below placed is.placed)) nums among)
 
-  slots_here : (cs : List ℕ) → map (λ number. slot_if (slot_at (cells_in (kids_below (kid_at p k))) number)) cs
+  slots_here : (cs : List ℕ) → map (λ number. slot_if (slot_in_cells (cells_in (kids_below (kid_at p k))) number)) cs
       ≡ map (slot_of_place k) (map below cs)
   slots_here [] = refl
   slots_here (c ∷ cs) =
-      ap (λ (n : ℕ). n ∷ map (λ number. slot_if (slot_at (cells_in (kids_below (kid_at p k))) number)) cs)
+      ap (λ (n : ℕ). n ∷ map (λ number. slot_if (slot_in_cells (cells_in (kids_below (kid_at p k))) number)) cs)
       (ap slot_if (slot_of_kid c (kids_below (kid_at p k))) ∙ sym (slot_same (kid_nth c (kids_below (kid_at p k))))
       ∙ ap slot_here (sym (kid_at_append p (c ∷ []) k ∙ kid_of_number c (kid_at p k))))
       ∙ ap (λ (l : List ℕ). slot_of_place k (below c) ∷ l) (slots_here cs)

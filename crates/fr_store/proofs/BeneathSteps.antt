@@ -1,12 +1,12 @@
 -- The steps of the loop that lists all places in slots beneath the one on top of the stack.
 use Rattle.std.proofs.Common.{◌≡◌, ℕ, ◌+◌, ◌<◌, ◌≤◌, List, [], ◌∷◌, ◌++◌, length, length-append, get_or, reverse, inl, inr, refl, sym, ◌∙◌, ap, subst, arith}
-use Rattle.fr_store.specs.Common.{FrameOwner, Heap, Holds, IsLast, IsOpen, IsPlaced, IsSome, IsStoredHere, IsWalk, Kid, Leads, NodeId, Place, Plan, Slot, cells_found, cursor_in, heap_of, holds_at, is_map_found, is_some, kid_at, kid_here, kid_on_top, left_at, node_along, open_reach, open_top, owner_along, slot_at, slot_here, slotted, top_slot}
+use Rattle.fr_store.specs.Common.{FrameOwner, Heap, Holds, IsLast, IsOpen, IsPlaced, IsSome, IsStoredHere, IsWalk, Kid, LeadsUnstored, NodeId, Place, Plan, Slot, cells_found, cursor_in, heap_of, holds_at, is_map_found, is_some, kid_at, kid_here, kid_on_top, left_at, node_along, open_reach, open_top, owner_along, slot_at, slot_here, slotted, top_slot}
 use Rattle.std.proofs.lemmas.List.{nil_from_length}
 use Rattle.fr_store.specs.TokenLaws.{used_within}
 use Rattle.fr_store.proofs.BeneathChildren.{children_here}
 use Rattle.fr_store.proofs.BeneathTurns.{leads_on_top, once_on_top}
 use Rattle.fr_store.proofs.PairLaws.{room_below}
-use Rattle.fr_store.proofs.PlaceLaws.{leads_here}
+use Rattle.fr_store.proofs.PlacesInSlots.{leads_here}
 use Rattle.fr_store.proofs.QueueLaws.{IsQueue, ahead_now, all_written, first_placed, first_read, first_stored, last_next, queue_starts, stored_next, written_of, written_once}
 use Rattle.fr_store.proofs.SiblingLaws.{none_of_last, none_of_stored}
 use Rattle.fr_store.proofs.SpreadLaws.{AreClosed}
@@ -31,7 +31,7 @@ module _ {plan : Plan} {slots : List Slot} {stack : List ℕ} (open_now : IsOpen
   abbrev owner : FrameOwner
   owner = owner_along FrameOwner.Root (cursor_in slots stack) (kid_here slots stack)
 
-  leads : Leads [] (kid_on_top slots stack)
+  leads : LeadsUnstored [] (kid_on_top slots stack)
   leads = leads_on_top open_now
 
   holds : Holds plan (heap_of slots) node owner (0 + length (cursor_in slots stack)) (kid_on_top slots stack)

@@ -1,6 +1,6 @@
 -- The turns of the places that lie beneath the one at which a builder works, one after another.
 use Rattle.std.proofs.Common.{◌≡◌, ◌≢◌, ◌↔◌, Bool, inl, inr, ℕ, zero, suc, ◌+◌, ◌<◌, ◌≤◌, drop, get_or, length, true, false, List, [], ◌∷◌, ◌++◌, append-nil, Some, None, refl, sym, ◌∙◌, ap, ap₂, subst, arith}
-use Rattle.fr_store.specs.Common.{AllMarked, AtCursor, Contains, EachFailureHasItsPlace, Failure, FirstByWalkIs, FrameOwner, HasTurned, IsChecked, IsClosed, IsHeldUpHere, IsKept, IsLackingAt, IsLast, IsLawful, IsOpen, IsPlaced, IsStoredAt, IsSuited, IsWalk, KeepsTheRest, Kid, Kids, LackingFails, Leads, MayTurn, Meanings, Node, PathStep, Place, Plan, Reaches, ReflectErrorKind, Slot, StayPutButBeneath, Suits, Table, Top, Tree, at, begun_plot, body_in, closed_at, cursor_in, deferred_column, done_at, first_by_walk, heap_of, is_begun_conversion, kid, kid_at, kid_here, kid_nth, kid_on_top, leads_at, left_at, marked, no_kids, open_reach, open_top, own_lack, put_at, put_nth, root_shape, shape_in, slot_at, slot_here, so_top, steps_in, stored_here, stored_in, strict, tree_at, tree_here, tree_in_slots, tree_of, tree_of_at, tree_put_at, turn_of, up, uses, uses_at}
+use Rattle.fr_store.specs.Common.{AllMarked, AtCursor, Contains, EachFailureHasItsPlace, Failure, FirstByWalkIs, FrameOwner, HasTurned, IsChecked, IsClosed, IsHeldUpHere, IsKept, IsLackingAt, IsLast, IsLawful, IsOpen, IsPlaced, IsStoredAt, IsSuited, IsWalk, KeepsTheRest, Kid, Kids, LackingFails, LeadsUnstored, MayTurn, Meanings, Node, PathStep, Place, Plan, Reaches, ReflectErrorKind, Slot, StayPutButBeneath, Suits, Table, Top, Tree, at, begun_plot, body_in, closed_at, cursor_in, deferred_column, done_at, first_by_walk, heap_of, is_begun_conversion, kid, kid_at, kid_here, kid_nth, kid_on_top, leads_at, left_at, marked, no_kids, open_reach, open_top, own_lack, put_at, put_nth, root_shape, shape_in, slot_at, slot_here, so_top, steps_in, stored_here, stored_in, strict, tree_at, tree_here, tree_in_slots, tree_of, tree_of_at, tree_put_at, turn_of, up, uses, uses_at}
 use Rattle.std.proofs.lemmas.List.{drop_more}
 use Rattle.fr_store.specs.MoveLaws.{top_node}
 use Rattle.fr_model.specs.Failing.{failures}
@@ -20,11 +20,11 @@ use Rattle.fr_store.proofs.FailTurns.{turn_within}
 use Rattle.fr_store.proofs.PlainLaws.{plain_at}
 use Rattle.fr_store.proofs.HeadLaws.{Head}
 use Rattle.fr_store.proofs.HeldLaws.{closed_cursor, first_fails, walk_over}
-use Rattle.fr_store.proofs.KeptLaws.{kept_but}
+use Rattle.fr_store.proofs.StoredMarks.{kept_but}
 use Rattle.fr_store.proofs.OpenLaws.{open_stay}
-use Rattle.fr_store.proofs.PlaceLaws.{leads_here, mark_at}
+use Rattle.fr_store.proofs.PlacesInSlots.{leads_here, mark_at}
 use Rattle.fr_store.proofs.WalkLaws.{placed_stored}
-use Rattle.fr_store.proofs.StayLaws.{stay_but_beneath}
+use Rattle.fr_store.proofs.PlacesBeside.{stay_but_beneath}
 use Rattle.fr_store.proofs.WalkedLaws.{as_before_again}
 use Rattle.fr_store.proofs.OffLaws.{off_stored, reach_place}
 
@@ -56,10 +56,10 @@ done_under here tree low = go (is_begun_conversion (tree_at (up here) tree)) ref
 
 -- The place on top of an open builder, and what lies beneath it.
 module _ {plan : Plan} {slots : List Slot} {stack : List ℕ} (open_now : IsOpen plan slots stack) where
-  pub leads_on_top : Leads [] (kid_on_top slots stack)
+  pub leads_on_top : LeadsUnstored [] (kid_on_top slots stack)
   leads_on_top =
       leads_at (cursor_in slots stack) [] (kid_here slots stack)
-      (subst (λ (p : Place). Leads p (kid_here slots stack)) (sym (append-nil (cursor_in slots stack))) open_now.stands.leads)
+      (subst (λ (p : Place). LeadsUnstored p (kid_here slots stack)) (sym (append-nil (cursor_in slots stack))) open_now.stands.leads)
 
   pub once_on_top : (n : ℕ) → uses (kid_on_top slots stack) n ≤ 1
   once_on_top n = omega (arith, uses_at (cursor_in slots stack) (kid_here slots stack) n, open_now.stands.once n)
@@ -122,7 +122,7 @@ module _ {means : Meanings} {table : Table} {plan : Plan} {before : List Slot} {
     abbrev here : Place
     here = cursor_in now stack ++ head.place
 
-    leads : Leads [] (kid_on_top now stack)
+    leads : LeadsUnstored [] (kid_on_top now stack)
     leads = leads_on_top walked.still
 
     stored : IsStoredAt (kid_here now stack) n here

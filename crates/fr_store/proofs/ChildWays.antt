@@ -4,8 +4,8 @@ use Rattle.fr_store.specs.Common.{Body, ChildWay, Def, EntriesKind, HasTracker, 
 use Rattle.fr_frame.specs.Growing.{MayEnter as MayBeEntered, number_by, widened}
 use Rattle.fr_store.proofs.AgainLaws.{open_again}
 use Rattle.fr_store.proofs.EnteringLaws.{GoesTo, open_entered}
-use Rattle.fr_store.proofs.EntryLaws.{entry_enters, object_here, object_tracker}
-use Rattle.fr_store.proofs.ItemLaws.{child_enters, entries_grow, formed, formed_here, items_grow, map_tracker}
+use Rattle.fr_store.proofs.ObjectEntries.{entry_enters, object_here, object_tracker}
+use Rattle.fr_store.proofs.ItemsOfTops.{child_enters, entries_grow, formed, formed_here, items_grow, map_tracker}
 
 -- what a begun place is begun as
 tracker_is : (tree : Tree) (tracker : Tracker) → HasTracker tracker tree → tracker_in tree ≡ tracker

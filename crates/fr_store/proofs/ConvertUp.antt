@@ -14,10 +14,10 @@ use Rattle.fr_store.specs.HereLaws.{value_closed}
 use Rattle.fr_store.specs.MoveLaws.{same_last}
 use Rattle.fr_store.specs.ShapeLaws.{Along}
 use Rattle.fr_store.specs.TurnedLaws.{along_open, is_there, shape_along}
-use Rattle.fr_store.proofs.ConvertLaws.{one_cell, target_of}
-use Rattle.fr_store.proofs.HandingLaws.{Ending, Outcome, above_holds, child, child_uses, ending, found, goes_up, kid_then, node_now, now_so, place, reach, slot_now, so_now, some_value, top, way}
+use Rattle.fr_store.proofs.MadeConversions.{one_cell, target_of}
+use Rattle.fr_store.proofs.ValuesHandedOver.{Ending, Outcome, above_holds, child, child_uses, ending, found, goes_up, kid_then, node_now, now_so, place, reach, slot_now, so_now, some_value, top, way}
 use Rattle.fr_store.proofs.SetKidLaws.{only_placed}
-use Rattle.fr_store.proofs.StayLaws.{stay_at}
+use Rattle.fr_store.proofs.PlacesBeside.{stay_at}
 
 -- the tracker of a conversion
 conversion_is : (tracker : Tracker) → is_conversion tracker ≡ true → (c : Conversion) × (tracker ≡ as_content (ContentKind.Source c))

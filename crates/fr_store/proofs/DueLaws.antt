@@ -1,24 +1,24 @@
 -- The first place of a walk over what is stored in an open builder, or in a part of it that lies on the way to where it works:
 -- it may have its turn, and once it had it the others are a walk.
 use Rattle.std.proofs.Common.{◌≡◌, ◌≢◌, ℕ, List, [], ◌∷◌, ◌++◌, sym, ◌∙◌, ap, ap₂, subst}
-use Rattle.fr_store.specs.Common.{FrameOwner, HasPlace, HasTurned, IsChecked, IsClosed, IsLawful, IsOpen, IsPlaced, IsStoredAt, IsSuited, IsWalk, Kid, Leads, MayHave, MayTurn, Meanings, Place, Plan, Reaches, Slot, Table, Val, body_in, count_kids, cursor_in, deferred_column, done_at, heap_of, kid_at, kid_at_append, kid_done, leads_at, may_have_at, put_append, put_at, root_shape, shape_in, tree_at, tree_in_slots, tree_of}
+use Rattle.fr_store.specs.Common.{FrameOwner, HasPlace, HasTurned, IsChecked, IsClosed, IsLawful, IsOpen, IsPlaced, IsStoredAt, IsSuited, IsWalk, Kid, LeadsUnstored, MayHave, MayTurn, Meanings, Place, Plan, Reaches, Slot, Table, Val, body_in, count_kids, cursor_in, deferred_column, done_at, heap_of, kid_at, kid_at_append, kid_done, leads_at, may_have_at, put_append, put_at, root_shape, shape_in, tree_at, tree_in_slots, tree_of}
 use Rattle.fr_model.specs.Laws.{CompletingFits}
 use Rattle.fr_store.proofs.ClosingLaws.{suited_closed, suits_at}
 use Rattle.fr_store.proofs.DoneKids.{IsDone, done_of, done_within, kid_within}
 use Rattle.fr_store.specs.Turning.{kid_here}
 use Rattle.fr_store.specs.WayLaws.{kid_put_at}
 use Rattle.fr_store.proofs.HeadLaws.{Head, head_closed, head_of, walk_on}
-use Rattle.fr_store.proofs.PlaceLaws.{open_placed, placed_below}
+use Rattle.fr_store.proofs.PlacesInSlots.{open_placed, placed_below}
 use Rattle.fr_store.proofs.TurnLaws.{Over, over_of}
 use Rattle.fr_store.proofs.WalkLaws.{one_stored, placed_stored}
 use Rattle.fr_store.proofs.OffLaws.{off_stored, reach_place, reaches_append, reaches_both}
 
 module _ {plan : Plan} {now : List Slot} {stack : List ℕ} (still : IsOpen plan now stack) (c way : Place)
     (on : cursor_in now stack ≡ c ++ way) {n : ℕ} {rest : List ℕ} (left : IsWalk (kid_at c (kid_here now stack)) (n ∷ rest)) where
-  on_way : Leads (c ++ way) (kid_here now stack)
-  on_way = subst (λ (p : Place). Leads p (kid_here now stack)) on still.stands.leads
+  on_way : LeadsUnstored (c ++ way) (kid_here now stack)
+  on_way = subst (λ (p : Place). LeadsUnstored p (kid_here now stack)) on still.stands.leads
 
-  leads : Leads way (kid_at c (kid_here now stack))
+  leads : LeadsUnstored way (kid_at c (kid_here now stack))
   leads = leads_at c way (kid_here now stack) on_way
 
   placed : IsPlaced (kid_here now stack) c

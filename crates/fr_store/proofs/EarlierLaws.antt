@@ -5,7 +5,7 @@ use Rattle.fr_store.specs.PlaceOrder.{BranchesLater, IsAfterBelow}
 use Rattle.fr_store.proofs.HeadLaws.{steps_count}
 use Rattle.fr_store.proofs.PairLaws.{pairs_weaker}
 use Rattle.fr_store.proofs.PathOrder.{number_less, number_equal}
-use Rattle.fr_store.proofs.StepLaws.{IsByTheWay, after_differs, steps_less}
+use Rattle.fr_store.proofs.StepOrder.{IsByTheWay, after_differs, steps_less}
 
 after_below_differs : (k : Kid) (i j : ℕ) → IsAfterBelow k i j → i ≢ j
 after_below_differs (at slot stored (begun_plot tracker kids)) i j after e = after_differs tracker i j after e

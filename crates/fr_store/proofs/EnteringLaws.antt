@@ -1,9 +1,9 @@
 -- Laws of entering, for proofs: a child of the top gets a slot, and is on top then.
 use Rattle.std.proofs.Common.{◌≡◌, ◌≢◌, ◌⊎◌, ℕ, suc, ◌+◌, ◌<◌, ◌≤◌, Bool, true, false, List, [], ◌∷◌, ◌++◌, append-nil, append_assoc, length, nat_eq, Option, Some, None, inl, inr, refl, sym, ◌∙◌, ap, subst, arith, if◌then◌else◌}
-use Rattle.fr_store.specs.Common.{AllServe, AllStayPut, AreLeftAll, AreLeftIn, AreLeftRightly, Body, Def, FrameOwner, HasChild, Heap, Holds, IsClosed, IsLast, IsOpen, IsOpenAt, IsSome, IsStoredChild, IsThere, IsUnplaced, Kid, Kids, Leads, MayHave, MayHaveIts, Node, NodeId, Place, Plan, Plot, Replaces, Shows, Slot, Stands, Top, Tracker, Tree, Trees, all_changed, at, at_for_at, begun, begun_body, begun_plot, body_here, body_in, body_other, cell_of, cell_of_child, cells_in, change_at, change_child, child_node, child_owner, child_tree, closed_marked, closed_uses, count_kids, counts_if, counts_other, counts_own, cursor_in, depth_above, depth_below, depth_limit, enter, entered_node, entered_plot, fresh_closed, fresh_plot, fresh_same, fresh_tree, gone, heap_of, held_by, holds_put_nth, hole, is_empty_struct, is_map, is_map_tracker, kid_at, kid_here, kid_nth, kid_shown, left_as, left_put_nth, linked, linked_by, links, no_vals, node_along, node_here, nth_put, open_at_from, open_top, product, put_at, put_nth, same_or_other, slot_other, slots_above, slots_along, stands_change, stands_reach, stored_but, taken_over, there, top_held, top_slot, tree_at, tree_change_at, tree_here, tree_in, tree_in_slots, tree_of, tree_of_at, tree_of_nth, tree_put_nth, trees_in, uses, uses_among, uses_at, uses_in, uses_nth, uses_put_nth, whole_plot, with_child, with_entered}
+use Rattle.fr_store.specs.Common.{AllServe, AllStayPut, AreLeftAll, AreLeftIn, AreLeftRightly, Body, Def, FrameOwner, HasChild, Heap, Holds, IsClosed, IsLast, IsOpen, IsOpenAt, IsSome, IsStoredChild, IsThere, IsUnplaced, Kid, Kids, LeadsUnstored, MayHave, MayHaveIts, Node, NodeId, Place, Plan, Plot, Replaces, Shows, Slot, Stands, Top, Tracker, Tree, Trees, all_changed, at, at_for_at, begun, begun_body, begun_plot, body_here, body_in, body_other, cell_of, cell_of_child, cells_in, change_at, change_child, child_node, child_owner, child_tree, closed_marked, closed_uses, count_kids, counts_if, counts_other, counts_own, cursor_in, depth_above, depth_below, depth_limit, enter, entered_node, entered_plot, fresh_closed, fresh_plot, fresh_same, fresh_tree, gone, heap_of, held_by, holds_put_nth, hole, is_empty_struct, is_map, is_map_tracker, kid_at, kid_here, kid_nth, kid_shown, left_as, left_put_nth, linked, linked_by, links, no_vals, node_along, node_here, nth_put, open_at_from, open_top, product, put_at, put_nth, same_or_other, slot_other, slots_above, slots_along, stands_change, stands_reach, stored_but, taken_over, there, top_held, top_slot, tree_at, tree_change_at, tree_here, tree_in, tree_in_slots, tree_of, tree_of_at, tree_of_nth, tree_put_nth, trees_in, uses, uses_among, uses_at, uses_in, uses_nth, uses_put_nth, whole_plot, with_child, with_entered}
 use Rattle.fr_store.specs.TopLaws.{slot_here, closed_holds, not_beside, used_entered, open_node}
-use Rattle.fr_store.proofs.ChildLaws.{child_cell, kids_held, kids_may_have, kids_stored, not_parent, parent_is, part_uses, plot_has, unplaced_child}
-use Rattle.fr_store.proofs.StayLaws.{stay_all, stay_shown, stay_unplaced}
+use Rattle.fr_store.proofs.ChildrenOfTops.{child_cell, kids_held, kids_may_have, kids_stored, not_parent, parent_is, part_uses, plot_has, unplaced_child}
+use Rattle.fr_store.proofs.PlacesBeside.{stay_all, stay_shown, stay_unplaced}
 use Rattle.fr_store.proofs.StoredLaws.{unused}
 
 -- A child that is entered: what it held, or fresh.
@@ -211,7 +211,7 @@ module _ {plan : Plan} {heap : Heap} (other : Heap) {stack : List ℕ} {place : 
       stands_change other place [] (i ∷ []) longer (ap cell_of (sym top.is))
       (λ m h. elsewhere m (not_beside stands top m h) (omega arith)) replaces once (
         refl,
-        stored_but i (λ below. Leads [] below) (at n false (child_plot def (kid_nth i kids))) kids within (kids_stored stands top
+        stored_but i (λ below. LeadsUnstored [] below) (at n false (child_plot def (kid_nth i kids))) kids within (kids_stored stands top
             begun_now i within) (refl, closed_marked true (child_plot def (kid_nth i kids)) (child_closed def (kid_nth i kids))),
       ) (at_for_at top.slot (begun_plot tracker entered_kids) top.is) left (ap (λ (s : List ℕ). s ++ n ∷ []) top.last
       ∙ append_assoc (slots_above place k) (top.slot ∷ []) (n ∷ []) ∙ ap (λ (x : Kid). slots_above place

@@ -4,7 +4,7 @@ use Rattle.std.specs.List.{Contains}
 use Rattle.std.specs.Option.{option_map, option_or}
 use Rattle.std.specs.Prelude.{is_none, not, if◌then◌else◌}
 use Rattle.std.proofs.lemmas.List.{same_from_push}
-use Rattle.fr_store.specs.Common.{AllMarked, AreLeftRightly, ContentKind, Conversion, Failure, HasATurn, HasPlace, IsHalfDone, IsStoredAt, Kid, Kids, LackingFails, Leads, Meanings, PathStep, Place, Reaches, ReflectErrorKind, Suits, Table, Tracker, Tree, Trees, Val, as_content, at, begun, begun_plot, below_root, branch, child_as, child_tree, closed_at, complete, count_trees, deferred_column, entered, failure_at, failures, failures_off, hole, entered_plot, gone, is_begun_conversion, kid, kid_at, kid_at_append, leads_reach, left_at, lack_of_begun, no_kids, no_trees, or_itself, own_lack, put_at, shape_in, step_as, steps_in, there, tree_at, tree_nth, tree_of, tree_of_at, tree_put_at, trees_in, turn_of, whole, whole_plot}
+use Rattle.fr_store.specs.Common.{AllMarked, AreLeftRightly, ContentKind, Conversion, Failure, HasATurn, HasPlace, IsHalfDone, IsStoredAt, Kid, Kids, LackingFails, LeadsUnstored, Meanings, PathStep, Place, Reaches, ReflectErrorKind, Suits, Table, Tracker, Tree, Trees, Val, as_content, at, begun, begun_plot, below_root, branch, child_as, child_tree, closed_at, complete, count_trees, deferred_column, entered, failure_at, failures, failures_off, hole, entered_plot, gone, is_begun_conversion, kid, kid_at, kid_at_append, leads_reach, left_at, lack_of_begun, no_kids, no_trees, or_itself, own_lack, put_at, shape_in, step_as, steps_in, there, tree_at, tree_nth, tree_of, tree_of_at, tree_put_at, trees_in, turn_of, whole, whole_plot}
 use Rattle.fr_model.specs.Failing.{failing_path}
 use Rattle.fr_model.specs.Finish.{closed}
 use Rattle.fr_model.specs.Laws.{CompletesOrFails}
@@ -14,7 +14,7 @@ use Rattle.fr_model.specs.DueNotes.{IsOffTheWay}
 use Rattle.fr_model.specs.FailingLaws.{ChildrenAreOff, failures_beneath}
 use Rattle.fr_model.specs.FinishLaws.{Closes, ClosingKeepsFailuresOff}
 use Rattle.fr_model.specs.Tree.{deferred, shape_below}
-use Rattle.fr_model.specs.Well.{IsContent, IsTouched, Leads as LeadsIn}
+use Rattle.fr_model.specs.Well.{IsContent, IsTouched, Leads}
 use Rattle.fr_store.proofs.ClosingLaws.{closes_with, count_changed, nth_changed, shape_append, suits_at, tree_append}
 use Rattle.fr_store.proofs.HeadLaws.{reaches_child}
 use Rattle.fr_store.proofs.OffLaws.{beneath_or_not, marked_off, reach_place, way_off}
@@ -210,7 +210,7 @@ steps_closed (i ∷ here) v (begun tracker ts) has =
 steps_closed (i ∷ here) v _ has = absurd has
 
 -- The source of a conversion of a tree in slots.
-module _ (table : Table) (s : ℕ) (k : Kid) (cursor : Place) (leads : Leads cursor k) (here : Place)
+module _ (table : Table) (s : ℕ) (k : Kid) (cursor : Place) (leads : LeadsUnstored cursor k) (here : Place)
     (has : HasPlace here (tree_of k)) (suits : Suits table s (tree_of k))
     (converting : is_begun_conversion (tree_at here (tree_of k)) ≡ true) where
   pub converts : Converts (tree_at here (tree_of k))
@@ -228,7 +228,7 @@ module _ (table : Table) (s : ℕ) (k : Kid) (cursor : Place) (leads : Leads cur
       go (inl (zero ∷ way, e)) = absurd (off way (e ∙ sym (append_assoc here (0 ∷ []) way)))
       go (inl (suc j ∷ way, e)) =
           let there = has_append here (suc j ∷ way) (tree_of k) (subst (λ (p : Place). HasPlace p (tree_of k)) e
-          (reach_place cursor k (leads_reach cursor [] k (subst (λ (p : Place). Leads p k) (sym (append-nil cursor)) leads)))) in
+          (reach_place cursor k (leads_reach cursor [] k (subst (λ (p : Place). LeadsUnstored p k) (sym (append-nil cursor)) leads)))) in
           let only = subst (HasPlace (suc j ∷ way)) converts.is there.1 in
           absurd (omega (arith, only.0))
 
@@ -284,7 +284,7 @@ module _ (table : Table) (s : ℕ) (k : Kid) (cursor : Place) (leads : Leads cur
               (subst (λ (f : Tracker). AreLeftRightly (at slot mark (begun_plot f kids))) tracker_is left) kids_are
 
 -- A conversion whose source isn't converted fails, at the turn of its source.
-module _ (hooks : Meanings) (table : Table) (s : ℕ) (path : List PathStep) (k : Kid) (cursor : Place) (leads : Leads cursor k) (here : Place)
+module _ (hooks : Meanings) (table : Table) (s : ℕ) (path : List PathStep) (k : Kid) (cursor : Place) (leads : LeadsUnstored cursor k) (here : Place)
     (reach : Reaches (here ++ 0 ∷ []) k) (suits : Suits table s (tree_of k))
     (converting : is_begun_conversion (tree_at here (tree_of k)) ≡ true) (off : IsOffTheWay cursor (here ++ 0 ∷ []))
     {kind : ReflectErrorKind} (lacks : own_lack hooks table (shape_in table s here (tree_of k)) (tree_at here (tree_of k)) ≡ Some kind) where
@@ -333,14 +333,14 @@ module _ (hooks : Meanings) (table : Table) (s : ℕ) (path : List PathStep) (k 
       ap (λ (p : Place). steps_in p tree) (turn_source here tree converting_then) ∙ steps_closed (here ++ 0 ∷ []) v (tree_of k) has
 
   pub source_fails : LackingFails → ClosingKeepsFailuresOff
-      → ((place : Place) (x : Kid) → Leads place x → LeadsIn (deferred 0) place (tree_of x)) → Contains
+      → ((place : Place) (x : Kid) → LeadsUnstored place x → Leads (deferred 0) place (tree_of x)) → Contains
       (failures_off hooks table s path cursor (tree_of k)) (record { path = path ++ steps_in (here ++ 0 ∷ []) (tree_of k); kind = kind })
   source_fails lacking keeps deep =
       subst (λ (fs : List Failure). Contains fs (record { path = path ++ steps_in (here ++ 0 ∷ []) (tree_of k); kind = kind }))
       (keeps hooks table s path cursor (here ++ 0 ∷ []) v (tree_of k) closes (inl off))
       (subst (λ (to : List PathStep). Contains (failures_off hooks table s path cursor tree)
       (record { path = path ++ to; kind = kind })) steps (lacking hooks table s path (deferred 0) cursor here tree kind
-      (subst (LeadsIn (deferred 0) cursor) (tree_put_at (here ++ 0 ∷ []) (there v) k) (deep cursor
+      (subst (Leads (deferred 0) cursor) (tree_put_at (here ++ 0 ∷ []) (there v) k) (deep cursor
       (put_at (here ++ 0 ∷ []) (there v) k) (way_off cursor (here ++ 0 ∷ []) (there v) k leads off reach tt).0))
       (has_closed here (0 ∷ []) v (tree_of k) has)
       (turn_then (turns table s k cursor leads here above suits converting off))

@@ -1,10 +1,10 @@
 -- Laws of the end of deferred mode, for proofs: all stored places had their turn, nothing is stored, and the place at which the
 -- builder works is finished.
 use Rattle.std.proofs.Common.{◌≡◌, ◌≢◌, ℕ, Bool, true, false, List, [], ◌∷◌, ◌++◌, append-nil, option_map, Some, refl, sym, ◌∙◌, ap, subst}
-use Rattle.fr_store.specs.Common.{AreInWalkOrder, Contains, FinishesOrRefuses, HasPlace, IsHeldUp, IsOpen, IsOpenAt, Kid, LacksHere, Leads, Meanings, NoneStored, NothingStored, PathStep, Place, Plan, ReflectErrorKind, Slot, StoppedByTurns, Table, Tree, Walked, at, begun_plot, change_at, cursor_in, failures_off, heap_of, hole, is_begun_conversion, kid_at, leads_at, leads_reach, marked, own_lack, root_shape, shape_in, steps_in, stored_here, strict, tree_at, tree_in_slots, tree_of, tree_of_at}
+use Rattle.fr_store.specs.Common.{AreInWalkOrder, Contains, FinishesOrRefuses, HasPlace, IsHeldUp, IsOpen, IsOpenAt, Kid, LacksHere, LeadsUnstored, Meanings, NoneStored, NothingStored, PathStep, Place, Plan, ReflectErrorKind, Slot, StoppedByTurns, Table, Tree, Walked, at, begun_plot, change_at, cursor_in, failures_off, heap_of, hole, is_begun_conversion, kid_at, leads_at, leads_reach, marked, own_lack, root_shape, shape_in, steps_in, stored_here, strict, tree_at, tree_in_slots, tree_of, tree_of_at}
 use Rattle.fr_model.specs.FailingLaws.{FinishOfDone, NothingFailsOfDone}
 use Rattle.fr_model.specs.Finish.{finished_here}
-use Rattle.fr_model.specs.Well.{Leads as LeadsIn}
+use Rattle.fr_model.specs.Well.{Leads}
 use Rattle.fr_store.specs.WayLaws.{marked_at}
 use Rattle.fr_store.specs.Turning.{CameByTurns, FinishedHere, kid_here, next_place}
 use Rattle.fr_store.specs.Turns.{IsFinished, KeepThoseLeft}
@@ -18,12 +18,12 @@ use Rattle.fr_store.proofs.StoredLaws.{stored_place}
 use Rattle.fr_store.proofs.OffLaws.{reach_place}
 
 -- what stands at the end of the way is no hole
-leads_there : (place : Place) (k : Kid) → Leads place k → tree_at place (tree_of k) ≢ hole
+leads_there : (place : Place) (k : Kid) → LeadsUnstored place k → tree_at place (tree_of k) ≢ hole
 leads_there place k leads e =
-    go (kid_at place k) (leads_at place [] k (subst (λ (p : Place). Leads p k) (sym (append-nil place)) leads))
+    go (kid_at place k) (leads_at place [] k (subst (λ (p : Place). LeadsUnstored p k) (sym (append-nil place)) leads))
     (tree_of_at place k ∙ e)
   where
-    go : (x : Kid) → Leads [] x → tree_of x ≡ hole → ⊥
+    go : (x : Kid) → LeadsUnstored [] x → tree_of x ≡ hole → ⊥
     go (at slot stored (begun_plot tracker kids)) l is = cc
     go (at slot stored _) l is = cc
     go _ l is = absurd l
@@ -52,8 +52,8 @@ module _ {means : Meanings} {table : Table} {plan : Plan} {before : List Slot} {
           absurd (not_stored (kid_at (lies.0 ++ lies.1 ∷ []) (kid_here now stack))
           (marked_at false (lies.0 ++ lies.1 ∷ []) (kid_here now stack) none_stored) lies.3)
 
-  leads_now : Leads (cursor_in before stack) (kid_here now stack)
-  leads_now = subst (λ (p : Place). Leads p (kid_here now stack)) walked.cursor walked.still.stands.leads
+  leads_now : LeadsUnstored (cursor_in before stack) (kid_here now stack)
+  leads_now = subst (λ (p : Place). LeadsUnstored p (kid_here now stack)) walked.cursor walked.still.stands.leads
 
   -- none of the children of the place at which the builder works is in a slot, so that it is no conversion
   plain_now : is_begun_conversion (tree_at (cursor_in before stack) (tree_in_slots now stack)) ≡ false
@@ -61,7 +61,7 @@ module _ {means : Meanings} {table : Table} {plan : Plan} {before : List Slot} {
       subst (λ (p : Place). is_begun_conversion (tree_at p (tree_in_slots now stack)) ≡ false) walked.cursor
       (open_plain walked.still nothing_left table walked.suits.suits)
 
-  strict_now : LeadsIn strict (cursor_in before stack) (tree_in_slots now stack)
+  strict_now : Leads strict (cursor_in before stack) (tree_in_slots now stack)
   strict_now = leads_strict (cursor_in before stack) (kid_here now stack) plain_now leads_now none_stored
 
   -- said of the place at which the builder works now, it is of the one at which it worked
@@ -130,10 +130,10 @@ module _ {means : Meanings} {table : Table} {plan : Plan} {before : List Slot} {
         (tree_at (cursor_in before stack) (tree_in_slots now stack)) ≡ Some kind
     lacks_now = said_now (λ p t. own_lack means table (shape_in table (root_shape plan) p t) (tree_at p t) ≡ Some kind) lacks
 
-    has : (k : Kid) → Leads (cursor_in before stack) k → HasPlace (cursor_in before stack) (tree_of k)
+    has : (k : Kid) → LeadsUnstored (cursor_in before stack) k → HasPlace (cursor_in before stack) (tree_of k)
     has k leads =
         reach_place (cursor_in before stack) k (leads_reach (cursor_in before stack) [] k
-        (subst (λ (p : Place). Leads p k) (sym (append-nil (cursor_in before stack))) leads))
+        (subst (λ (p : Place). LeadsUnstored p k) (sym (append-nil (cursor_in before stack))) leads))
 
     -- so it did at the start
     lacks_before : own_lack means table (shape_in table (root_shape plan) (cursor_in before stack) (tree_in_slots before stack))

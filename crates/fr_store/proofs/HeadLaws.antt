@@ -2,7 +2,7 @@
 use Rattle.std.proofs.Common.{◌≡◌, ◌≢◌, ◌⊎◌, ℕ, zero, suc, ◌+◌, ◌<◌, ◌≤◌, Bool, true, List, [], ◌∷◌, ◌++◌, length, length-append, get_or, inl, inr, refl, sym, ◌∙◌, ap, subst, arith}
 use Rattle.std.proofs.lemmas.Grind.{common_steps}
 use Rattle.std.proofs.lemmas.List.Elements.{All-contains, All-head, All-tail, Contains-get_or}
-use Rattle.fr_store.specs.Common.{All, AllMarked, AllMarkedAmong, AllMarkedIn, AreInWalkOrder, AreStoredAt, AreUnplaced, ComesBefore, Contains, HasPlace, IsClosed, IsStoredAt, IsWalk, Kid, Kids, Leads, Ordering, PathStep, Place, Plot, Reaches, Tracker, Tree, Val, at, begun_plot, body_in, cells_in, change_at, child_tree, closed_at, count_kids, kid, kid_at, kid_at_append, kid_nth, no_kids, ordering_then, put_at, steps_in, tree_of, tree_put_at, uses, uses_among, uses_nth, walk_order}
+use Rattle.fr_store.specs.Common.{All, AllMarked, AllMarkedAmong, AllMarkedIn, AreInWalkOrder, AreStoredAt, AreUnplaced, ComesBefore, Contains, HasPlace, IsClosed, IsStoredAt, IsWalk, Kid, Kids, LeadsUnstored, Ordering, PathStep, Place, Plot, Reaches, Tracker, Tree, Val, at, begun_plot, body_in, cells_in, change_at, child_tree, closed_at, count_kids, kid, kid_at, kid_at_append, kid_nth, no_kids, ordering_then, put_at, steps_in, tree_of, tree_put_at, uses, uses_among, uses_nth, walk_order}
 use Rattle.std.specs.Ordering.{nat_cmp}
 use Rattle.fr_path.specs.OrderLaws.{walk_itself}
 use Rattle.fr_store.proofs.ClosingLaws.{stays}
@@ -105,7 +105,7 @@ module _ (k : Kid) (n : ℕ) (rest : List ℕ) (walk : IsWalk k (n ∷ rest)) (h
       (subst (λ (ps : List Place). Contains ps place) head.is (walk.all slot place stored))
 
   -- no child of it is in a slot: it would come before
-  pub head_closed : (cursor : Place) → Leads cursor k → IsClosed (body_in head.stored.plot)
+  pub head_closed : (cursor : Place) → LeadsUnstored cursor k → IsClosed (body_in head.stored.plot)
   head_closed cursor leads =
       let marked : AllMarked true (at n true head.stored.plot) = subst (AllMarked true) head.stored.is
       (marked_off cursor head.place k leads (off_stored cursor head.place k leads head.stored.is) head.stored.reaches) in

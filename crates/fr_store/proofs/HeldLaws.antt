@@ -1,7 +1,7 @@
 -- Laws of a walk that is refused, for proofs: the first place of it that makes no value is the first place that fails.
 use Rattle.std.proofs.Common.{◌≡◌, ◌⊎◌, ℕ, zero, suc, Bool, true, false, List, [], ◌∷◌, ◌++◌, Option, Some, None, inl, inr, refl, sym, ◌∙◌, ap, ap₂, subst, arith}
 use Rattle.std.proofs.lemmas.List.Elements.{All-contains}
-use Rattle.fr_store.specs.Common.{AllMarked, AllMarkedAmong, AreLeftRightly, AreStoredAt, AreUnplaced, AtCursor, ComesBefore, Contains, EachFailureHasItsPlace, Failure, FinishesOrRefuses, FirstByWalkIs, HasATurn, HasPlace, IsClosed, IsStoredAt, IsWalk, Kid, Kids, LackingFails, Leads, Meanings, NoneStored, PathStep, Place, Plot, Reaches, ReflectErrorKind, StoredBut, Suits, Table, Tree, Trees, Val, at, begun_plot, body_in, branch, cells_in, child_tree, count_in, deferred_column, failures_off, finished, first_by_walk, is_begun_conversion, is_conversion_body, is_some, kid, kid_at, kid_nth, kind_of, no_kids, no_trees, own_lack, shape_in, steps_in, strict, tree_at, tree_in, tree_of, tree_of_at, tree_of_nth, trees_in, turn_of, walk_order, whole_plot}
+use Rattle.fr_store.specs.Common.{AllMarked, AllMarkedAmong, AreLeftRightly, AreStoredAt, AreUnplaced, AtCursor, ComesBefore, Contains, EachFailureHasItsPlace, Failure, FinishesOrRefuses, FirstByWalkIs, HasATurn, HasPlace, IsClosed, IsStoredAt, IsWalk, Kid, Kids, LackingFails, LeadsUnstored, Meanings, NoneStored, PathStep, Place, Plot, Reaches, ReflectErrorKind, StoredBut, Suits, Table, Tree, Trees, Val, at, begun_plot, body_in, branch, cells_in, child_tree, count_in, deferred_column, failures_off, finished, first_by_walk, is_begun_conversion, is_conversion_body, is_some, kid, kid_at, kid_nth, kind_of, no_kids, no_trees, own_lack, shape_in, steps_in, strict, tree_at, tree_in, tree_of, tree_of_at, tree_of_nth, trees_in, turn_of, walk_order, whole_plot}
 use Rattle.std.specs.Option.{option_or}
 use Rattle.std.specs.Prelude.{is_none}
 use Rattle.fr_model.specs.Complete.{complete, missing_value}
@@ -9,7 +9,7 @@ use Rattle.fr_model.specs.FailingLaws.{ChildrenAreOff, FailsOff, IsHalfDone, IsO
 use Rattle.fr_model.specs.Finish.{finish_cause, refusal_or}
 use Rattle.fr_model.specs.DueNotes.{IsOffTheWay}
 use Rattle.fr_model.specs.Tree.{deferred, shape_below}
-use Rattle.fr_model.specs.Well.{AllOff, OffBut, Leads as LeadsIn}
+use Rattle.fr_model.specs.Well.{AllOff, OffBut, Leads}
 use Rattle.fr_store.specs.HoldLaws.{no_marks}
 use Rattle.fr_store.proofs.OffLaws.{marked_off, off_stored, reach_place}
 use Rattle.fr_store.proofs.HeadLaws.{Head, later, head_closed}
@@ -32,7 +32,7 @@ place_reach (i ∷ place) (at slot stored (begun_plot tracker kids)) has = (
 place_reach (i ∷ place) _ has = absurd has
 
 -- off the way it is stored
-half_stored : (cursor place : Place) (k : Kid) → Leads cursor k → IsOffTheWay cursor place → HasPlace place (tree_of k)
+half_stored : (cursor place : Place) (k : Kid) → LeadsUnstored cursor k → IsOffTheWay cursor place → HasPlace place (tree_of k)
     → IsHalfDone (tree_at place (tree_of k)) → (slot : ℕ) × IsStoredAt k slot place
 half_stored cursor place k leads off has half =
     go (kid_at place k) refl (marked_off cursor place k leads off (place_reach place k has))
@@ -79,12 +79,12 @@ but_off start zero Below After (kid k ks) but so = (so but.0, any_off start (tre
 but_off start (suc i) Below After (kid k ks) but so = (tt, but_off start i Below After ks but.1 so)
 
 -- in deferred mode the way leads through the tree
-pub leads_deferred : (start : ℕ) (place : Place) (k : Kid) → Leads place k → LeadsIn (deferred start) place (tree_of k)
+pub leads_deferred : (start : ℕ) (place : Place) (k : Kid) → LeadsUnstored place k → Leads (deferred start) place (tree_of k)
 leads_deferred start [] (at slot stored (begun_plot tracker kids)) leads = (tt, any_off start (trees_in kids))
 leads_deferred start [] (at slot stored _) leads = tt
 leads_deferred start [] _ leads = absurd leads
 leads_deferred start (i ∷ place) (at slot stored (begun_plot tracker kids)) leads =
-    but_off start i (λ below. Leads place below) (λ child. LeadsIn (deferred start) place child) kids leads.1
+    but_off start i (λ below. LeadsUnstored place below) (λ child. Leads (deferred start) place child) kids leads.1
     (λ child. leads_deferred start place (kid_nth i kids) child)
 leads_deferred start (i ∷ place) (at slot stored _) leads = absurd leads.1
 leads_deferred start (i ∷ place) _ leads = absurd leads
@@ -109,13 +109,13 @@ but_strict (suc i) Below After (kid (at slot stored plot) ks) but unmarked so =
 but_strict (suc i) Below After (kid _ ks) but unmarked so = (tt, but_strict i Below After ks but.1 unmarked.1 so)
 
 -- where nothing is stored it leads as in strict mode, but to a conversion
-pub leads_strict : (place : Place) (k : Kid) → is_begun_conversion (tree_at place (tree_of k)) ≡ false → Leads place k → NoneStored k
-    → LeadsIn strict place (tree_of k)
+pub leads_strict : (place : Place) (k : Kid) → is_begun_conversion (tree_at place (tree_of k)) ≡ false → LeadsUnstored place k → NoneStored k
+    → Leads strict place (tree_of k)
 leads_strict [] (at slot stored (begun_plot tracker kids)) plain leads none = (plain, kids_off kids leads.1 none.1)
 leads_strict [] (at slot stored _) plain leads none = tt
 leads_strict [] _ plain leads none = absurd leads
 leads_strict (i ∷ place) (at slot stored (begun_plot tracker kids)) plain leads none =
-    but_strict i (λ below. Leads place below) (λ child. LeadsIn strict place child) kids leads.1 none.1
+    but_strict i (λ below. LeadsUnstored place below) (λ child. Leads strict place child) kids leads.1 none.1
     (λ child unmarked. leads_strict place (kid_nth i kids)
     (ap (λ (t : Tree). is_begun_conversion (tree_at place t)) (tree_of_nth i kids) ∙ plain) child unmarked)
 leads_strict (i ∷ place) (at slot stored _) plain leads none = absurd leads.1
@@ -138,7 +138,7 @@ walk_over {k} left = (
     over = no_places k left.places left.stored
 
 -- The first place of a walk, at whose turn a place lacks something by itself: it, or the conversion whose source it is.
-module _ (hooks : Meanings) (table : Table) (s : ℕ) (path : List PathStep) (k : Kid) (cursor : Place) (leads : Leads cursor k)
+module _ (hooks : Meanings) (table : Table) (s : ℕ) (path : List PathStep) (k : Kid) (cursor : Place) (leads : LeadsUnstored cursor k)
     (left : AreLeftRightly k) (suits : Suits table s (tree_of k)) (n : ℕ) (rest : List ℕ) (walk : IsWalk k (n ∷ rest))
     (head : Head k n rest walk.places) (here : Place) (turn : turn_of here (tree_of k) ≡ head.place) (kind : ReflectErrorKind)
     (incomplete : complete deferred_column hooks table (shape_in table s here (tree_of k)) (tree_at here (tree_of k)) ≡ None)
@@ -280,7 +280,7 @@ none_of None e = refl
 
 -- what fails first is the cause, and the end doesn't come about
 pub held_by_first : FinishesOrRefuses → (hooks : Meanings) (table : Table) (s : ℕ) (cursor : Place) (tree : Tree)
-    (kind : ReflectErrorKind) → LeadsIn (deferred 0) cursor tree
+    (kind : ReflectErrorKind) → Leads (deferred 0) cursor tree
     → kind_of (first_by_walk (failures_off hooks table s [] cursor tree)) ≡ Some kind
     → (finished hooks table s cursor tree ≡ None) × (kind ≡ finish_cause hooks table s cursor tree)
 held_by_first refuses hooks table s cursor tree kind leads first = (
@@ -294,7 +294,7 @@ held_by_first refuses hooks table s cursor tree kind leads first = (
 
 -- and where none fails it is what the place at which the builder works lacks
 pub held_by_last : FinishesOrRefuses → (hooks : Meanings) (table : Table) (s : ℕ) (cursor : Place) (tree : Tree)
-    (kind : ReflectErrorKind) → LeadsIn (deferred 0) cursor tree → failures_off hooks table s [] cursor tree ≡ []
+    (kind : ReflectErrorKind) → Leads (deferred 0) cursor tree → failures_off hooks table s [] cursor tree ≡ []
     → own_lack hooks table (shape_in table s cursor tree) (tree_at cursor tree) ≡ Some kind
     → (finished hooks table s cursor tree ≡ None) × (kind ≡ finish_cause hooks table s cursor tree)
 held_by_last refuses hooks table s cursor tree kind leads none lacks =

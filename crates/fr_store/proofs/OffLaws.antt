@@ -3,7 +3,7 @@ use Rattle.std.proofs.Common.{◌≡◌, ◌≢◌, ◌↔◌, ◌⊎◌, ℕ, z
 use Rattle.fr_store.specs.Below.{AreUnplaced, HasPlace, IsClosed, IsOffTheWay, Kid, Kids, Place, Plot, Tree, Val, at, begun_plot, body_in, cells_in, entered_plot, gone, kid, no_kids, there, tree_of, whole_plot}
 use Rattle.fr_store.specs.LeaveLaws.{kid_at_append}
 use Rattle.fr_store.specs.Walks.{IsStoredAt}
-use Rattle.fr_store.specs.Ways.{kid_nth, kid_at, put_nth, put_at, slots_along, AllMarked, StoredBut, Leads, Reaches}
+use Rattle.fr_store.specs.Ways.{kid_nth, kid_at, put_nth, put_at, slots_along, AllMarked, StoredBut, LeadsUnstored, Reaches}
 use Rattle.fr_store.specs.WayLaws.{same_or_other, nth_put, count_put, kid_put_at, marked_at, marked_put_nth, marked_put_at, tree_of_nth, leads_at, count_in, marked_nth}
 
 -- Children of one place.
@@ -51,23 +51,23 @@ off_below i place here off way e = off way (ap (λ (p : Place). i ∷ p) e)
 off_same : {i j : ℕ} (place here : Place) → i ≡ j → IsOffTheWay (j ∷ place) (i ∷ here) → IsOffTheWay place here
 off_same {j} place here e off = off_below j place here (subst (λ (n : ℕ). IsOffTheWay (j ∷ place) (n ∷ here)) e off)
 
-pub leads_same : {i j : ℕ} (place : Place) (ks : Kids) → i ≡ j → StoredBut j (λ below. Leads place below) ks
-    → Leads place (kid_nth i ks)
+pub leads_same : {i j : ℕ} (place : Place) (ks : Kids) → i ≡ j → StoredBut j (λ below. LeadsUnstored place below) ks
+    → LeadsUnstored place (kid_nth i ks)
 leads_same {j} place ks e but =
-    subst (λ (n : ℕ). Leads place (kid_nth n ks)) (sym e) (below_nth j (λ below. Leads place below) ks but)
+    subst (λ (n : ℕ). LeadsUnstored place (kid_nth n ks)) (sym e) (below_nth j (λ below. LeadsUnstored place below) ks but)
 
 -- a stored place is off the way
-pub off_stored : (place here : Place) (k : Kid) {slot : ℕ} {plot : Plot} → Leads place k
+pub off_stored : (place here : Place) (k : Kid) {slot : ℕ} {plot : Plot} → LeadsUnstored place k
     → kid_at here k ≡ at slot true plot → IsOffTheWay place here
 off_stored place here k {slot} {plot} leads is way e =
-    go way (subst (λ (x : Kid). Leads way x) is (leads_at here way k (subst (λ (p : Place). Leads p k) e leads)))
+    go way (subst (λ (x : Kid). LeadsUnstored way x) is (leads_at here way k (subst (λ (p : Place). LeadsUnstored p k) e leads)))
   where
-    go : (way : Place) → Leads way (at slot true plot) → ⊥
+    go : (way : Place) → LeadsUnstored way (at slot true plot) → ⊥
     go [] l = let apart = l.0 in cc
     go (i ∷ way) l = let apart = l.0 in cc
 
 -- what lies in slots off the way is stored
-pub marked_off : (place here : Place) (k : Kid) → Leads place k → IsOffTheWay place here → Reaches here k
+pub marked_off : (place here : Place) (k : Kid) → LeadsUnstored place k → IsOffTheWay place here → Reaches here k
     → AllMarked true (kid_at here k)
 marked_off place [] k leads off reach = absurd (off place refl)
 marked_off [] (i ∷ here) (at slot stored (begun_plot tracker kids)) leads off reach =
@@ -79,12 +79,12 @@ marked_off (j ∷ place) (i ∷ here) (at slot stored (begun_plot tracker kids))
     go : (i ≡ j) ⊎ (i ≢ j) → (i ≡ j → AllMarked true (kid_at here (kid_nth i kids)))
         → AllMarked true (kid_at here (kid_nth i kids))
     go (inl e) below = below e
-    go (inr ne) below = marked_at true here (kid_nth i kids) (but_nth i j (λ below. Leads place below) kids leads.1 ne)
+    go (inr ne) below = marked_at true here (kid_nth i kids) (but_nth i j (λ below. LeadsUnstored place below) kids leads.1 ne)
 marked_off place (i ∷ here) _ leads off reach = absurd reach
 
 -- the way goes on where something else is put off it, and through the same slots
-pub way_off : (place here : Place) (new k : Kid) → Leads place k → IsOffTheWay place here → Reaches here k → AllMarked true new
-    → Leads place (put_at here new k) × (slots_along place (put_at here new k) ≡ slots_along place k)
+pub way_off : (place here : Place) (new k : Kid) → LeadsUnstored place k → IsOffTheWay place here → Reaches here k → AllMarked true new
+    → LeadsUnstored place (put_at here new k) × (slots_along place (put_at here new k) ≡ slots_along place k)
 way_off place [] new k leads off reach is = absurd (off place refl)
 way_off [] (i ∷ here) new (at slot stored (begun_plot tracker kids)) leads off reach is = (
   (
@@ -102,19 +102,19 @@ way_off (j ∷ place) (i ∷ here) new (at slot stored (begun_plot tracker kids)
     child : Kid
     child = put_at here new (kid_nth i kids)
 
-    go : (i ≡ j) ⊎ (i ≢ j) → (i ≡ j → Leads place child × (slots_along place child ≡ slots_along place (kid_nth i kids)))
-        → StoredBut j (λ below. Leads place below) (put_nth i child kids)
+    go : (i ≡ j) ⊎ (i ≢ j) → (i ≡ j → LeadsUnstored place child × (slots_along place child ≡ slots_along place (kid_nth i kids)))
+        → StoredBut j (λ below. LeadsUnstored place below) (put_nth i child kids)
         × (slots_along place (kid_nth j (put_nth i child kids)) ≡ slots_along place (kid_nth j kids))
     go (inl e) on = (
-      subst (λ (n : ℕ). StoredBut j (λ below. Leads place below) (put_nth n child kids)) (sym e)
-          (but_same j (λ below. Leads place below) child kids leads.1 (on e).0),
+      subst (λ (n : ℕ). StoredBut j (λ below. LeadsUnstored place below) (put_nth n child kids)) (sym e)
+          (but_same j (λ below. LeadsUnstored place below) child kids leads.1 (on e).0),
       ap (λ (n : ℕ). slots_along place (kid_nth n (put_nth i child kids))) (sym e)
           ∙ ap (slots_along place) (nth_put i child kids reach.0)
           ∙ (on e).1 ∙ ap (λ (n : ℕ). slots_along place (kid_nth n kids)) e,
     )
     go (inr ne) on = (
-      but_other i j (λ below. Leads place below) child kids leads.1 ne
-          (marked_put_at true here new (kid_nth i kids) (but_nth i j (λ below. Leads place below) kids leads.1 ne) is),
+      but_other i j (λ below. LeadsUnstored place below) child kids leads.1 ne
+          (marked_put_at true here new (kid_nth i kids) (but_nth i j (λ below. LeadsUnstored place below) kids leads.1 ne) is),
       ap (slots_along place) (nth_other i j child kids ne),
     )
 way_off place (i ∷ here) new _ leads off reach is = absurd reach

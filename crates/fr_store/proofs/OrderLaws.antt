@@ -1,7 +1,7 @@
 -- Where the children of a map come among each other.
 use Rattle.std.proofs.Common.{◌≡◌, ℕ, ◌+◌, ◌/◌, ◌%◌, Bool, true, false, refl, ap, arith, if◌then◌else◌}
 use Rattle.fr_store.specs.Common.{EntriesKind, as_entries, entry_of, is_key, order_as}
-use Rattle.fr_store.proofs.StepLaws.{halves, odd}
+use Rattle.fr_store.proofs.StepOrder.{halves, odd}
 
 pub key_order : (i : ℕ) → i % 2 ≡ 0 → i / 2 ≡ order_as (as_entries (EntriesKind.Map 0)) i
 key_order i even = go (is_key i) refl

@@ -4,7 +4,7 @@ use Rattle.fr_store.specs.Common.{AllMarkedAmong, AreUnplaced, Body, Cell, Conse
 use Rattle.std.proofs.lemmas.Grind.{common_steps}
 use Rattle.std.proofs.lemmas.Bool.Decides.{nat_tests}
 use Rattle.fr_frame.specs.Bodies.{unlinked_by, with_cell}
-use Rattle.fr_values.specs.Cells.{cells_occur, placed, slot_at}
+use Rattle.fr_values.specs.Cells.{cells_occur, placed, slot_in_cells}
 use Rattle.fr_frame.specs.Kids.{kid_by, kid_from, plot_in}
 use Rattle.fr_store.specs.HoldLaws.{level_below, read_back_in}
 use Rattle.fr_store.specs.Prunes.{emptied, kids_below, kids_in_plot, slotted_occurs}
@@ -33,7 +33,7 @@ pub record Pruning (i n : ℕ) (store : List ℕ) (before after : List Slot) (le
       ≡ slots_occur after t + slotted_occur (beneath (heap_of before) n) t
   pub kept : IsKept store after
   pub marks : StoresNoMore before after
-  pub none : (j : ℕ) → j < i → slot_at (cells_found (heap_of after n)) j ≡ None
+  pub none : (j : ℕ) → j < i → slot_in_cells (cells_found (heap_of after n)) j ≡ None
   pub count : length (cells_found (heap_of after n)) ≡ length (cells_found (heap_of before n))
 
 -- what lies beneath the place is what is read off the heap
@@ -90,18 +90,18 @@ pub closed_pruned : (body : Body) → IsClosed body → pruned body ≡ body
 closed_pruned (begun_body tracker cells) closed = ap (begun_body tracker) (unplaced_emptied cells closed)
 closed_pruned _ closed = refl
 
-unplaced_by : (cs : List Cell) → ((j : ℕ) → j < length cs → slot_at cs j ≡ None) → AreUnplaced cs
+unplaced_by : (cs : List Cell) → ((j : ℕ) → j < length cs → slot_in_cells cs j ≡ None) → AreUnplaced cs
 unplaced_by [] none = tt
 unplaced_by (placed n ∷ cs) none = let slotless : Some n ≡ None = none 0 (omega arith) in absurd (cc)
 unplaced_by (_ ∷ cs) none = (tt, unplaced_by cs (λ j h. none (suc j) (omega arith)))
 
-pub closed_by : (body : Body) → ((j : ℕ) → j < length (cells_in_body body) → slot_at (cells_in_body body) j ≡ None) → IsClosed body
+pub closed_by : (body : Body) → ((j : ℕ) → j < length (cells_in_body body) → slot_in_cells (cells_in_body body) j ≡ None) → IsClosed body
 closed_by (begun_body tracker cells) none = unplaced_by cells none
 closed_by _ none = tt
 
 -- The child of a number, which leaves its slot.
 
-pub kid_in_slot : (i m : ℕ) (ks : Kids) → slot_at (cells_in ks) i ≡ Some m → AllMarkedAmong true ks
+pub kid_in_slot : (i m : ℕ) (ks : Kids) → slot_in_cells (cells_in ks) i ≡ Some m → AllMarkedAmong true ks
     → (plot : Plot) × (kid_nth i ks ≡ at m true plot) × (i < count_kids ks)
 kid_in_slot i m no_kids is all = absurd (cc)
 kid_in_slot zero m (kid (at slot stored plot) ks) is all =
@@ -143,8 +143,8 @@ slotted_put zero (kid k ks) t = omega arith
 slotted_put (suc i) (kid k ks) t = omega (arith, slotted_put i ks t)
 
 -- of the children up to it none is in a slot
-pub none_up_to : (i j : ℕ) (ks : Kids) → j < suc i → (j < i → slot_at (cells_in ks) j ≡ None)
-    → slot_at (cells_in (put_nth i gone ks)) j ≡ None
+pub none_up_to : (i j : ℕ) (ks : Kids) → j < suc i → (j < i → slot_in_cells (cells_in ks) j ≡ None)
+    → slot_in_cells (cells_in (put_nth i gone ks)) j ≡ None
 none_up_to i j no_kids h none = refl
 none_up_to zero zero (kid k ks) h none = refl
 none_up_to zero (suc j) (kid k ks) h none = absurd (omega arith)

@@ -1,7 +1,7 @@
 -- One child leaves its slot.
 use Rattle.std.proofs.Common.{◌≡◌, ◌≢◌, ◌⊎◌, ℕ, zero, suc, ◌+◌, ◌-◌, ◌<◌, ◌≤◌, true, false, length, length-set, nat_eq, List, Option, Some, None, inl, inr, refl, sym, ◌∙◌, ap, subst, arith}
 use Rattle.fr_store.specs.Common.{AllMarked, AllMarkedAmong, AllMarkedIn, Body, Cell, Heap, Holds, HoldsAll, HoldsIn, IsPruned, IsRooted, Kid, Kids, Node, Plan, Plot, Tracker, absent, at, begun_body, begun_plot, beneath, body_here, body_in, body_occurs, body_other, cells_found, cells_in, cells_in_body, child_node, child_owner, count_kids, counts_if, counts_other, counts_same, depth_limit, entered_plot, gone, holds_put_nth, kid_nth, marked, marked_nth, pruned, put_nth, same_or_other, slot_other, slotted_occur, stored_in, unlinked, uses, uses_among, uses_in, uses_nth, uses_put_nth, whole_plot, with_slot, without}
-use Rattle.fr_values.specs.Cells.{slot_at}
+use Rattle.fr_values.specs.Cells.{slot_in_cells}
 use Rattle.fr_store.specs.HoldLaws.{holds_nth}
 use Rattle.fr_store.specs.Prunes.{kids_in_plot, slotted_occurs}
 use Rattle.fr_store.specs.TopLaws.{slot_here}
@@ -41,13 +41,13 @@ pub record Child (heap : Heap) (n i m : ℕ) : Type 0 where
   pub is : kid_nth i kids ≡ at m true below
   pub inside : i < count_kids kids
 
-pub child_of : {heap : Heap} {n : ℕ} (rooted : IsRooted heap n) (i m : ℕ) → slot_at (cells_found (heap n)) i ≡ Some m → Child heap n i m
+pub child_of : {heap : Heap} {n : ℕ} (rooted : IsRooted heap n) (i m : ℕ) → slot_in_cells (cells_found (heap n)) i ≡ Some m → Child heap n i m
 child_of {heap} {n} rooted i m found =
     go rooted.plot rooted.body rooted.holds rooted.once rooted.stored (beneath_is heap n rooted)
   where
-    cells : (body : Body) → rooted.found.body ≡ body → slot_at (cells_in_body body) i ≡ Some m
+    cells : (body : Body) → rooted.found.body ≡ body → slot_in_cells (cells_in_body body) i ≡ Some m
     cells body e =
-        sym (ap (λ (o : Option Node). slot_at (cells_found o) i) rooted.here ∙ ap (λ (b : Body). slot_at (cells_in_body b) i) e)
+        sym (ap (λ (o : Option Node). slot_in_cells (cells_found o) i) rooted.here ∙ ap (λ (b : Body). slot_in_cells (cells_in_body b) i) e)
         ∙ found
 
     go : (plot : Plot) → rooted.found.body ≡ body_in plot
@@ -214,11 +214,11 @@ module _ {heap : Heap} {n i m : ℕ} (child : Child heap n i m) where
               ∙ later.free x (omega (arith, fewer x, counts_other m x (λ e. ne (sym e))))
 
       -- of the children up to it none is in a slot, and there are as many as before
-      pub none_on : ((j : ℕ) → j < i → slot_at (cells_found (heap n)) j ≡ None) → (j : ℕ) → j < suc i
-          → slot_at (cells_found (after n)) j ≡ None
+      pub none_on : ((j : ℕ) → j < i → slot_in_cells (cells_found (heap n)) j ≡ None) → (j : ℕ) → j < suc i
+          → slot_in_cells (cells_found (after n)) j ≡ None
       none_on none j h =
-          ap (λ (o : Option Node). slot_at (cells_found o) j) after_here ∙ none_up_to i j child.kids h
-          (λ less. sym (ap (λ (o : Option Node). slot_at (cells_found o) j) child.here) ∙ none j less)
+          ap (λ (o : Option Node). slot_in_cells (cells_found o) j) after_here ∙ none_up_to i j child.kids h
+          (λ less. sym (ap (λ (o : Option Node). slot_in_cells (cells_found o) j) child.here) ∙ none j less)
 
       pub count_on : length (cells_found (after n)) ≡ length (cells_found (heap n))
       count_on =

@@ -2,13 +2,13 @@
 use Rattle.std.proofs.Common.{◌≡◌, ◌≢◌, ◌⊎◌, ℕ, suc, ◌+◌, ◌-◌, ◌<◌, Bool, true, false, List, [], length, Option, Some, None, inl, inr, refl, sym, ◌∙◌, ap, subst, arith, ◌↔◌}
 use Rattle.fr_store.specs.Common.{Body, Contains, IfInUse, IsClosed, IsInUse, IsKept, IsPruned, IsRooted, IsSomeAnd, Kids, Node, Room, Room_fewer, Room_risen, Room_same, RoseBy, RoseBy_same, Shows, Slot, StoresNoMore, at, beneath, body_here, body_in, body_occurs, both, cells_found, child_owner, closed_uses, depth_limit, heap_of, is_some, marked, pruned, same_or_other, slots_occur, slotted_occur, stored_in, without}
 use Rattle.fr_shape.specs.TokenLaws.{nothing, RoseBy_both, RoseBy_nothing, Room_left}
-use Rattle.fr_values.specs.Cells.{slot_at}
+use Rattle.fr_values.specs.Cells.{slot_in_cells}
 use Rattle.fr_store.specs.HoldLaws.{none_stored}
 use Rattle.fr_store.specs.TopLaws.{closed_by_marks, closed_occur}
-use Rattle.fr_store.proofs.KeptLaws.{kept_but}
+use Rattle.fr_store.proofs.StoredMarks.{kept_but}
 use Rattle.fr_store.proofs.PruneLaws.{Pruning, beneath_is, beneath_uses, closed_by, closed_pruned, depth_found, plot_tokens, pruned_tokens}
 use Rattle.fr_store.proofs.PruneSteps.{Child, after_marked, after_unmarked, child_falls, child_here, child_left, child_of, child_tokens, count_on, left_on, next, none_on, rest_are, rooted_on}
-use Rattle.fr_store.proofs.ReleasedLaws.{conserved_by, conserved_on, conserved_same, room_left, rose_by_all}
+use Rattle.fr_store.proofs.HeldOrReleased.{conserved_by, conserved_on, conserved_same, room_left, rose_by_all}
 
 -- At first no child is released.
 pub pruning_none : {n : ℕ} {store : List ℕ} (slots : List Slot) (ledger : List ℕ) → IsRooted (heap_of slots) n → IsKept store slots
@@ -86,11 +86,11 @@ module _ {i n : ℕ} {store : List ℕ} {start mid : List Slot} {ledger now : Li
   pub closed_last : i ≡ length (cells_found (heap_of start n)) → IsClosed (body_in so_far.rooted.plot)
   closed_last all =
       subst IsClosed so_far.rooted.body (closed_by so_far.rooted.found.body (λ j h.
-      sym (ap (λ (o : Option Node). slot_at (cells_found o) j) so_far.rooted.here) ∙ so_far.none j
+      sym (ap (λ (o : Option Node). slot_in_cells (cells_found o) j) so_far.rooted.here) ∙ so_far.none j
       (let long = ap (λ (o : Option Node). length (cells_found o)) so_far.rooted.here in omega (arith, all, so_far.count))))
 
   -- a child that is in no slot
-  pub pruning_skips : slot_at (cells_found (heap_of mid n)) i ≡ None → Pruning (suc i) n store start mid ledger now
+  pub pruning_skips : slot_in_cells (cells_found (heap_of mid n)) i ≡ None → Pruning (suc i) n store start mid ledger now
   pruning_skips slotless = record {
     rooted = so_far.rooted;
     left = so_far.left;
@@ -102,12 +102,12 @@ module _ {i n : ℕ} {store : List ℕ} {start mid : List Slot} {ledger now : Li
     count = so_far.count;
   }
     where
-      none : (j : ℕ) → j < suc i → (j ≡ i) ⊎ (j ≢ i) → slot_at (cells_found (heap_of mid n)) j ≡ None
-      none j h (inl e) = ap (slot_at (cells_found (heap_of mid n))) e ∙ slotless
+      none : (j : ℕ) → j < suc i → (j ≡ i) ⊎ (j ≢ i) → slot_in_cells (cells_found (heap_of mid n)) j ≡ None
+      none j h (inl e) = ap (slot_in_cells (cells_found (heap_of mid n))) e ∙ slotless
       none j h (inr ne) = so_far.none j (omega arith)
 
   -- one that is in a slot
-  module _ (m : ℕ) (found : slot_at (cells_found (heap_of mid n)) i ≡ Some m) where
+  module _ (m : ℕ) (found : slot_in_cells (cells_found (heap_of mid n)) i ≡ Some m) where
     child : Child (heap_of mid) n i m
     child = child_of so_far.rooted i m found
 

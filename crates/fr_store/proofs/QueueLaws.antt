@@ -1,11 +1,11 @@
 -- A list of stored places as it is written down: what is in it, which places wait, and where the next open one comes.
 use Rattle.std.proofs.Common.{◌≡◌, ◌≢◌, ◌⊎◌, ℕ, ◌+◌, ◌<◌, ◌≤◌, Bool, true, false, cond, List, [], ◌∷◌, ◌++◌, map, length, length-append, get_or, append_assoc, inl, inr, refl, sym, ◌∙◌, ap, subst, arith}
-use Rattle.fr_store.specs.Common.{All, AreOnce, ComesEarlier, Contains, IsPlaced, IsSpread, IsStoredHere, Kid, Leads, Pairs, Place, filter, kid_at, slot_at, stored_here, uses}
+use Rattle.fr_store.specs.Common.{All, AreOnce, ComesEarlier, Contains, IsPlaced, IsSpread, IsStoredHere, Kid, LeadsUnstored, Pairs, Place, filter, kid_at, slot_at, stored_here, uses}
 use Rattle.std.proofs.lemmas.List.{append-nil, length-map, map-append}
 use Rattle.std.proofs.lemmas.List.Elements.{All-nil, All-append, All-contains, All-filter, All-head, All-tail, filter-append, filter_passes}
 use Rattle.fr_store.proofs.EarlierLaws.{earlier_differs}
 use Rattle.fr_store.proofs.PairLaws.{filter_all, in_filter, of_map, pairs_filter, parts}
-use Rattle.fr_store.proofs.PlaceLaws.{behind, leads_here, open_unstored, slots_once}
+use Rattle.fr_store.proofs.PlacesInSlots.{behind, leads_here, open_unstored, slots_once}
 use Rattle.fr_store.proofs.SpreadLaws.{AreChildren, AreClosed, AreOpenAt, IsSpreading, all_reached, p_placed, spreads_on, spreads_root}
 
 -- those of these places that are stored
@@ -60,7 +60,7 @@ among_by : (k : Kid) (p : Place) (rest : List Place) (b : Bool) → stored_here 
 among_by k p rest b e = ap (λ (c : Bool). cond c (p ∷ stored_among k rest) (stored_among k rest)) e
 
 -- The root waits.
-pub queue_starts : (k : Kid) (cursor : Place) → Leads cursor k → IsQueue k cursor [] 0 0 0
+pub queue_starts : (k : Kid) (cursor : Place) → LeadsUnstored cursor k → IsQueue k cursor [] 0 0 0
 queue_starts k cursor leads = record {
   done = [];
   waiting = [] ∷ [];
@@ -231,7 +231,7 @@ module _ {k : Kid} {cursor : Place} {queue : List ℕ} {head opened at : ℕ} (q
       go (inl over) = let e = over.0 in absurd (omega arith)
       go (inr o) = o
 
-  module _ (leads : Leads cursor k) (o : OpenAhead k cursor q.waiting head opened at) (now : head ≡ at) where
+  module _ (leads : LeadsUnstored cursor k) (o : OpenAhead k cursor q.waiting head opened at) (now : head ≡ at) where
     o_waits : q.waiting ≡ o.above ∷ o.after
     o_waits = go o.before refl
       where
@@ -240,7 +240,7 @@ module _ {k : Kid} {cursor : Place} {queue : List ℕ} {head opened at : ℕ} (q
         go (p ∷ before) e = let long = ap (λ (l : List Place). length l) e in absurd (omega (arith, o.here))
 
     unstored : stored_here (kid_at o.above k) ≡ false
-    unstored = open_unstored o.above o.below k (subst (λ (c : Place). Leads c k) o.on_way leads)
+    unstored = open_unstored o.above o.below k (subst (λ (c : Place). LeadsUnstored c k) o.on_way leads)
 
     same_head : head ≡ head + length (stored_among k (o.above ∷ []))
     same_head = let none = ap (λ (l : List Place). length l) (among_by k o.above [] false unstored) in omega arith
@@ -286,7 +286,7 @@ module _ {k : Kid} {cursor : Place} {queue : List ℕ} {head opened at : ℕ} (q
             (sym (more_among k open_at.front ((o.above ++ j ∷ []) ∷ open_at.back) ∙ ap (λ (l : List Place). l ++ stored_among
             k ((o.above ++ j ∷ []) ∷ open_at.back)) (all_among k open_at.front open_at.front_stored) ∙ ap (λ (l : List Place).
             open_at.front ++ l) (among_by k (o.above ++ j ∷ []) open_at.back false (open_unstored (o.above ++ j ∷ []) below k
-            (subst (λ (c : Place). Leads c k) way leads)) ∙ all_among k open_at.back open_at.back_stored)))
+            (subst (λ (c : Place). LeadsUnstored c k) way leads)) ∙ all_among k open_at.back open_at.back_stored)))
 
         -- all that was written is done, or comes after the open place
         behind_it : length queue ≡ head + length o.after

@@ -1,7 +1,7 @@
 -- Laws of pointers to slices, for proofs: the top, an open one, is closed, or a closed one opened.
 use Rattle.std.proofs.Common.{◌≡◌, ◌≤◌, ℕ, suc, false, List, [], ◌∷◌, refl, sym, ◌∙◌, ap, subst, arith}
 use Rattle.fr_store.specs.Common.{AllStayPut, AreLeftAll, Heap, Holds, HoldsAll, IsBegunSlice, IsLast, IsLeftRightly, IsOpen, IsOpenAt, IsSlice, ItemsKind, KeepsChildren, Kid, Kids, LosesNone, MayHave, NodeId, Place, Plan, Plot, SameMarks, Shows, Slot, Top, Tracker, Tree, as_items, at, base_of_tracker, begun_as, begun_plot, body_in, change_at, child_node, child_owner, cursor_in, entered_plot, entry_of, heap_of, kid, kid_here, marked_body, no_kids, open_reach, open_top, reformed, stored_in, top_changed, top_stands, tree_change_at, tree_here, tree_in, tree_in_slots, tree_of, tree_of_at, tree_put_at, whole_plot, with_body}
-use Rattle.fr_store.proofs.StayLaws.{stay_all, stay_shown}
+use Rattle.fr_store.proofs.PlacesBeside.{stay_all, stay_shown}
 
 abbrev pub reformed_plot : Tracker → Plot → Plot
 reformed_plot tracker entered_plot = entered_plot

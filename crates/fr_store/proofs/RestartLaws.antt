@@ -1,8 +1,8 @@
 -- The top is begun anew, after all that is stored beneath it was released.
 use Rattle.std.proofs.Common.{◌≡◌, ℕ, List, sym, ◌∙◌, ap, subst}
 use Rattle.fr_store.specs.Common.{Cell, IsLast, IsOpen, IsPruned, MayHave, Plan, Plot, Shows, Slot, Tracker, Trees, base_of_tracker, begun, begun_body, begun_plot, beneath, body_in, heap_of, holes, pruned, restarted, with_body}
-use Rattle.fr_store.proofs.BeginLaws.{gones, gones_cells, gones_left, gones_may, gones_trees, gones_unplaced}
-use Rattle.fr_store.proofs.SetLaws.{IsSetTo, is_set}
+use Rattle.fr_store.proofs.BeginningTops.{gones, gones_cells, gones_left, gones_may, gones_trees, gones_unplaced}
+use Rattle.fr_store.proofs.WholeTops.{IsSetTo, is_set}
 
 abbrev anew : Tracker → ℕ → Plot
 anew tracker count = begun_plot tracker (gones count)

@@ -4,8 +4,8 @@ use Rattle.fr_store.specs.Common.{AllMarkedAmong, AreLeftAll, AreUnplaced, Cell,
 use Rattle.fr_shape.specs.Same.{same}
 use Rattle.fr_model.specs.Collections.{and_item, has_same, is_set_tracker, without_nth}
 use Rattle.fr_values.specs.Cells.{and_item_cell, has_same_cell, without_cell}
-use Rattle.fr_store.proofs.ItemLaws.{kids_and_last, trees_and_last}
-use Rattle.fr_store.proofs.StayLaws.{closed_below, none_below, not_placed}
+use Rattle.fr_store.proofs.ItemsOfTops.{kids_and_last, trees_and_last}
+use Rattle.fr_store.proofs.PlacesBeside.{closed_below, none_below, not_placed}
 
 -- Children: one goes, and a value comes unless it is there.
 

@@ -1,15 +1,15 @@
 -- The stored children of one place among sorted stored places.
 use Rattle.std.proofs.Common.{◌≡◌, ◌≢◌, ◌⊎◌, ℕ, suc, ◌+◌, ◌-◌, ◌<◌, ◌≤◌, true, false, List, [], ◌∷◌, ◌++◌, map, length, length-append, get_or, nat_eq, append_assoc, inl, inr, refl, sym, ◌∙◌, ap, subst, arith}
-use Rattle.fr_store.specs.Common.{All, AreAllStored, AreOnce, ComesEarlier, Contains, IsNarrow, IsNonDecreasingBy, IsPlaced, IsStoredChildOf, IsStoredHere, Kid, Leads, Pairs, Place, StoredPlace, at, begun_plot, counts_if, counts_same, filter, first_key, is_between, key_of, kid_at, order_below, same_front, same_last, same_or_other, slot_at, slot_of, slots_between, slots_of, stored_here, uses}
+use Rattle.fr_store.specs.Common.{All, AreAllStored, AreOnce, ComesEarlier, Contains, IsNarrow, IsNonDecreasingBy, IsPlaced, IsStoredChildOf, IsStoredHere, Kid, LeadsUnstored, Pairs, Place, StoredPlace, at, begun_plot, counts_if, counts_same, filter, first_key, is_between, key_of, kid_at, order_below, same_front, same_last, same_or_other, slot_at, slot_of, slots_between, slots_of, stored_here, uses}
 use Rattle.std.proofs.lemmas.List.{map-append}
 use Rattle.std.proofs.lemmas.List.Elements.{All-cons, All-append, All-contains, All-contains_itself, All-filter, All-head, All-map, All-tail, filter_passes, Contains-append_left, Contains-append_right, Contains-get_or}
 use Rattle.fr_store.specs.PlaceOrder.{IsAfterBelow, child_of}
 use Rattle.fr_store.proofs.EarlierLaws.{siblings}
 use Rattle.fr_store.proofs.PairLaws.{first_in, later_in, in_counted, in_filter, in_map, of_map, pairs_append, pairs_filter, pairs_map, pairs_weaker}
-use Rattle.fr_store.proofs.PlaceLaws.{open_unstored, placed_above, same_place, stored_or_open}
-use Rattle.fr_store.proofs.RunLaws.{between_is, between_told}
+use Rattle.fr_store.proofs.PlacesInSlots.{open_unstored, placed_above, same_place, stored_or_open}
+use Rattle.fr_store.proofs.KeyRanges.{between_is, between_told}
 use Rattle.fr_store.proofs.SpreadLaws.{AreChildren, AreClosed, AreOpenAt, IsChild}
-use Rattle.fr_store.proofs.StepLaws.{either_less, order_later, order_small, order_told}
+use Rattle.fr_store.proofs.StepOrder.{either_less, order_later, order_small, order_told}
 
 -- Where a child comes.
 
@@ -288,7 +288,7 @@ module _ {k : Kid} {places : List StoredPlace} (are : AreSorted k places) (p : P
     }
 
 -- Which children are open.
-module _ (k : Kid) (cursor : Place) (leads : Leads cursor k) (p : Place) where
+module _ (k : Kid) (cursor : Place) (leads : LeadsUnstored cursor k) (p : Place) where
   -- all are stored but one on the way
   stored_unless : (i : ℕ) → IsPlaced k (p ++ i ∷ []) → ((below : Place) → cursor ≡ p ++ i ∷ below → ⊥) → IsStoredHere k (p ++ i ∷ [])
   stored_unless i child off = go (stored_or_open cursor (p ++ i ∷ []) k leads child.reaches child.here)
@@ -301,7 +301,7 @@ module _ (k : Kid) (cursor : Place) (leads : Leads cursor k) (p : Place) where
   pub none_of_stored : IsStoredHere k p → (i : ℕ) → IsPlaced k (p ++ i ∷ []) → IsStoredHere k (p ++ i ∷ [])
   none_of_stored st i child =
       stored_unless i child (λ below e.
-      let no : false ≡ true = sym (open_unstored p (i ∷ below) k (subst (λ (c : Place). Leads c k) e leads)) ∙ st in
+      let no : false ≡ true = sym (open_unstored p (i ∷ below) k (subst (λ (c : Place). LeadsUnstored c k) e leads)) ∙ st in
       cc)
 
   -- nor has the last place on the stack

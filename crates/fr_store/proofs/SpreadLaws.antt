@@ -5,7 +5,7 @@ use Rattle.std.proofs.lemmas.List.{append-nil}
 use Rattle.std.proofs.lemmas.List.Elements.{All-nil, All-cons, All-head, All-append, All-contains, Contains-append_left, Contains-append_right, Contains-push, Contains-push_cases}
 use Rattle.fr_store.proofs.EarlierLaws.{children_earlier, root_earlier}
 use Rattle.fr_store.proofs.PairLaws.{all_right, first_in, pairs_append, pairs_cross, parts}
-use Rattle.fr_store.proofs.PlaceLaws.{placed_above}
+use Rattle.fr_store.proofs.PlacesInSlots.{placed_above}
 
 -- a child of a place
 abbrev pub IsChild : (above place : Place) → Type 0

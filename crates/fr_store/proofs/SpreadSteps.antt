@@ -1,15 +1,15 @@
 -- The steps of the loop that writes down all stored places.
 use Rattle.std.proofs.Common.{◌≡◌, ◌≢◌, ◌⊎◌, ℕ, ◌+◌, ◌<◌, ◌≤◌, List, [], ◌∷◌, ◌++◌, length, length-append, get_or, map, slice_get, take, append_assoc, append-nil, Some, inl, inr, refl, sym, ◌∙◌, ap, subst, arith}
-use Rattle.fr_store.specs.Common.{AreAllStored, Contains, HasOwner, IsKeyOf, IsNonDecreasingBy, IsOpened, IsPlaced, IsSomeAnd, IsSpread, IsStoredChildOf, Kid, Leads, Node, Place, Slot, SlotId, StoredPlace, cursor_shown, first_key, heap_of, key_of, kid_shown, numbers, slot_at, slot_of, slots_along, slots_between, slots_of}
+use Rattle.fr_store.specs.Common.{AreAllStored, Contains, HasOwner, IsKeyOf, IsNonDecreasingBy, IsOpened, IsPlaced, IsSomeAnd, IsSpread, IsStoredChildOf, Kid, LeadsUnstored, Node, Place, Slot, SlotId, StoredPlace, cursor_shown, first_key, heap_of, key_of, kid_shown, numbers, slot_at, slot_of, slots_along, slots_between, slots_of}
 use Rattle.std.proofs.lemmas.List.{get_or-take, length-map, length-take-le}
 use Rattle.std.proofs.lemmas.List.Elements.{All-contains}
 use Rattle.std.proofs.lemmas.Option.{none-some, slice_get-get_or, slice_get_past}
 use Rattle.fr_store.specs.Numbers.{number_of}
 use Rattle.fr_store.specs.PlaceOrder.{child_of}
 use Rattle.fr_store.proofs.PairLaws.{fits, in_map, of_map}
-use Rattle.fr_store.proofs.PlaceLaws.{along_long, along_nth, open_placed, open_unstored}
+use Rattle.fr_store.proofs.PlacesInSlots.{along_long, along_nth, open_placed, open_unstored}
 use Rattle.fr_store.proofs.QueueLaws.{FirstStored, IsQueue, OpenAhead, ahead_now, all_written, first_placed, first_read, first_stored, first_within, last_next, open_next, queue_starts, stored_next, written_of, written_once}
-use Rattle.fr_store.proofs.RunLaws.{between_none}
+use Rattle.fr_store.proofs.KeyRanges.{between_none}
 use Rattle.fr_store.proofs.SiblingLaws.{AreSorted, closed_children, none_of_last, none_of_stored, one_of_open, open_children}
 use Rattle.fr_store.proofs.SpreadLaws.{AreClosed}
 use Rattle.fr_store.proofs.StoredLaws.{child_key, child_owned}
@@ -41,7 +41,7 @@ module _ {slots : List Slot} {stack : List ℕ} {places : List StoredPlace} {ord
   abbrev cursor : Place
   cursor = cursor_shown (heap_of slots) stack
 
-  leads : Leads (cursor_shown (heap_of slots) stack) (kid_shown (heap_of slots) stack)
+  leads : LeadsUnstored (cursor_shown (heap_of slots) stack) (kid_shown (heap_of slots) stack)
   leads = s.builder.is_open.stands.leads
 
   stack_long : length stack ≡ length (cursor_shown (heap_of slots) stack) + 1
@@ -114,15 +114,15 @@ module _ {slots : List Slot} {stack : List ℕ} {places : List StoredPlace} {ord
     way_long = ap (λ (l : Place). length l) o.on_way ∙ length-append o.above o.below
 
     placed : IsPlaced (kid_shown (heap_of slots) stack) o.above
-    placed = open_placed o.above o.below (subst (λ (c : Place). Leads c k) o.on_way leads)
+    placed = open_placed o.above o.below (subst (λ (c : Place). LeadsUnstored c k) o.on_way leads)
 
     -- the next one on the stack
     module _ (j : ℕ) (below : Place) (e : o.below ≡ j ∷ below) where
       way : cursor_shown (heap_of slots) stack ≡ (o.above ++ j ∷ []) ++ below
       way = o.on_way ∙ ap (λ (l : Place). o.above ++ l) e ∙ sym (append_assoc o.above (j ∷ []) below)
 
-      next_leads : Leads ((o.above ++ j ∷ []) ++ below) k
-      next_leads = subst (λ (c : Place). Leads c k) way leads
+      next_leads : LeadsUnstored ((o.above ++ j ∷ []) ++ below) k
+      next_leads = subst (λ (c : Place). LeadsUnstored c k) way leads
 
       next_placed : IsPlaced k (o.above ++ j ∷ [])
       next_placed = open_placed (o.above ++ j ∷ []) below next_leads
@@ -167,7 +167,7 @@ module _ {slots : List Slot} {stack : List ℕ} {places : List StoredPlace} {ord
       slot_is : n ≡ slot_at k o.above
       slot_is =
           read ∙ ap (λ (l : List ℕ). get_or l opened 0) (s.builder.is_open.stands.along ∙ ap (λ (c : Place). slots_along c k) o.on_way)
-          ∙ along_nth o.above o.below k 0 (subst (λ (c : Place). Leads c k) o.on_way leads) o.number
+          ∙ along_nth o.above o.below k 0 (subst (λ (c : Place). LeadsUnstored c k) o.on_way leads) o.number
 
       open_then : IsQueue k cursor (take count order ++ (before ++ after)) head (opened + 1) (count + length before)
       open_then = go o.below refl

@@ -1,8 +1,8 @@
 -- Laws of leaving the top half done, for proofs: it is stored as it is, and the place above is on top.
 use Rattle.std.proofs.Common.{◌≡◌, ◌↔◌, ℕ, zero, suc, ◌<◌, Bool, true, false, List, [], ◌∷◌, ◌++◌, append-nil, Option, Some, None, IfSome, IsNone, refl, sym, ◌∙◌, ap, subst, arith}
-use Rattle.fr_store.specs.Common.{AllMarked, AllMarkedAmong, AllStayPut, AreLeftAll, AreLeftRightly, Heap, IsLast, IsOpen, IsOpenAt, IsThere, Kid, Kids, Leads, Place, Plan, Reaches, Shows, Slot, SlotId, Stands, StoredBut, Top, Tracker, above_append, along_put_at, at, at_for_at, begun_plot, below_root, count_kids, cursor_in, entered_plot, gone, heap_of, is_root, kid, kid_at, kid_at_append, kid_here, kid_nth, kid_shown, leads_at, leads_put_at, leads_reach, left_as, left_at, left_nth, left_put_at, left_put_nth, marked, no_kids, put_append, put_at, put_nth, same_front, same_last, slots_above, slots_along, stands_reach, stored_in, takes_at_end, takes_at_end_as, there, top_found, top_of, tree_at, tree_in_slots, tree_of, tree_of_at, up, up_append, whole_plot, with_mark}
+use Rattle.fr_store.specs.Common.{AllMarked, AllMarkedAmong, AllStayPut, AreLeftAll, AreLeftRightly, Heap, IsLast, IsOpen, IsOpenAt, IsThere, Kid, Kids, LeadsUnstored, Place, Plan, Reaches, Shows, Slot, SlotId, Stands, StoredBut, Top, Tracker, above_append, along_put_at, at, at_for_at, begun_plot, below_root, count_kids, cursor_in, entered_plot, gone, heap_of, is_root, kid, kid_at, kid_at_append, kid_here, kid_nth, kid_shown, leads_at, leads_put_at, leads_reach, left_as, left_at, left_nth, left_put_at, left_put_nth, marked, no_kids, put_append, put_at, put_nth, same_front, same_last, slots_above, slots_along, stands_reach, stored_in, takes_at_end, takes_at_end_as, there, top_found, top_of, tree_at, tree_in_slots, tree_of, tree_of_at, up, up_append, whole_plot, with_mark}
 use Rattle.fr_store.specs.MoveLaws.{top_node}
-use Rattle.fr_store.proofs.MarkLaws.{open_marked}
+use Rattle.fr_store.proofs.MarkedAnew.{open_marked}
 
 -- all are stored where the one is that wasn't
 pub all_stored : (i : ℕ) (Below : Kid → Type 0) (new : Kid) (ks : Kids) → StoredBut i Below ks → AllMarked true new
@@ -19,12 +19,12 @@ pub record Parent (above : Place) (i : ℕ) (k : Kid) : Type 0 where
   pub is : kid_at above k ≡ at slot false (begun_plot tracker kids)
   pub within : i < count_kids kids
   pub child : kid_at (above ++ i ∷ []) k ≡ kid_nth i kids
-  pub others : StoredBut i (λ below. Leads [] below) kids
+  pub others : StoredBut i (λ below. LeadsUnstored [] below) kids
 
-pub parent_of : (above : Place) (i : ℕ) (k : Kid) → Leads (above ++ i ∷ []) k → Parent above i k
+pub parent_of : (above : Place) (i : ℕ) (k : Kid) → LeadsUnstored (above ++ i ∷ []) k → Parent above i k
 parent_of above i k leads = go (kid_at above k) refl (leads_at above (i ∷ []) k leads)
   where
-    go : (x : Kid) → kid_at above k ≡ x → Leads (i ∷ []) x → Parent above i k
+    go : (x : Kid) → kid_at above k ≡ x → LeadsUnstored (i ∷ []) x → Parent above i k
     go gone e l = absurd l
     go (there v) e l = absurd l
     go (at slot stored entered_plot) e l = absurd l.1
@@ -68,11 +68,11 @@ module _ {plan : Plan} {heap : Heap} {stack : List ℕ} {above : Place} {i : ℕ
       (λ h there. there)) (subst
       (λ (x : Kid). AreLeftRightly x) child (left_nth found.tracker 0 i i found.kids (omega arith) among)) among) stands.left)
 
-  leads_stored : Leads above (put_at (above ++ i ∷ []) stored_top k)
+  leads_stored : LeadsUnstored above (put_at (above ++ i ∷ []) stored_top k)
   leads_stored =
-      subst (λ (x : Kid). Leads above x) (sym above_is) (subst (λ (p : Place). Leads p (put_at above stored_above k)) (append-nil above)
+      subst (λ (x : Kid). LeadsUnstored above x) (sym above_is) (subst (λ (p : Place). LeadsUnstored p (put_at above stored_above k)) (append-nil above)
       (leads_put_at above (i ∷ []) [] stored_above k stands.leads
-      (refl, all_stored i (λ below. Leads [] below) stored_top found.kids found.others (refl, top.stored))))
+      (refl, all_stored i (λ below. LeadsUnstored [] below) stored_top found.kids found.others (refl, top.stored))))
 
   along_stored : slots_above (above ++ i ∷ []) k ≡ slots_along above (put_at (above ++ i ∷ []) stored_top k)
   along_stored =

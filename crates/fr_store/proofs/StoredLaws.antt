@@ -8,7 +8,7 @@ use Rattle.std.proofs.lemmas.List.Sorted.{All-permutation, Contains-permutation,
 use Rattle.std.proofs.lemmas.List.Sums.{sum_by-cons}
 use Rattle.fr_store.specs.PlaceOrder.{order_at}
 use Rattle.fr_store.proofs.PairLaws.{in_map}
-use Rattle.fr_store.proofs.PlaceLaws.{mark_at, open_unstored, place_of, placed_above, placed_child}
+use Rattle.fr_store.proofs.PlacesInSlots.{mark_at, open_unstored, place_of, placed_above, placed_child}
 
 -- The owner of a child.
 

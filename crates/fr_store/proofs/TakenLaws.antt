@@ -3,7 +3,7 @@ use Rattle.std.proofs.Common.{◌≡◌, ℕ, zero, suc, ◌≤◌, List, [], �
 use Rattle.fr_store.specs.Common.{Conserved, FillsAt, IfInUse, IsOpen, IsSome, IsSomeAnd, Meanings, Node, Plan, Room, Room_fewer, Room_same, SameTokens, Slot, Table, body_occurs, deferred_column, heap_of, is_some, node_of, slots_occur, slots_tokens, tokens_in, value_of}
 use Rattle.fr_frame.specs.Closed.{IsClosedAt}
 use Rattle.fr_store.specs.TopLaws.{slot_here}
-use Rattle.fr_store.proofs.ReleasedLaws.{room_left}
+use Rattle.fr_store.proofs.HeldOrReleased.{room_left}
 
 -- a place in a slot has no token oftener than all slots
 pub held_in : (slots : List Slot) (n : ℕ) {found : Node} (t : ℕ) → heap_of slots n ≡ Some found

@@ -8,7 +8,7 @@ use Rattle.fr_store.specs.LeaveLaws.{below_root, kid_at_append, may_have_put, ow
 use Rattle.fr_store.proofs.OffLaws.{beneath_or_not, marked_off, way_off, off_stored, reaches_append}
 use Rattle.fr_store.specs.Stands.{Stands}
 use Rattle.fr_store.specs.TopLaws.{body_here, body_other, closed_uses, slot_here, slot_other}
-use Rattle.fr_store.specs.Ways.{count_kids, kid_nth, kid_at, put_nth, put_at, counts_if, uses, uses_in, uses_among, slots_above, slots_along, AllMarked, Leads, Reaches, node_along, owner_along, owner_below}
+use Rattle.fr_store.specs.Ways.{count_kids, kid_nth, kid_at, put_nth, put_at, counts_if, uses, uses_in, uses_among, slots_above, slots_along, AllMarked, LeadsUnstored, Reaches, node_along, owner_along, owner_below}
 use Rattle.fr_store.specs.WayLaws.{along_at, along_put_at, leads_at, leads_put_at, leads_reach, counts_own, counts_same, put_nth_twice, same_or_other, uses_at, uses_nth, uses_put_at}
 
 -- One slot after another.
@@ -282,7 +282,7 @@ module _ {plan : Plan} {heap : Heap} {stack : List ℕ} {cursor : Place} {k : Ki
           go (inl ([], e)) = inr (e ∙ append-nil over.above)
           go (inl (j ∷ way, e)) =
               let reached = reaches_append over.above (j ∷ way) k (subst (λ (p : Place). Reaches p k) e (leads_reach cursor [] k
-              (subst (λ (p : Place). Leads p k) (sym (append-nil cursor)) stands.leads))) in
+              (subst (λ (p : Place). LeadsUnstored p k) (sym (append-nil cursor)) stands.leads))) in
               let below = subst (Reaches (j ∷ way)) over.is reached.1 in
               let same : j ≡ over.i = omega (arith, below.0, alone, first_child) in
               absurd (due_off way (e ∙ ap (λ (x : ℕ). over.above ++ x ∷ way) same
@@ -338,14 +338,14 @@ module _ {plan : Plan} {heap : Heap} {stack : List ℕ} {cursor : Place} {k : Ki
               now_whole (Some x) = Some (record x { body = whole_body w })
               now_whole None = None
 
-          at_work : cursor ≡ over.above → Leads over.above (put_at over.above (at over.slot over.mark (whole_plot w)) k)
+          at_work : cursor ≡ over.above → LeadsUnstored over.above (put_at over.above (at over.slot over.mark (whole_plot w)) k)
               × (slots_along over.above (put_at over.above (at over.slot over.mark (whole_plot w)) k) ≡ slots_along over.above k)
           at_work e =
               let now : Kid = at over.slot over.mark (whole_plot w) in
-              let longer : Leads (over.above ++ []) k
-              = subst (λ (p : Place). Leads p k) (e ∙ sym (append-nil over.above)) stands.leads in
-              let here = subst (Leads []) over.is (leads_at over.above [] k longer) in (
-                subst (λ (p : Place). Leads p (put_at over.above now k)) (append-nil over.above)
+              let longer : LeadsUnstored (over.above ++ []) k
+              = subst (λ (p : Place). LeadsUnstored p k) (e ∙ sym (append-nil over.above)) stands.leads in
+              let here = subst (LeadsUnstored []) over.is (leads_at over.above [] k longer) in (
+                subst (λ (p : Place). LeadsUnstored p (put_at over.above now k)) (append-nil over.above)
                     (leads_put_at over.above [] [] now k longer (here.0, tt)),
                 subst (λ (p : Place). slots_along p (put_at over.above now k) ≡ slots_along p k) (append-nil over.above)
                     (along_put_at over.above [] now k over.reach ∙ sym (along_at over.above [] k over.reach
@@ -353,11 +353,11 @@ module _ {plan : Plan} {heap : Heap} {stack : List ℕ} {cursor : Place} {k : Ki
               )
 
           on_way : IsOffTheWay cursor over.above ⊎ (cursor ≡ over.above)
-              → Leads cursor (put_at over.above (at over.slot over.mark (whole_plot w)) k)
+              → LeadsUnstored cursor (put_at over.above (at over.slot over.mark (whole_plot w)) k)
               × (slots_along cursor (put_at over.above (at over.slot over.mark (whole_plot w)) k) ≡ slots_along cursor k)
           on_way (inl off) =
               let marked = subst (AllMarked true) over.is (marked_off cursor over.above k stands.leads off over.reach) in
               way_off cursor over.above (at over.slot over.mark (whole_plot w)) k stands.leads off over.reach (marked.0, tt)
           on_way (inr e) =
-              subst (λ (p : Place). Leads p (put_at over.above (at over.slot over.mark (whole_plot w)) k)
+              subst (λ (p : Place). LeadsUnstored p (put_at over.above (at over.slot over.mark (whole_plot w)) k)
               × (slots_along p (put_at over.above (at over.slot over.mark (whole_plot w)) k) ≡ slots_along p k)) (sym e) (at_work e)

@@ -9,7 +9,7 @@ use Rattle.fr_frame.specs.Converting.{conversion_above, conversion_in, conversio
 use Rattle.fr_model.specs.Conversions.{refusal_through}
 use Rattle.fr_values.specs.Cells.{given}
 use Rattle.fr_store.proofs.ClosingLaws.{closes_with, completes_still, shape_append, tree_append}
-use Rattle.fr_store.proofs.ConvertLaws.{converted_makes, none_converted, one_cell, some_converted, target_of, unconverted_lacks}
+use Rattle.fr_store.proofs.MadeConversions.{converted_makes, none_converted, one_cell, some_converted, target_of, unconverted_lacks}
 use Rattle.fr_store.proofs.DoneKids.{converts_is, up_is}
 use Rattle.fr_store.proofs.FailTurns.{Converts, converts_of, turn_itself, turn_source}
 use Rattle.fr_store.proofs.PlainLaws.{plain_at, plot_plain}

@@ -3,8 +3,8 @@ use Rattle.std.proofs.Common.{◌≡◌, ℕ, ◌≤◌, true, Bool, List, [], �
 use Rattle.fr_store.specs.Common.{All, AreLeftRightly, AreStoredAt, ComesEarlier, FrameOwner, Heap, Holds, IsHere, IsPlaced, IsSpread, IsStoredAt, IsStoredHere, IsWalk, Kid, NodeId, Place, Plan, Plot, at, kid_at, slot_at, slot_here, stored_here, uses}
 use Rattle.std.proofs.lemmas.List.Elements.{All-head, All-tail}
 use Rattle.fr_store.proofs.EarlierLaws.{in_walk_order}
-use Rattle.fr_store.proofs.PlaceLaws.{same_place}
-use Rattle.fr_store.proofs.StepLaws.{IsByTheWay}
+use Rattle.fr_store.proofs.PlacesInSlots.{same_place}
+use Rattle.fr_store.proofs.StepOrder.{IsByTheWay}
 use Rattle.fr_store.proofs.PairLaws.{all_reverse, in_reverse, map_reverse, pairs_reverse}
 
 -- a stored place lies there

@@ -1,6 +1,6 @@
 -- Laws of a walk, for proofs: it begins, goes on by a turn, is refused, or comes to its end.
 use Rattle.std.proofs.Common.{◌≡◌, ◌≢◌, ◌⊎◌, ◌+◌, ◌<◌, drop, length, ℕ, true, false, List, [], ◌∷◌, ◌++◌, append-nil, append_assoc, get_or, Some, None, inl, inr, refl, sym, ◌∙◌, ap, subst}
-use Rattle.fr_store.specs.Common.{All, AreInWalkOrder, AreStoredAt, Contains, EachFailureHasItsPlace, Failure, FinishesOrRefuses, FirstByWalkIs, HasPlace, HasTurned, IsChecked, IsHeldUp, IsLackingAt, IsLawful, IsOpen, IsStoredAt, IsSuited, IsWalk, KeepsTheRest, LackingFails, Leads, MayTurn, Meanings, Place, Plan, ReflectErrorKind, Slot, StoppedByTurns, Table, Tree, Val, Walked, change_at, closed_at, cursor_in, deferred_column, done_at, failures_off, finished, first_by_walk, heap_of, kind_of, leads_reach, marked, own_lack, root_shape, same_or_other, shape_in, steps_in, stored_in, tree_at, tree_in_slots, turn_of, whole}
+use Rattle.fr_store.specs.Common.{All, AreInWalkOrder, AreStoredAt, Contains, EachFailureHasItsPlace, Failure, FinishesOrRefuses, FirstByWalkIs, HasPlace, HasTurned, IsChecked, IsHeldUp, IsLackingAt, IsLawful, IsOpen, IsStoredAt, IsSuited, IsWalk, KeepsTheRest, LackingFails, LeadsUnstored, MayTurn, Meanings, Place, Plan, ReflectErrorKind, Slot, StoppedByTurns, Table, Tree, Val, Walked, change_at, closed_at, cursor_in, deferred_column, done_at, failures_off, finished, first_by_walk, heap_of, kind_of, leads_reach, marked, own_lack, root_shape, same_or_other, shape_in, steps_in, stored_in, tree_at, tree_in_slots, turn_of, whole}
 use Rattle.std.proofs.lemmas.List.{drop_more}
 use Rattle.std.proofs.lemmas.List.Elements.{All-tail, Contains-get_or}
 use Rattle.fr_model.specs.Complete.{complete}
@@ -228,7 +228,7 @@ module _ {means : Meanings} {table : Table} {plan : Plan} {before : List Slot} {
         has_cursor : HasPlace cursor (closed_at (done_at turned.place tree) turned.value tree)
         has_cursor =
             subst (λ (t : Tree). HasPlace cursor t) turned.stands.built (reach_place cursor (kid_here next stack)
-            (leads_reach cursor [] (kid_here next stack) (subst (λ (p : Place). Leads p (kid_here next stack))
+            (leads_reach cursor [] (kid_here next stack) (subst (λ (p : Place). LeadsUnstored p (kid_here next stack))
             (turned.stands.cursor ∙ walked.cursor ∙ sym (append-nil cursor)) turned.stands.open_still.stands.leads)))
 
         steps_on : steps_in cursor (tree_in_slots next stack) ≡ steps_in cursor tree

@@ -15,7 +15,7 @@ use Rattle.fr_model.specs.Trackers.{is_conversion}
 use Rattle.fr_plan.specs.TypePlan.{Plan}
 use Rattle.fr_frame.specs.declared.places.Slot.{Slot}
 use Rattle.fr_frame.specs.Bodies.{Body, entered_body, whole_body, begun_body, IsClosed}
-use Rattle.fr_values.specs.Cells.{Cell, slot_at}
+use Rattle.fr_values.specs.Cells.{Cell, slot_in_cells}
 use Rattle.fr_frame.specs.Heap.{Node}
 use Rattle.fr_frame.specs.Kids.{Kid}
 use Rattle.fr_store.specs.StackMoves.{cursor_in, tree_here, tree_in_slots, AtTop, IsOpenAt}
@@ -80,7 +80,7 @@ abbrev pub slotted_numbers : (of_map : Bool) → List Cell → (i : ℕ) → Lis
 slotted_numbers of_map cells zero = []
 slotted_numbers of_map cells (suc i) =
     slotted_numbers of_map cells i
-    ++ number_if (slot_at cells (from_last of_map (length cells) i)) (from_last of_map (length cells) i)
+    ++ number_if (slot_in_cells cells (from_last of_map (length cells) i)) (from_last of_map (length cells) i)
 
 abbrev pub slot_if : Option ℕ → ℕ
 slot_if (Some slot) = slot
@@ -88,7 +88,7 @@ slot_if None = 0
 
 -- the slots of those
 abbrev pub slotted : (of_map : Bool) → List Cell → (i : ℕ) → List ℕ
-slotted of_map cells i = map (λ number. slot_if (slot_at cells number)) (slotted_numbers of_map cells i)
+slotted of_map cells i = map (λ number. slot_if (slot_in_cells cells number)) (slotted_numbers of_map cells i)
 
 -- of the place that was found
 

@@ -20,7 +20,7 @@ pub use Rattle.fr_store.specs.Turning.{HasTurned, IsLackingAt, KeepsTheRest, Lac
 pub use Rattle.fr_store.specs.Turns.{IsHeldUp, done_at, root_shape}
 pub use Rattle.fr_store.specs.Walks.{AreInWalkOrder, AreStoredAt, ComesBefore, IsStoredAt, IsWalk}
 pub use Rattle.fr_store.specs.WayLaws.{along_at, along_put_at, count_in, count_put, counts_other, counts_own, counts_same, kid_put_at, leads_at, leads_put_at, leads_reach, marked_at, marked_nth, nth_put, put_at_twice, put_nth_twice, same_or_other, stored_but, tree_change_at, tree_of_at, tree_of_nth, tree_put_at, tree_put_nth, tree_tokens, uses_at, uses_nth, uses_put_at, uses_put_nth}
-pub use Rattle.fr_store.specs.Ways.{AllMarked, AllMarkedAmong, AllMarkedIn, Leads, NoneStored, Reaches, StoredBut, count_kids, counts_if, kid_at, kid_below, kid_in_plot, kid_nth, node_along, owner_along, owner_below, put_at, put_below, put_nth, slots_above, slots_along, uses, uses_among, uses_in}
+pub use Rattle.fr_store.specs.Ways.{AllMarked, AllMarkedAmong, AllMarkedIn, LeadsUnstored, NoneStored, Reaches, StoredBut, count_kids, counts_if, kid_at, kid_below, kid_in_plot, kid_nth, node_along, owner_along, owner_below, put_at, put_below, put_nth, slots_above, slots_along, uses, uses_among, uses_in}
 pub use Rattle.fr_store.specs.declared.turning.StoredPlace.{StoredPlace}
 pub use Rattle.std.specs.Cmp.Lexicographic.{slice_cmp}
 pub use Rattle.std.specs.List.{All, Contains, filter}

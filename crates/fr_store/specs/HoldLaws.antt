@@ -11,7 +11,7 @@ use Rattle.fr_frame.specs.Heap.{Node, Heap, depth_limit, marked, stored_in}
 use Rattle.fr_frame.specs.Kids.{Kid, gone, at, Plot, begun_plot, Kids, no_kids, kid, MayHave, cell_of, cells_in, body_in, kid_in, kids_in, plot_in, kid_by, kid_from, child_node, child_owner, Holds, HoldsIn, HoldsAll}
 use Rattle.fr_store.specs.Stands.{cursor_shown, number_of_owner, number_to}
 use Rattle.fr_store.specs.Walks.{IsStoredAt}
-use Rattle.fr_store.specs.Ways.{count_kids, kid_nth, kid_at, put_nth, put_at, slots_along, uses, uses_in, uses_among, AllMarkedIn, AllMarkedAmong, NoneStored, Leads, Reaches, node_along, owner_along}
+use Rattle.fr_store.specs.Ways.{count_kids, kid_nth, kid_at, put_nth, put_at, slots_along, uses, uses_in, uses_among, AllMarkedIn, AllMarkedAmong, NoneStored, LeadsUnstored, Reaches, node_along, owner_along}
 use Rattle.fr_store.specs.WayLaws.{counts_same, leads_reach, leads_at, uses_nth, uses_at}
 
 -- the other heap has the same under each number that serves in it
@@ -248,7 +248,7 @@ mutual
 
 -- the numbers that the owners tell are the place
 pub numbers_read : (plan : Plan) (heap : Heap) (node : NodeId) (owner : FrameOwner) (depth : ℕ) (place : Place) (k : Kid)
-    → Holds plan heap node owner depth k → Leads place k
+    → Holds plan heap node owner depth k → LeadsUnstored place k
     → cursor_shown heap (slots_along place k) ≡ number_of_owner owner ++ place
 numbers_read plan heap node owner depth [] (at slot stored plot) holds leads =
     ap (λ (found : Option Node). number_to found ++ []) holds.0

@@ -4,7 +4,7 @@ use Rattle.std.specs.Prelude.{if◌then◌else◌}
 use Rattle.std.proofs.lemmas.Grind.{common_steps}
 use Rattle.std.proofs.lemmas.Bool.Decides.{nat_tests}
 use Rattle.fr_store.specs.Below.{Cell, FrameOwner, Kid, Kids, MayHave, Place, Plot, Tracker, absent, at, begun_body, begun_plot, cell_at, cell_of, cells_in, gone, is_root, kid, no_kids, placed, unlinked, unlinked_by, up, with_cell}
-use Rattle.fr_store.specs.Ways.{count_kids, kid_nth, kid_below, kid_at, put_nth, put_below, put_at, slots_above, Leads, owner_along, owner_below}
+use Rattle.fr_store.specs.Ways.{count_kids, kid_nth, kid_below, kid_at, put_nth, put_below, put_at, slots_above, LeadsUnstored, owner_along, owner_below}
 use Rattle.fr_store.specs.WayLaws.{count_put, leads_at}
 
 -- Ways in two parts.
@@ -23,7 +23,7 @@ pub put_append : (place below : Place) (new k : Kid)
 put_append [] below new k = refl
 put_append (i ∷ place) below new k = ap (λ (x : Kid). put_below i x k) (put_append place below new (kid_below i k))
 
-pub above_append : (place : Place) (i : ℕ) (k : Kid) → Leads (place ++ i ∷ []) k → {q : ℕ} {stored : Bool} {plot : Plot}
+pub above_append : (place : Place) (i : ℕ) (k : Kid) → LeadsUnstored (place ++ i ∷ []) k → {q : ℕ} {stored : Bool} {plot : Plot}
     → kid_at place k ≡ at q stored plot → slots_above (place ++ i ∷ []) k ≡ slots_above place k ++ q ∷ []
 above_append [] i (at slot s p) leads {q} e =
     let same : slot ≡ q = cc in ap (λ (n : ℕ). n ∷ []) same

@@ -74,7 +74,7 @@ step_of (as_items ItemsKind.Array) i = list_item_step
 step_of (as_entries (EntriesKind.Object keys)) i = list_item_step
 
 -- what is looked up
-record Leads (plan : Plan) (found : TypePlanNode) (step : Step) (t : ShapeId) : Type 0 where
+record LeadsToShape (plan : Plan) (found : TypePlanNode) (step : Step) (t : ShapeId) : Type 0 where
   node : NodeId
   is : looked_up plan found step ≡ Some node
   shape : shape_at plan node ≡ Some t
@@ -233,13 +233,13 @@ suits_conversion table s tracker first (branch t ts) (suc i) m e all =
 module _ (agree : LookupsAgree) (table : Table) (root : ShapeId) (plan : Plan) (checked : IsChecked table)
     (inside : IsIn table root.0) (planned : IsPlanOf table root plan) where
   looked : (node : NodeId) (found : TypePlanNode) (step : Step) (t : ShapeId) → node_at plan node ≡ Some found
-      → child_in table found.shape step ≡ Some t → Leads plan found step t
+      → child_in table found.shape step ≡ Some t → LeadsToShape plan found step t
   looked node found step t is has =
       go (looked_up plan found step) refl (agree table root plan node found step checked inside planned is
       ∙ ap (option_map (λ (s : ShapeId). Some s)) has)
     where
       go : (x : Option NodeId) → looked_up plan found step ≡ x → option_map (shape_at plan) x ≡ Some (Some t)
-          → Leads plan found step t
+          → LeadsToShape plan found step t
       go (Some id) e h =
           let shape : shape_at plan id ≡ Some t = cc in
           record { node = id; is = e; shape = shape }

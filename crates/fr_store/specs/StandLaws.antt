@@ -6,20 +6,20 @@ use Rattle.fr_frame.specs.Heap.{depth_limit}
 use Rattle.fr_store.specs.HoldLaws.{AgreeBeside, Replaces, numbers_read, replaces_at, read_back}
 use Rattle.fr_store.specs.LeftLaws.{IsLeftAs, left_at, left_put_at}
 use Rattle.fr_store.specs.Stands.{Stands, kid_shown, tree_shown, cursor_shown, IsOpen}
-use Rattle.fr_store.specs.Ways.{kid_at, put_at, slots_along, slots_above, uses, Leads, Reaches}
+use Rattle.fr_store.specs.Ways.{kid_at, put_at, slots_along, slots_above, uses, LeadsUnstored, Reaches}
 use Rattle.fr_store.specs.WayLaws.{leads_reach, leads_put_at, along_put_at, uses_at, uses_put_at}
 
 -- the way leads to what lies at its end
 pub stands_reach : {plan : Plan} {heap : Heap} {stack : List ℕ} {place : Place} {k : Kid} → Stands plan heap stack place k
     → Reaches place k
-stands_reach {place} {k} stands = leads_reach place [] k (subst (λ (p : Place). Leads p k) (sym (append-nil place)) stands.leads)
+stands_reach {place} {k} stands = leads_reach place [] k (subst (λ (p : Place). LeadsUnstored p k) (sym (append-nil place)) stands.leads)
 
 -- One change. What lies at a place on the way is replaced: it stays in its slot, all beside it is as it was, the new is held where
 -- the old was, uses no slot twice and none that serves beside it, the way goes on in it, and nothing of it is stored that may not be.
 pub stands_change : {plan : Plan} {heap : Heap} (other : Heap) {stack next : List ℕ} (place old below : Place) {new k : Kid}
     → Stands plan heap stack (place ++ old) k → cell_of new ≡ cell_of (kid_at place k) → AgreeBeside heap other k (kid_at place k)
     → Replaces plan heap other (kid_at place k) new → ((n : ℕ) → uses k n + uses new n ≤ 1 + uses (kid_at place k) n)
-    → Leads below new → IsLeftAs (kid_at place k) new → (AreLeftRightly (kid_at place k) → AreLeftRightly new)
+    → LeadsUnstored below new → IsLeftAs (kid_at place k) new → (AreLeftRightly (kid_at place k) → AreLeftRightly new)
     → next ≡ slots_above place k ++ slots_along below new → Stands plan other next (place ++ below) (put_at place new k)
 stands_change {plan} {heap} other place old below {new} {k} stands same agree replaces once leads same_as left along =
     let reach = leads_reach place old k stands.leads in
@@ -62,7 +62,7 @@ all_kept heap other place new k reach all from serve =
 
 -- What stands is what is read off slots and stack.
 
-kid_first : (heap : Heap) (place : Place) (k : Kid) → Leads place k
+kid_first : (heap : Heap) (place : Place) (k : Kid) → LeadsUnstored place k
     → kid_shown heap (slots_along place k) ≡ kid_in (kid_from depth_limit heap) (cell_of k)
 kid_first heap [] (at slot stored plot) leads = refl
 kid_first heap [] _ leads = absurd leads

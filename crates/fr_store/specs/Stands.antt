@@ -1,14 +1,14 @@
 -- How slots and a stack of them stand for one tree and the place at which a builder works.
 use Rattle.std.specs.Prelude.{◌≡◌, ℕ, ◌<◌, ◌≤◌, List, [], ◌∷◌, ◌++◌, Option, Some, None, IsSome}
 use Rattle.fr_store.specs.Below.{AreLeftRightly, FrameOwner, Heap, Holds, Kid, Node, Place, Plan, Slot, Tree, gone, heap_of, kid_of, tree_of}
-use Rattle.fr_store.specs.Ways.{slots_along, uses, Leads}
+use Rattle.fr_store.specs.Ways.{slots_along, uses, LeadsUnstored}
 
 -- The heap holds this from the root on, no slot serves twice in it, the way leads to a place and all that is off it is stored,
 -- and the stack is the slots along the way. No item of a set and no part of a dynamic value is stored.
 pub record Stands (plan : Plan) (heap : Heap) (stack : List ℕ) (place : Place) (top : Kid) : Type 0 where
   pub holds : Holds plan heap plan.root FrameOwner.Root 0 top
   pub once : (n : ℕ) → uses top n ≤ 1
-  pub leads : Leads place top
+  pub leads : LeadsUnstored place top
   pub along : stack ≡ slots_along place top
   pub left : AreLeftRightly top
 

@@ -4,7 +4,7 @@ use Rattle.std.specs.Prelude.{IsSome}
 use Rattle.fr_store.specs.Below.{FrameOwner, Heap, Holds, HoldsAll, HoldsIn, Kid, Kids, Node, NodeId, Place, Plan, Plot, Slot, Tracker, at, begun_plot, body_in, body_occurs, cell_occurs, cell_of, cells_in, cells_occur, child_node, child_owner, entered_plot, gone, heap_of, kid, kid_occurs, kids_occur, no_kids, node_in, plot_occurs, slot_occurs, slots_occur, there, whole_plot}
 use Rattle.fr_store.specs.StandLaws.{AllServe}
 use Rattle.fr_store.specs.Stands.{Stands}
-use Rattle.fr_store.specs.Ways.{counts_if, uses, uses_in, uses_among, Leads}
+use Rattle.fr_store.specs.Ways.{counts_if, uses, uses_in, uses_among, LeadsUnstored}
 use Rattle.fr_store.specs.WayLaws.{counts_same, counts_other, same_or_other}
 
 -- Sums.
@@ -133,7 +133,7 @@ used_within [] n used = absurd (cc)
 used_within (slot ∷ slots) zero used = omega arith
 used_within (slot ∷ slots) (suc n) used = let rest = used_within slots n used in omega arith
 
-top_cell : (place : Place) (k : Kid) (t : ℕ) → Leads place k → cell_occurs (cell_of k) t ≡ 0
+top_cell : (place : Place) (k : Kid) (t : ℕ) → LeadsUnstored place k → cell_occurs (cell_of k) t ≡ 0
 top_cell [] gone t leads = absurd leads
 top_cell [] (there v) t leads = absurd leads
 top_cell [] (at slot stored plot) t leads = refl

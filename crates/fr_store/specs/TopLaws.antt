@@ -9,7 +9,7 @@ use Rattle.fr_store.specs.HoldLaws.{Replaces, holds_at, holds_frame_in, may_have
 use Rattle.fr_store.specs.LeftLaws.{at_for_at}
 use Rattle.fr_store.specs.StandLaws.{stands_change}
 use Rattle.fr_store.specs.Stands.{Stands}
-use Rattle.fr_store.specs.Ways.{count_kids, kid_at, put_at, slots_along, slots_above, counts_if, uses, uses_in, uses_among, AllMarked, AllMarkedIn, AllMarkedAmong, NoneStored, Leads, node_along, owner_along}
+use Rattle.fr_store.specs.Ways.{count_kids, kid_at, put_at, slots_along, slots_above, counts_if, uses, uses_in, uses_among, AllMarked, AllMarkedIn, AllMarkedAmong, NoneStored, LeadsUnstored, node_along, owner_along}
 use Rattle.fr_store.specs.WayLaws.{counts_own, counts_same, same_or_other, leads_reach, leads_at, along_at, marked_at, uses_at}
 
 -- Heaps.
@@ -211,14 +211,14 @@ pub record Top (plan : Plan) (heap : Heap) (stack : List ℕ) (place : Place) (k
 pub top_of : {plan : Plan} {heap : Heap} {stack : List ℕ} {place : Place} {k : Kid} → Stands plan heap stack place k
     → Top plan heap stack place k
 top_of {plan} {heap} {stack} {place} {k} stands =
-    let leads : Leads (place ++ []) k = subst (λ (p : Place). Leads p k) (sym (append-nil place)) stands.leads in
+    let leads : LeadsUnstored (place ++ []) k = subst (λ (p : Place). LeadsUnstored p k) (sym (append-nil place)) stands.leads in
     let reach = leads_reach place [] k leads in
     let along : stack ≡ slots_above place k ++ slots_along [] (kid_at place k)
     = stands.along ∙ ap (λ (p : Place). slots_along p k) (sym (append-nil place)) ∙ along_at place [] k reach in
     go along (kid_at place k) refl (leads_at place [] k leads)
     (holds_at plan heap plan.root FrameOwner.Root 0 place k stands.holds reach)
   where
-    go : stack ≡ slots_above place k ++ slots_along [] (kid_at place k) → (x : Kid) → kid_at place k ≡ x → Leads [] x
+    go : stack ≡ slots_above place k ++ slots_along [] (kid_at place k) → (x : Kid) → kid_at place k ≡ x → LeadsUnstored [] x
         → Holds plan heap (node_along plan plan.root place k) (owner_along FrameOwner.Root place k) (0 + length place)
         (kid_at place k) → Top plan heap stack place k
     go along gone e l holds = absurd l

@@ -3,7 +3,7 @@ use Rattle.std.proofs.Common.{◌≡◌, ◌≢◌, ◌⊎◌, ℕ, zero, suc, �
 use Rattle.std.proofs.lemmas.Grind.{common_steps}
 use Rattle.std.proofs.lemmas.Bool.Decides.{nat_tests}
 use Rattle.fr_store.specs.Below.{Kid, Kids, Place, Plot, Tree, Trees, at, begun, begun_plot, branch, change_at, change_nth, child_tree, count_trees, entered_plot, gone, kid, kid_occurs, kids_occur, no_kids, plot_occurs, there, tree_at, tree_in, tree_nth, tree_occurs, tree_of, trees_in, trees_occur, whole_plot}
-use Rattle.fr_store.specs.Ways.{count_kids, kid_nth, kid_below, kid_at, put_nth, put_below, put_at, slots_along, slots_above, counts_if, uses, uses_among, AllMarked, AllMarkedAmong, StoredBut, Leads, Reaches}
+use Rattle.fr_store.specs.Ways.{count_kids, kid_nth, kid_below, kid_at, put_nth, put_below, put_at, slots_along, slots_above, counts_if, uses, uses_among, AllMarked, AllMarkedAmong, StoredBut, LeadsUnstored, Reaches}
 
 -- Numbers of slots.
 
@@ -29,20 +29,20 @@ reaches_among (suc i) Below (kid k ks) leads =
     (let within : i < count_kids ks = rest.0 in omega arith, rest.1)
 
 -- the way to a place, and each part of it, leads through places in slots
-pub leads_reach : (place below : Place) (k : Kid) → Leads (place ++ below) k → Reaches place k
+pub leads_reach : (place below : Place) (k : Kid) → LeadsUnstored (place ++ below) k → Reaches place k
 leads_reach [] below k leads = tt
 leads_reach (i ∷ place) below (at slot stored (begun_plot tracker kids)) leads =
-    let child = reaches_among i (λ k. Leads (place ++ below) k) kids leads.1 in
+    let child = reaches_among i (λ k. LeadsUnstored (place ++ below) k) kids leads.1 in
     (child.0, leads_reach place below (kid_nth i kids) child.1)
 leads_reach (i ∷ place) below (at slot stored entered_plot) leads = absurd leads.1
 leads_reach (i ∷ place) below (at slot stored (whole_plot v)) leads = absurd leads.1
 leads_reach (i ∷ place) below gone leads = absurd leads
 leads_reach (i ∷ place) below (there v) leads = absurd leads
 
-pub leads_at : (place below : Place) (k : Kid) → Leads (place ++ below) k → Leads below (kid_at place k)
+pub leads_at : (place below : Place) (k : Kid) → LeadsUnstored (place ++ below) k → LeadsUnstored below (kid_at place k)
 leads_at [] below k leads = leads
 leads_at (i ∷ place) below (at slot stored (begun_plot tracker kids)) leads =
-    let child = reaches_among i (λ k. Leads (place ++ below) k) kids leads.1 in
+    let child = reaches_among i (λ k. LeadsUnstored (place ++ below) k) kids leads.1 in
     leads_at place below (kid_nth i kids) child.1
 leads_at (i ∷ place) below (at slot stored entered_plot) leads = absurd leads.1
 leads_at (i ∷ place) below (at slot stored (whole_plot v)) leads = absurd leads.1
@@ -56,13 +56,13 @@ leads_among zero Below After new (kid k ks) leads is = (is, leads.1)
 leads_among (suc i) Below After new (kid k ks) leads is = (leads.0, leads_among i Below After new ks leads.1 is)
 
 -- the way goes on otherwise from a place
-pub leads_put_at : (place old below : Place) (new k : Kid) → Leads (place ++ old) k → Leads below new
-    → Leads (place ++ below) (put_at place new k)
+pub leads_put_at : (place old below : Place) (new k : Kid) → LeadsUnstored (place ++ old) k → LeadsUnstored below new
+    → LeadsUnstored (place ++ below) (put_at place new k)
 leads_put_at [] old below new k leads on = on
 leads_put_at (i ∷ place) old below new (at slot stored (begun_plot tracker kids)) leads on =
-    let child = reaches_among i (λ k. Leads (place ++ old) k) kids leads.1 in (
+    let child = reaches_among i (λ k. LeadsUnstored (place ++ old) k) kids leads.1 in (
       leads.0,
-      leads_among i (λ k. Leads (place ++ old) k) (λ k. Leads (place ++ below) k) (put_at place new (kid_nth i kids)) kids
+      leads_among i (λ k. LeadsUnstored (place ++ old) k) (λ k. LeadsUnstored (place ++ below) k) (put_at place new (kid_nth i kids)) kids
           leads.1 (leads_put_at place old below new (kid_nth i kids) child.1 on),
     )
 leads_put_at (i ∷ place) old below new (at slot stored entered_plot) leads on = absurd leads.1

@@ -122,13 +122,13 @@ StoredButIn i Below (whole_plot v) = ⊥
 StoredButIn i Below (begun_plot tracker kids) = StoredBut i Below kids
 
 -- The way leads to a place in a slot. No place on it is stored, and every other place in a slot is.
-abbrev pub Leads : Place → Kid → Type 0
-Leads [] gone = ⊥
-Leads [] (there v) = ⊥
-Leads [] (at slot stored plot) = (stored ≡ false) × AllMarkedIn true plot
-Leads (i ∷ place) gone = ⊥
-Leads (i ∷ place) (there v) = ⊥
-Leads (i ∷ place) (at slot stored plot) = (stored ≡ false) × StoredButIn i (λ below. Leads place below) plot
+abbrev pub LeadsUnstored : Place → Kid → Type 0
+LeadsUnstored [] gone = ⊥
+LeadsUnstored [] (there v) = ⊥
+LeadsUnstored [] (at slot stored plot) = (stored ≡ false) × AllMarkedIn true plot
+LeadsUnstored (i ∷ place) gone = ⊥
+LeadsUnstored (i ∷ place) (there v) = ⊥
+LeadsUnstored (i ∷ place) (at slot stored plot) = (stored ≡ false) × StoredButIn i (λ below. LeadsUnstored place below) plot
 
 -- the way goes on through places in slots that are begun
 abbrev pub ReachesIn : ℕ → (Kid → Type 0) → Plot → Type 0

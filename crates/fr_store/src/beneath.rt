@@ -5,6 +5,7 @@ ghost use Rattle.fr_shape.specs.declared.error.ReflectErrorKind.{ReflectErrorKin
 ghost use Rattle.fr_frame.specs.Completing.{IsPlanFor};
 ghost use Rattle.fr_store.specs.Beneath.{IsCompleteBeneath};
 
+use crate::finishing::complete_in_turn;
 use crate::listing::walk_beneath;
 use crate::{FrameStore, Stack};
 use fr_frame::{SlotId, Slots};
@@ -49,7 +50,7 @@ impl FrameStore {
         law_hooks::<H>();
         for place in walk {
             let place = SlotId(*place);
-            match stack.complete_in_turn(slots, place, table, plan, hooks, ledger) {
+            match complete_in_turn(slots, stack, place, table, plan, hooks, ledger) {
                 Ok(()) => self.remove(place),
                 Err(kind) => return Err(kind),
             }

@@ -23,49 +23,47 @@ fn is_source(slots: &Slots, place: SlotId) -> bool
     }
 }
 
-impl Stack {
-    /// The turn of a stored place that has no child in a slot: it is completed, and its value goes
-    /// into the place above; or it is the source of a conversion, and the place above is whole with
-    /// what that makes of its value. What a set or a map has twice is released. Where there is no
-    /// memory for the box that a begun option, result or pointer takes, also one to a slice, or for
-    /// putting a set, a map or a dynamic value together, or where the source isn't converted, what
-    /// was put at the place is released.
-    pub(crate) fn complete_in_turn<H: Hooks>(
-        &self,
-        slots: &mut Slots,
-        place: SlotId,
-        table: &ShapeTable,
-        plan: &TypePlanCore,
-        hooks: &H,
-        ledger: &mut Ledger,
-    ) -> Result<(), ReflectErrorKind>
-        requires checked { IsChecked table.now }
-        requires plan { IsPlanFor table.now plan.now }
-        requires is_open { IsOpen plan.now slots.old self.now }
-        requires suits { IsSuited table.now (root_shape plan.now) (tree_in_slots slots.old self.now) }
-        requires due { MayTurn slots.old self.now place.0 }
-        requires room { Room (tokens_in slots.old self.now) ledger.old }
-        ensures turned { OnOk result (HasTurned (H.means hooks.now) table.now plan.now
-            slots.old self.now slots.new place.0) }
-        ensures rest { OnOk result (KeepsTheRest (H.means hooks.now) table.now plan.now
-            slots.old self.now slots.new) }
-        ensures why { IfErr result (λ kind. (kind ≡ Kind.OutOfMemory)
-            ⊎ IsLackingAt (H.means hooks.now) table.now plan.now slots.old self.now place.0 kind) }
-        ensures conserved { Conserved (slots_occur slots.old) ledger.old
-            (slots_occur slots.new) ledger.new }
-    {
-        law_closing();
-        law_completes();
-        law_plan_lookups();
-        law_plan_reach();
-        place.complete_by_defaults(slots, table, plan, hooks)?;
-        if is_source(slots, place) {
-            return place.convert(slots, table, plan, hooks, ledger);
-        }
-        match place.hand_over(slots, Taker::Above, ledger) {
-            Ok(()) => Ok(()),
-            Err(OutOfMemory) => Err(ReflectErrorKind::OutOfMemory),
-        }
+/// The turn of a stored place that has no child in a slot: it is completed, and its value goes
+/// into the place above; or it is the source of a conversion, and the place above is whole with
+/// what that makes of its value. What a set or a map has twice is released. Where there is no
+/// memory for the box that a begun option, result or pointer takes, also one to a slice, or for
+/// putting a set, a map or a dynamic value together, or where the source isn't converted, what
+/// was put at the place is released.
+pub(crate) fn complete_in_turn<H: Hooks>(
+    slots: &mut Slots,
+    stack: &Stack,
+    place: SlotId,
+    table: &ShapeTable,
+    plan: &TypePlanCore,
+    hooks: &H,
+    ledger: &mut Ledger,
+) -> Result<(), ReflectErrorKind>
+    requires checked { IsChecked table.now }
+    requires plan { IsPlanFor table.now plan.now }
+    requires is_open { IsOpen plan.now slots.old stack.now }
+    requires suits { IsSuited table.now (root_shape plan.now) (tree_in_slots slots.old stack.now) }
+    requires due { MayTurn slots.old stack.now place.0 }
+    requires room { Room (tokens_in slots.old stack.now) ledger.old }
+    ensures turned { OnOk result (HasTurned (H.means hooks.now) table.now plan.now
+        slots.old stack.now slots.new place.0) }
+    ensures rest { OnOk result (KeepsTheRest (H.means hooks.now) table.now plan.now
+        slots.old stack.now slots.new) }
+    ensures why { IfErr result (λ kind. (kind ≡ Kind.OutOfMemory)
+        ⊎ IsLackingAt (H.means hooks.now) table.now plan.now slots.old stack.now place.0 kind) }
+    ensures conserved { Conserved (slots_occur slots.old) ledger.old
+        (slots_occur slots.new) ledger.new }
+{
+    law_closing();
+    law_completes();
+    law_plan_lookups();
+    law_plan_reach();
+    place.complete_by_defaults(slots, table, plan, hooks)?;
+    if is_source(slots, place) {
+        return place.convert(slots, table, plan, hooks, ledger);
+    }
+    match place.hand_over(slots, Taker::Above, ledger) {
+        Ok(()) => Ok(()),
+        Err(OutOfMemory) => Err(ReflectErrorKind::OutOfMemory),
     }
 }
 
@@ -100,7 +98,7 @@ fn complete_in_order<H: Hooks>(
     law_hooks::<H>();
     for place in walk {
         let place = SlotId(*place);
-        match stack.complete_in_turn(slots, place, table, plan, hooks, ledger) {
+        match complete_in_turn(slots, stack, place, table, plan, hooks, ledger) {
             Ok(()) => {}
             Err(kind) => return Err(kind),
         }

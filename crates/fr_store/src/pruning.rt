@@ -1,7 +1,7 @@
 //! Releasing what is stored beneath a place.
 ghost use Rattle.fr_store.specs.Common.{IsKept, IsPruned, IsRooted, Room, RoseBy, StoresNoMore, beneath, body_of, cells_found, cells_in_body, heap_of, length, option_map, pruned, slots_occur, slotted_occur, ℕ};
 ghost use Rattle.std.specs.Prelude.{◌+◌, ◌≡◌};
-ghost use Rattle.fr_values.specs.Cells.{slot_at};
+ghost use Rattle.fr_values.specs.Cells.{slot_in_cells};
 ghost use Rattle.fr_frame.specs.declared.places.SlotId.{SlotId as Number};
 
 use crate::FrameStore;
@@ -31,7 +31,7 @@ pub(crate) fn count_children(slots: &Slots, place: SlotId) -> usize
 /// The slot of a child, where it is in one.
 pub(crate) fn slot_of_child(slots: &Slots, place: SlotId, i: usize) -> Option<SlotId>
     ensures { option_map (λ (slot : Number). slot.0) result
-        ≡ slot_at (cells_found (heap_of slots.now place.0)) i }
+        ≡ slot_in_cells (cells_found (heap_of slots.now place.0)) i }
 {
     slots.child_slot(place, i)
 }

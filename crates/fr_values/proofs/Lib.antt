@@ -1,13 +1,13 @@
 pub mod BaseLaws
 pub mod ConvertedLaws
-pub mod DynamicLaws
+pub mod DynamicParts
 pub mod Gathered
-pub mod IndexLaws
 pub mod Indexed
-pub mod ItemLaws
+pub mod IndexedChildren
 pub mod Kept
 pub mod KeyLaws
 pub mod Known
 pub mod MadeDynamic
 pub mod PartLaws
 pub mod Placed
+pub mod SetChildren

@@ -1,7 +1,7 @@
 -- Children side by side: what a change of one value or of one bit does to the list that contracts see.
 use Rattle.std.proofs.Common.{◌≡◌, ◌≢◌, ◌⊎◌, ℕ, zero, suc, ◌+◌, ◌<◌, ◌≤◌, Bool, true, false, List, [], ◌∷◌, ◌++◌, length, map, replicate, Option, Some, None, IsSome, slice_get, slice_index, set, length-set, option_map, inl, inr, refl, sym, ◌∙◌, ap, subst, arith, ◌&&◌, ◌||◌, ◌↔◌}
 use Rattle.std.specs.FinSet as finite
-use Rattle.fr_values.specs.Common.{All, BitSet, Cell, Room, Room_fewer, Room_risen, Room_same, RoseBy, Val, Vals, Value, absent, both, cell, cell_occurs, cells_occur, cells_of, cells_of_vals, first, given, in_slot, is_some, no_vals, occurs, one_more, option_and_then, placed, slot_at, slot_of_cell, unit, vals_occur, vals_view, value_at, value_occurs, value_of_cell, values_of, view}
+use Rattle.fr_values.specs.Common.{All, BitSet, Cell, Room, Room_fewer, Room_risen, Room_same, RoseBy, Val, Vals, Value, absent, both, cell, cell_occurs, cells_occur, cells_of, cells_of_vals, first, given, in_slot, is_some, no_vals, occurs, one_more, option_and_then, placed, slot_in_cells, slot_of_cell, unit, vals_occur, vals_view, value_at, value_occurs, value_of_cell, values_of, view}
 use Rattle.std.specs.Prelude.{not, ◌==◌, IsTrue, get_or}
 use Rattle.std.proofs.lemmas.Grind.{common_steps}
 use Rattle.std.proofs.lemmas.Bool.Decides.{nat_tests}
@@ -90,7 +90,7 @@ module _ (bits : BitSet) (vs : List Value) (cs : List Cell) (seen : cells_of bit
     pub value_here : finite.contains bits.members k ≡ true → Some (view v) ≡ value_at cs k
     value_here bit = sym (ap (option_and_then value_of_cell) (cell_is true bit))
 
-    pub slot_here : finite.contains bits.members k ≡ false → slot_of_cell (in_slot (view v)) ≡ slot_at cs k
+    pub slot_here : finite.contains bits.members k ≡ false → slot_of_cell (in_slot (view v)) ≡ slot_in_cells cs k
     slot_here bit = sym (ap (option_and_then slot_of_cell) (cell_is false bit))
 
   pub no_value_at : (k : ℕ) → finite.contains bits.members k ≡ false → None ≡ value_at cs k
@@ -100,7 +100,7 @@ module _ (bits : BitSet) (vs : List Value) (cs : List Cell) (seen : cells_of bit
       none (Some v) = in_slot_no_value (view v)
       none None = refl
 
-  pub no_slot_at : (k : ℕ) → finite.contains bits.members k ≡ true → None ≡ slot_at cs k
+  pub no_slot_at : (k : ℕ) → finite.contains bits.members k ≡ true → None ≡ slot_in_cells cs k
   no_slot_at k bit = sym (ap (option_and_then slot_of_cell) (cell_at k) ∙ rw bit (none (slice_get vs k)))
     where
       none : (found : Option Value) → option_and_then slot_of_cell (option_map (λ (v : Value). given (view v)) found) ≡ None
@@ -348,7 +348,7 @@ cells_pushed bits wide other vs cs v e same unset gone =
     ∙ gone) ∙ ap (λ (ds : List Cell). ds ++ absent ∷ []) e
 
 -- the child whose slot is known
-pub slot_child : (cs : List Cell) (i n : ℕ) → Some n ≡ slot_at cs i → slice_get cs i ≡ Some (placed n)
+pub slot_child : (cs : List Cell) (i n : ℕ) → Some n ≡ slot_in_cells cs i → slice_get cs i ≡ Some (placed n)
 slot_child cs i n e = go (slice_get cs i) e
   where
     go : (found : Option Cell) → Some n ≡ option_and_then slot_of_cell found → found ≡ Some (placed n)

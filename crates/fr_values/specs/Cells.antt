@@ -119,8 +119,8 @@ slot_of_cell (placed n) = Some n
 abbrev pub value_at : List Cell → ℕ → Option Val
 value_at cells i = option_and_then value_of_cell (slice_get cells i)
 
-abbrev pub slot_at : List Cell → ℕ → Option ℕ
-slot_at cells i = option_and_then slot_of_cell (slice_get cells i)
+abbrev pub slot_in_cells : List Cell → ℕ → Option ℕ
+slot_in_cells cells i = option_and_then slot_of_cell (slice_get cells i)
 
 -- the values of all children, where each is there
 abbrev pub values_of : List Cell → Option Vals

@@ -26,7 +26,7 @@ pub use Rattle.fr_shape.specs.declared.value.Dyn.{Dyn}
 pub use Rattle.fr_shape.specs.declared.value.Value.{Value}
 pub use Rattle.fr_shape.specs.declared.value.Value.TheFolds.{the_lemmas}
 pub use Rattle.fr_values.specs.Bases.{AreApart, count_in_base}
-pub use Rattle.fr_values.specs.Cells.{Cell, absent, and_item_cell, cell, cell_occurs, cells_occur, cells_of, cells_of_vals, given, has_same_cell, in_slot, is_same_cell, placed, slot_at, slot_of_cell, value_at, value_occurs, value_of_cell, values_of, without_cell}
+pub use Rattle.fr_values.specs.Cells.{Cell, absent, and_item_cell, cell, cell_occurs, cells_occur, cells_of, cells_of_vals, given, has_same_cell, in_slot, is_same_cell, placed, slot_in_cells, slot_of_cell, value_at, value_occurs, value_of_cell, values_of, without_cell}
 pub use Rattle.fr_values.specs.ChildIndex.{IndexesChildren}
 pub use Rattle.fr_values.specs.ConversionNeeds.{IsUnconverted, are_octets, copies_to_convert}
 pub use Rattle.fr_values.specs.Indexing.{Indexes, IsRun, has_number, is_held, joined, numbers_from, runs_of, val_at}

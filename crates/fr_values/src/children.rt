@@ -160,7 +160,7 @@ fn numbers_below(alloc: Global, count: usize, more: usize) -> Result<ISet, OutOf
 }
 
 impl Children {
-    ghost use Rattle.fr_values.specs.Cells.{absent, given, placed, value_at, slot_at, values_of};
+    ghost use Rattle.fr_values.specs.Cells.{absent, given, placed, value_at, slot_in_cells, values_of};
 
     /// No children. Takes no memory.
     pub fn none(alloc: Global) -> Children
@@ -254,7 +254,7 @@ impl Children {
     /// The number of the slot that a child is in, where it is in one.
     pub fn slot(&self, i: usize) -> Option<u32>
         requires inside { i < length self.now }
-        ensures slot { result ≡ slot_at self.now i }
+        ensures slot { result ≡ slot_in_cells self.now i }
     {
         if self.given.get(i) {
             return None;

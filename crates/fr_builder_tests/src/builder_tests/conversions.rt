@@ -1,8 +1,7 @@
 //! Wrappers and proxies by the tests' own hooks: whole scripts in both modes, then call by call, and
 //! what the calls tell that ask a shape for its proxy.
 use super::bench::{Bench, Told, abandoned, built, check_value, done, start};
-use super::documents::joined;
-use super::grounds::{Ground, ground_of};
+use super::grounds::{Ground, ground_of, joined};
 use super::hooked::{check_counted, holding, with_number};
 use std::alloc::Global;
 use std::process::Abort;

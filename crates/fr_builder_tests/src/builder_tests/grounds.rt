@@ -1,13 +1,10 @@
 //! The tables that the tests stand on, read from texts, and their plans.
 ghost use Rattle.fr_shape.specs.Checked.{IsChecked};
 ghost use Rattle.fr_frame.specs.Completing.{IsPlanFor};
-ghost use Rattle.fr_script.specs.DocumentFacts.{IsInOrder};
-ghost use Rattle.fr_script.specs.Reading.{document_view};
 
 use super::own_hooks::OwnHooks;
 use fr_doc::shapes_of;
 use fr_plan::TypePlanCore;
-use fr_script::{Document, law_documents_in_order, read_document};
 use fr_shape::{ShapeId, ShapeTable};
 use serde_json::Value as Json;
 use std::alloc::Global;
@@ -35,31 +32,41 @@ impl Model for Ground {
     ghost invariant = { λ ground. IsGround ground.table };
 }
 
-fn founded(document: Document) -> Ground
-    requires { IsInOrder (document_view document) }
-{
-    let Document { table, .. } = document;
-    Ground {
-        table,
-        hooks: OwnHooks,
+/// A document of shapes and the rest.
+pub fn joined(rt: &impl Abort, alloc: Global, shapes: &str, rest: &str) -> String {
+    let Ok(mut document) = String::from_str(alloc, shapes) else {
+        panic!(rt; "no memory");
+    };
+    if document.push_str(rest).is_err() {
+        panic!(rt; "no memory");
     }
+    document
 }
 
-fn read(alloc: Global, document: &[u8]) -> Option<Ground> {
-    match read_document(alloc, document) {
-        Ok(document) => {
-            law_documents_in_order();
-            Some(founded(document))
-        }
-        Err(_) => None,
-    }
-}
-
-/// The table of a document without commands.
+/// The table of a document, whose root and commands are left.
 pub fn ground_of(rt: &(impl Abort + AllocGlobal), document: &str) -> Ground {
-    match read(rt.alloc(), document.as_bytes()) {
-        Some(ground) => ground,
-        None => panic!(rt; "not read"),
+    let alloc = rt.alloc();
+    let Ok(json) = Json::from_str(alloc, document) else {
+        panic!(rt; "no JSON");
+    };
+    let Some(shapes) = json.get("shapes") else {
+        panic!(rt; "no shapes");
+    };
+    match shapes_of(alloc, shapes) {
+        Ok(shapes) => ground_over(rt, ShapeTable::new(alloc, shapes)),
+        Err(_) => panic!(rt; "no shapes"),
+    }
+}
+
+/// A table that keeps the rules, with the tests' hooks.
+pub fn ground_over(rt: &impl Abort, table: ShapeTable) -> Ground {
+    assert!(rt; table.is_numbered());
+    match table.check() {
+        Ok(()) => Ground {
+            table,
+            hooks: OwnHooks,
+        },
+        Err(_) => panic!(rt; "a rule is broken"),
     }
 }
 

@@ -6,8 +6,7 @@ use super::bench::{
     Bench, built, check_counts, check_value, done, fresh, ledger, message_of, named, refusal,
     start, unbuilt, with_token,
 };
-use super::documents::joined;
-use super::grounds::{Ground, ground_of};
+use super::grounds::{Ground, ground_of, joined};
 use super::own_hooks::OwnHooks;
 use super::structs::{STRUCT, begun};
 use fr_partial::Built;

@@ -67,7 +67,7 @@ fn text(rt: &impl Abort, alloc: Global, s: &str) -> Text {
     }
 }
 
-fn pairs_of(rt: &impl Abort, alloc: Global, pairs: &[(&str, &str)]) -> Items<Pair> {
+pub fn pairs_of(rt: &impl Abort, alloc: Global, pairs: &[(&str, &str)]) -> Items<Pair> {
     let mut items = Items::new(alloc);
     for (name, said) in pairs {
         let pair = Pair {

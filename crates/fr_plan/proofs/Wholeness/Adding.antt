@@ -11,7 +11,7 @@ use Rattle.fr_plan.specs.declared.outlines.Outline.{Outline}
 use Rattle.fr_plan.specs.declared.outlines.Role.{Role}
 use Rattle.fr_plan.specs.declared.outlines.Mark.{Mark}
 use Rattle.fr_plan.specs.declared.outlines.Walk.{Walk}
-use Rattle.fr_plan.specs.Build.{Made, with_node, marked, back_reference}
+use Rattle.fr_plan.specs.Build.{Made, with_node, with_shape_mark, back_reference}
 use Rattle.fr_plan.proofs.Wholeness.Marks.{slice_get_stays, slice_get_last, slice_get_either, slice_get-set_same, slice_get-set_other, is_unseen, IsBegun}
 use Rattle.fr_plan.proofs.Wholeness.Sound.{IsThere, IsRight, IsSound, Stays, IsKept, own_stays, right_stays}
 
@@ -114,7 +114,7 @@ module _ (table : Table) (root : ShapeId) where
 
   -- an unseen shape is begun
   pub begun_sound : (walk : Walk) (id : ShapeId) → IsSound table root walk → slice_get walk.marks id.0 ≡ Some Mark.Unseen
-      → IsSound table root (marked walk id Mark.Building)
+      → IsSound table root (with_shape_mark walk id Mark.Building)
   begun_sound walk id sound unseen = record {
     marks = length-set walk.marks id.0 Mark.Building ∙ sound.marks;
     done =

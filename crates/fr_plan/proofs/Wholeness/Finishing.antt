@@ -9,14 +9,14 @@ use Rattle.fr_plan.specs.declared.outlines.Outline.{Outline}
 use Rattle.fr_plan.specs.declared.outlines.Role.{Role}
 use Rattle.fr_plan.specs.declared.outlines.Mark.{Mark}
 use Rattle.fr_plan.specs.declared.outlines.Walk.{Walk}
-use Rattle.fr_plan.specs.Build.{with_node, marked, done}
+use Rattle.fr_plan.specs.Build.{with_node, with_shape_mark, done}
 use Rattle.fr_plan.specs.PlanLaws.{IsOwnNode}
 use Rattle.fr_plan.proofs.Wholeness.Marks.{slice_get_last, slice_get-set_same, slice_get-set_other, IsBegun, unseen_fewer, unseen_finished}
 use Rattle.fr_plan.proofs.Wholeness.Sound.{IsRight, IsSound, Keeps, own_stays}
 use Rattle.fr_plan.proofs.Wholeness.Adding.{same_or_other, same_id, begun_set, written, building_before, added_stays, begun_added, right_added, IsFinished}
 
 module _ (table : Table) (root : ShapeId) (start walk : Walk) (id : ShapeId) (outline : Outline)
-    (unseen : slice_get start.marks id.0 ≡ Some Mark.Unseen) (keeps : Keeps (marked start id Mark.Building) walk)
+    (unseen : slice_get start.marks id.0 ≡ Some Mark.Unseen) (keeps : Keeps (with_shape_mark start id Mark.Building) walk)
     (sound : IsSound table root walk) (right : IsRight table root walk.nodes outline) (shape : outline.shape ≡ id)
     (role : outline.role ≡ Role.Own) where
   begun_there : IsBegun walk.marks id.0

@@ -18,7 +18,7 @@ use Rattle.fr_plan.specs.Lookups.{field_in_range}
 use Rattle.fr_plan.specs.PlanLaws.{IsNodeOf, IsFieldNode, IsComplete}
 use Rattle.fr_plan.specs.Plans.{IsFieldPlan, NamesFields, PlacedVariant, variants_from}
 use Rattle.fr_plan.specs.TypePlan.{Plan, IsPlanOf}
-use Rattle.fr_plan.proofs.Rows.{length-fields_from}
+use Rattle.fr_plan.proofs.OneMoreRow.{length-fields_from}
 use Rattle.fr_plan.proofs.Wholeness.Paths.{zip_get, zip_none, told_at}
 use Rattle.fr_plan.proofs.Wholeness.Standing.{zip_get_right}
 

@@ -11,7 +11,7 @@ use Rattle.fr_shape.specs.Plannable.{Reached, own_sources, refusal_of, own_refus
 use Rattle.fr_plan.specs.declared.outlines.Role.{Role}
 use Rattle.fr_plan.specs.declared.outlines.Mark.{Mark}
 use Rattle.fr_plan.specs.declared.outlines.Walk.{Walk}
-use Rattle.fr_plan.specs.Build.{Built, Made, MadeAll, unless, none_yet, with_node, marked, done, each_built, children_built, finish, build_new, build_by, build}
+use Rattle.fr_plan.specs.Build.{Built, Made, MadeAll, unless, none_yet, with_node, with_shape_mark, done, each_built, children_built, finish, build_new, build_by, build}
 use Rattle.fr_plan.specs.PlanLaws.{IsNodeOf, AreChildrenBy}
 use Rattle.fr_plan.proofs.Wholeness.Marks.{unseen_in, unseen_fewer}
 use Rattle.fr_plan.proofs.Wholeness.Sound.{IsSound, IsKept, AreKept, IsBlamed, keeps_itself, keeps_twice, nodes_stay}
@@ -26,7 +26,7 @@ module _ (table : Table) (root : ShapeId) where
   module _ (walk : Walk) (id : ShapeId) (shape : Shape) (sources : MadeAll) (children : MadeAll)
       (unseen : slice_get walk.marks id.0 ≡ Some Mark.Unseen) (here : slice_get table id.0 ≡ Some shape)
       (reached : Reached table root.0 id.0)
-      (first : AreKept table root (marked walk id Mark.Building) sources (λ nodes listed. AllZip (IsNodeOf nodes) listed (own_sources shape)))
+      (first : AreKept table root (with_shape_mark walk id Mark.Building) sources (λ nodes listed. AllZip (IsNodeOf nodes) listed (own_sources shape)))
       (second : AreKept table root sources.walk children (λ nodes listed. AreChildrenBy nodes id shape shape.def listed)) where
     sources_there : AllZip (IsNodeOf children.walk.nodes) sources.nodes (own_sources shape)
     sources_there =
@@ -45,7 +45,7 @@ module _ (table : Table) (root : ShapeId) where
     finished_by (Some fault) is = record { shape = shape; here = here; reached = reached; fault = is }
     finished_by None is =
         finished table root walk children.walk id _ unseen
-        (keeps_twice (marked walk id Mark.Building) sources.walk children.walk first.keeps second.keeps) second.sound
+        (keeps_twice (with_shape_mark walk id Mark.Building) sources.walk children.walk first.keeps second.keeps) second.sound
         (record {
           linked =
               λ own.
@@ -74,7 +74,7 @@ module _ (table : Table) (root : ShapeId) where
         omega (arith, slice_get_within walk.marks id.0 Mark.Unseen unseen, sound.marks) in
         absurd (get_not_none table id.0 inside here)
     new_kept walk id (Some shape) here sound few unseen reached =
-        let start : Walk = marked walk id Mark.Building in
+        let start : Walk = with_shape_mark walk id Mark.Building in
         let begun : IsSound table root start = begun_sound table root walk id sound unseen in
         let fewer : unseen_in start.marks < depth = omega (arith, few, unseen_fewer walk.marks id.0 unseen) in
         let Sources : MadeAll → Type 0 =

@@ -16,7 +16,7 @@ use Rattle.fr_plan.specs.declared.nodes.NodeId.{NodeId}
 use Rattle.fr_plan.specs.declared.outlines.Outline.{Outline}
 use Rattle.fr_plan.specs.declared.outlines.Mark.{Mark}
 use Rattle.fr_plan.specs.declared.outlines.Walk.{Walk}
-use Rattle.fr_plan.specs.Build.{Built, Made, MadeAll, unless, none_yet, with_node, back_reference, marked, done, each_built, children_built, finish, build_new, build_by, build, start_of, planned}
+use Rattle.fr_plan.specs.Build.{Built, Made, MadeAll, unless, none_yet, with_node, back_reference, with_shape_mark, done, each_built, children_built, finish, build_new, build_by, build, start_of, planned}
 use Rattle.fr_plan.specs.PlanLaws.{IsComplete}
 use Rattle.fr_plan.specs.SizeLaws.{is_proxied, with_references, PlansAreSmall, PlainPlansAreSmall}
 use Rattle.fr_plan.proofs.Wholeness.Marks.{slice_get-set_same, slice_get-set_other}
@@ -31,13 +31,13 @@ module _ (table : Table) where
   -- a shape that was not met before pays for its own node and for all that was built for it
   module _ (walk after : Walk) (id : ShapeId) (shape : Shape) (outline : Outline)
       (unseen : slice_get walk.marks id.0 ≡ Some Mark.Unseen) (here : slice_get table id.0 ≡ Some shape)
-      (adds : Adds table (length (own_sources shape) + children_cost shape.def shape) (marked walk id Mark.Building) after) where
+      (adds : Adds table (length (own_sources shape) + children_cost shape.def shape) (with_shape_mark walk id Mark.Building) after) where
     finish_adds : (refused : Option AllocError)
         → MatchResult (unless refused (done id (with_node after outline))) (λ made. Adds table 0 walk made.walk) Any
     finish_adds (Some error) = tt
     finish_adds None =
         let own : Mark = Mark.Done (record { 0 = length after.nodes }) in
-        let begun : slice_get (marked walk id Mark.Building).marks id.0 ≡ Some Mark.Building =
+        let begun : slice_get (with_shape_mark walk id Mark.Building).marks id.0 ≡ Some Mark.Building =
         slice_get-set_same walk.marks id.0 Mark.Building Mark.Unseen unseen in
         let there : slice_get after.marks id.0 ≡ Some Mark.Building = adds.building id.0 begun in
         let number : 0 + id.0 ≡ id.0 = omega arith in
@@ -74,7 +74,7 @@ module _ (table : Table) where
         → MatchResult (build_new builds walk id (Some shape)) (λ made. Adds table 0 walk made.walk) Any
     unfolding build_new finish
     new_adds walk id shape here unseen =
-        let start : Walk = marked walk id Mark.Building in
+        let start : Walk = with_shape_mark walk id Mark.Building in
         let j : ℕ = length (own_sources shape) in
         let k : ℕ = children_cost shape.def shape in
         match_then (λ (all : MadeAll). Adds table j start all.walk) (λ (made : Made). Adds table 0 walk made.walk) Any

@@ -16,7 +16,7 @@ use Rattle.fr_plan.specs.declared.nodes.NodeId.{NodeId}
 use Rattle.fr_plan.specs.declared.outlines.Outline.{Outline}
 use Rattle.fr_plan.specs.declared.outlines.Mark.{Mark}
 use Rattle.fr_plan.specs.declared.outlines.Walk.{Walk}
-use Rattle.fr_plan.specs.Build.{Built, Made, MadeAll, Placed, unless, none_yet, with_one, with_node, back_reference, marked, done, each_built, fields_from, variant_fields_from, behind_proxies, field_built, fields_built, children_built, finish, build_new, build_by, build, start_of, planned}
+use Rattle.fr_plan.specs.Build.{Built, Made, MadeAll, Placed, unless, none_yet, with_one, with_node, back_reference, with_shape_mark, done, each_built, fields_from, variant_fields_from, behind_proxies, field_built, fields_built, children_built, finish, build_new, build_by, build, start_of, planned}
 use Rattle.fr_plan.specs.RefusalLaws.{refusal_in, RefusesFirst}
 use Rattle.fr_plan.proofs.Wholeness.Marks.{IsBegun, is_unseen, slice_get-set_same, slice_get-replicate}
 use Rattle.fr_plan.proofs.Wholeness.Kept.{get_not_none}
@@ -122,7 +122,7 @@ module _ (table : Table) (builds : Walk → ShapeId → Built Made) (visits : Li
       omega (arith, slice_get_within walk.marks id.0 Mark.Unseen unseen, agrees.marks_length) in
       absurd (get_not_none table id.0 inside here)
   new_meets before walk begun id (Some shape) here unseen agrees =
-      let start : Walk = marked walk id Mark.Building in
+      let start : Walk = with_shape_mark walk id Mark.Building in
       let last : List ℕ → Visited =
       λ after. record { begun = after; refused = own_refusal id.0 (refusal_of shape) } in
       let started : Agrees table walk.marks start.marks (id.0 ∷ begun) =

@@ -5,7 +5,7 @@ use Rattle.fr_shape.specs.Val.{product, first}
 use Rattle.fr_shape.specs.View.{view, vals_view}
 use Rattle.fr_shape.specs.Tokens.{occurs}
 use Rattle.fr_shape.specs.Released.{Room, RoseBy}
-use Rattle.fr_doc.proofs.Children.{first_and_others, others_have_room, child_has_room}
+use Rattle.fr_doc.proofs.ProductChildren.{first_and_others, others_have_room, child_has_room}
 use Rattle.fr_doc.proofs.doc_hooks.convert_first_child.Goals as goal
 
 pub release-requires : goal.release-requires

@@ -6,7 +6,7 @@ use Rattle.fr_doc.specs.Reading.{member_view}
 use Rattle.serde_json.specs.declared.value.Value.{the_lemmas as json_lemmas}
 use Rattle.serde_json.specs.Find.{as_str}
 use Rattle.std.specs.Prelude.{string_bytes}
-use Rattle.fr_doc.proofs.Dynamics.{dynamics_whole, members_whole, member_of, member_split}
+use Rattle.fr_doc.proofs.DynamicLists.{dynamics_whole, members_whole, member_of, member_split}
 use Rattle.fr_doc.proofs.Loops.{then_fails, so_far_next, fails, ends}
 use Rattle.fr_doc.proofs.dyn_form.+dynamic.Goals as goal
 use Rattle.fr_doc.proofs.dyn_form.+dynamic.Goals.{read_dyn_member-In-Some-Some-None}

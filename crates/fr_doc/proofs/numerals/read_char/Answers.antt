@@ -1,5 +1,5 @@
 use Rattle.std.proofs.Common.{◌∙◌}
-use Rattle.fr_doc.proofs.Parsed.{char_parses}
+use Rattle.fr_doc.proofs.ParsedForms.{char_parses}
 use Rattle.fr_doc.proofs.numerals.read_char.Goals as goal
 
 pub returns : goal.returns

@@ -1,5 +1,5 @@
 use Rattle.std.proofs.Common.{◌∙◌, sym}
-use Rattle.fr_doc.proofs.Parsed.{int_parses, int_not_digits}
+use Rattle.fr_doc.proofs.ParsedForms.{int_parses, int_not_digits}
 use Rattle.fr_doc.proofs.numerals.read_int.Goals as goal
 
 pub returns-then-has_digits : goal.returns-then-has_digits

@@ -1,5 +1,5 @@
 use Rattle.std.proofs.Common.{◌∙◌, sym}
-use Rattle.fr_doc.proofs.Parsed.{nat_parses, nat_not_digits}
+use Rattle.fr_doc.proofs.ParsedForms.{nat_parses, nat_not_digits}
 use Rattle.fr_doc.proofs.numerals.read_nat.Goals as goal
 
 pub returns-then-has_digits : goal.returns-then-has_digits

@@ -4,7 +4,7 @@ use Rattle.fr_partial.specs.Builder.{Builder, holds, left}
 use Rattle.fr_model.specs.Commands.{Call}
 use Rattle.fr_example.specs.Putting.{enters_field, FailsPutting}
 use Rattle.fr_example.proofs.Placing.{fails_after, goes_on, ends_so, text_set}
-use Rattle.fr_example.proofs.Tokens.{text_value_fits, same_text_fits, with_text, none_brought, stays, none_left, no_room}
+use Rattle.fr_example.proofs.TextsWithoutTokens.{text_value_fits, same_text_fits, with_text, none_brought, stays, none_left, no_room}
 use Rattle.fr_example.proofs.record.put.Goals as goal
 
 if_ok_none : {H : Type 0} (result : Result (Builder H) ReflectError) → ((t : ℕ) → left result t ≡ 0)

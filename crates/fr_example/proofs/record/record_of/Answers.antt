@@ -8,7 +8,7 @@ use Rattle.fr_example.specs.declared.record.Pair.{Pair}
 use Rattle.fr_example.specs.Meant.{pairs_meant, record_meant, IsMeant, TellsPlace}
 use Rattle.fr_example.proofs.Loop.{struct_within, planned_means, filled_more, loop_refused, loop_built, all_taken, one_taken}
 use Rattle.fr_example.proofs.Placing.{unplanned_place, loop_place, if_built_place}
-use Rattle.fr_example.proofs.Tokens.{stays}
+use Rattle.fr_example.proofs.TextsWithoutTokens.{stays}
 use Rattle.fr_example.proofs.record.record_of.Goals as goal
 
 -- what the hooks of the builder mean, those that were handed in mean

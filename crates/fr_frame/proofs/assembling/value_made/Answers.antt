@@ -1,5 +1,5 @@
 use Rattle.fr_frame.specs.Common.{as_tracker}
-use Rattle.fr_frame.proofs.BodyLaws.{one_listed}
+use Rattle.fr_frame.proofs.BodyValues.{one_listed}
 use Rattle.fr_frame.proofs.assembling.value_made.Goals as goal
 
 pub value_in_box-requires-clause-one : goal.value_in_box-requires-clause-one

@@ -1,6 +1,6 @@
 use Rattle.std.proofs.Common.{sym, ◌∙◌}
 use Rattle.fr_frame.specs.Common.{as_tracker, cells_occur, occurs, view}
-use Rattle.fr_frame.proofs.BodyLaws.{as_before, begun_occurs, boxes_as_it_is}
+use Rattle.fr_frame.proofs.BodyValues.{as_before, begun_occurs, boxes_as_it_is}
 use Rattle.fr_frame.proofs.assembling.value_of_begun.Goals as goal
 
 pub returns-in-Ok-clause-conserved : goal.returns-in-Ok-clause-conserved

@@ -2,7 +2,7 @@ use Rattle.std.proofs.Common.{List, map, sym, ◌∙◌, ap, refl}
 use Rattle.fr_frame.specs.Common.{Room_same, Value, as_tracker, cells_occur, given, occurs, vals_occur, vals_view, view}
 use Rattle.fr_shape.specs.TokenLaws.{Conserved_same}
 use Rattle.fr_model.specs.Complete.{value_as}
-use Rattle.fr_frame.proofs.BodyLaws.{as_before, begun_occurs, boxless_value}
+use Rattle.fr_frame.proofs.BodyValues.{as_before, begun_occurs, boxless_value}
 use Rattle.fr_values.specs.CellLaws.{values_occur, cells_by_values}
 use Rattle.fr_frame.proofs.assembling.value_of_children.Goals as goal
 

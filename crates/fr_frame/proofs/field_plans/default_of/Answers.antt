@@ -1,5 +1,5 @@
 use Rattle.std.proofs.Common.{◌∙◌}
-use Rattle.fr_frame.proofs.TrackerLaws.{told_takes}
+use Rattle.fr_frame.proofs.RulesOnChildren.{told_takes}
 use Rattle.fr_frame.proofs.field_plans.default_of.Goals as goal
 
 pub returns-in-Template : goal.returns-in-Template

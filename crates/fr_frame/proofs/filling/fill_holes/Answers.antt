@@ -1,6 +1,6 @@
 use Rattle.std.proofs.Common.{◌≡◌, Option, length, sym, ◌∙◌, ap, arith}
 use Rattle.fr_frame.specs.Common.{Val, as_fields, column_of, defaulted_nth, hole_takes, shape_of}
-use Rattle.fr_frame.proofs.LackLaws.{its_fill, names_field, told_here}
+use Rattle.fr_frame.proofs.LacksByChildren.{its_fill, names_field, told_here}
 use Rattle.fr_frame.proofs.FillLaws.{alike_at, all_there_stay, first_all, first_more}
 use Rattle.fr_frame.proofs.filling.fill_holes.Goals as goal
 

@@ -1,6 +1,6 @@
 use Rattle.std.proofs.Common.{◌≡◌, Bool, false, true, not, Some, refl, sym, ◌∙◌, ap}
 use Rattle.fr_frame.specs.Common.{Question, as_fields, ask, shape_of}
-use Rattle.fr_frame.proofs.LackLaws.{passes_all}
+use Rattle.fr_frame.proofs.LacksByChildren.{passes_all}
 use Rattle.fr_frame.proofs.lacking.passes_there.Goals as goal
 
 false_is : (b : Bool) → not b ≡ true → b ≡ false

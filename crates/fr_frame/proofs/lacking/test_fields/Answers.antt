@@ -3,7 +3,7 @@ use Rattle.std.proofs.lemmas.Grind.{common_steps}
 use Rattle.std.proofs.lemmas.Result.{IfErr-weaker}
 use Rattle.fr_frame.specs.Common.{Cell, IfErr, IfSome, IsAnswer, ReflectErrorKind, as_fields, ask, cells_or_holes, child_count, first_asked, option_copied, option_map, shape_of, view}
 use Rattle.fr_frame.proofs.AskLaws.{asked_cause, asked_ends, asked_preserved, there_passes}
-use Rattle.fr_frame.proofs.LackLaws.{its_lack, told_here, told_itself}
+use Rattle.fr_frame.proofs.LacksByChildren.{its_lack, told_here, told_itself}
 use Rattle.fr_frame.proofs.lacking.test_fields.Goals as goal
 
 inside_some : (count i : ℕ) (cells : Option (List Cell)) → i < length (cells_or_holes count cells) → IfSome cells (λ cs. i < length cs)

@@ -2,7 +2,7 @@ use Rattle.std.proofs.Common.{◌≡◌, ℕ, List, Option, Some, None, inl, ref
 use Rattle.std.proofs.lemmas.Result.{on_ok_weaker, IfErr-weaker}
 use Rattle.fr_frame.specs.Common.{Cell, IfErr, IsAnswer, Meanings, OnOk, PartialValue, Question, ReflectErrorKind, Table, Tracker, as_fields, as_tracker, ask, asked, begun_body, body_of, false, first_asked, is_conversion, is_conversion_body, shape_of}
 use Rattle.fr_frame.proofs.AskLaws.{lack_is, unmet_is}
-use Rattle.fr_frame.proofs.TrackerLaws.{fields_are}
+use Rattle.fr_frame.proofs.RulesOnChildren.{fields_are}
 use Rattle.fr_frame.proofs.lacking.test_partial.Goals as goal
 
 asked_begun : (question : Question) (means : Meanings) (table : Table) (s : ℕ) (tracker : Tracker) (cells : List Cell)

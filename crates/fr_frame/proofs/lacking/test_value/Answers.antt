@@ -1,7 +1,7 @@
 use Rattle.std.proofs.Common.{◌≡◌, Option, None, ap, sym, ◌∙◌, subst}
 use Rattle.fr_frame.specs.Common.{IfErr, IsCauseOf, List, OnOk, Question, ReflectErrorKind, ask_field, first_refused, option_copied, option_map, view}
 use Rattle.fr_rules.specs.declared.validators.PrecomputedValidator.{PrecomputedValidator}
-use Rattle.fr_frame.proofs.LackLaws.{field_lacks, names_field}
+use Rattle.fr_frame.proofs.LacksByChildren.{field_lacks, names_field}
 use Rattle.fr_frame.proofs.lacking.test_value.Goals as goal
 
 pub value_for-requires : goal.value_for-requires

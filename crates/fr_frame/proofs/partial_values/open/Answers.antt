@@ -1,6 +1,6 @@
 use Rattle.std.proofs.Common.{List, ap, sym, ◌∙◌}
 use Rattle.fr_frame.specs.Common.{Cell, PartialValue, as_tracker, body_occurs, body_of, cells_occur, view}
-use Rattle.fr_frame.proofs.BodyLaws.{none_occur, parts_occur}
+use Rattle.fr_frame.proofs.BodyValues.{none_occur, parts_occur}
 use Rattle.fr_frame.proofs.partial_values.open.Goals as goal
 
 pub returns-in_ok-children-in-Entered-clause-tokens : goal.returns-in_ok-children-in-Entered-clause-tokens

@@ -1,4 +1,4 @@
-use Rattle.fr_frame.proofs.StepLaws.{key_step, value_step}
+use Rattle.fr_frame.proofs.MapSteps.{key_step, value_step}
 use Rattle.fr_frame.proofs.places.entry_step.Goals as goal
 
 pub returns-then-i-eq0 : goal.returns-then-i-eq0

@@ -1,6 +1,6 @@
 use Rattle.std.proofs.Common.{◌≡◌, ℕ, List, Some, length, option_map, subst, ap, sym, ◌∙◌, rules}
 use Rattle.fr_frame.specs.Common.{Cell, EntriesKind, HoldsNothingTwice, Val, as_entries, cells_of_vals, entries_of, entries_view, map_of, view}
-use Rattle.fr_frame.proofs.EntryLaws.{base_counted, entries_counted}
+use Rattle.fr_frame.proofs.ChildrenOfMaps.{base_counted, entries_counted}
 use Rattle.fr_frame.proofs.splitting.children_of_map.Goals as goal
 use Rattle.fr_frame.proofs.splitting.children_of_map.Goals.{After-entries_of-entries}
 

@@ -1,6 +1,6 @@
 use Rattle.std.proofs.Common.{◌≡◌, ◌+◌, Option, Some, length, sym, subst, rules, arith}
 use Rattle.fr_frame.specs.Common.{IfSome, Vals, cells_of_vals, entries_of, entries_view, in_turn, the_lemmas, view}
-use Rattle.fr_frame.proofs.EntryLaws.{entry_count}
+use Rattle.fr_frame.proofs.ChildrenOfMaps.{entry_count}
 use Rattle.fr_frame.proofs.splitting.count_entries.Goals as goal
 
 pub returns : goal.returns

@@ -2,7 +2,7 @@ use Rattle.std.proofs.Common.{◌≡◌, Option, ap, sym, ◌∙◌, subst}
 use Rattle.std.proofs.lemmas.Result.{on_ok_weaker, IfErr-weaker}
 use Rattle.fr_frame.specs.Common.{IsCauseOf, PartialValue, ReflectErrorKind, Table, Tracker, as_fields, as_tracker, body_of, first_invalid, invalid, is_conversion_body, shape_of, trees_of}
 use Rattle.fr_frame.proofs.AskLaws.{others_valid}
-use Rattle.fr_frame.proofs.TrackerLaws.{fields_are}
+use Rattle.fr_frame.proofs.RulesOnChildren.{fields_are}
 use Rattle.fr_frame.proofs.validating.test_valid.Goals as goal
 
 pub returns-in-Some : goal.returns-in-Some

@@ -1,7 +1,7 @@
 use Rattle.std.proofs.Common.{ℕ, List, ◌∷◌, ◌++◌, [], ap, ◌∙◌, subst}
 use Rattle.fr_partial.specs.Common.{FrameOwner, IsOpenAt, NodeId, Shows, def_of, fresh, heap_of, shape_of}
 use Rattle.fr_frame.specs.Heap.{with_entered}
-use Rattle.fr_partial.proofs.FinishLaws.{root_is}
+use Rattle.fr_moves.specs.PlaceLaws.{root_is}
 use Rattle.fr_partial.proofs.FirstLaws.{first_open, first_unstored}
 use Rattle.fr_partial.proofs.starting.first_place.Goals as goal
 use Rattle.fr_partial.proofs.starting.first_place.Goals.{In-Ok}

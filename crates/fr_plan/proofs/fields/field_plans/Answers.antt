@@ -4,7 +4,7 @@ use Rattle.std.proofs.lemmas.List.{take_all}
 use Rattle.fr_plan.specs.Build.{Placed, fields_from}
 use Rattle.fr_plan.specs.Plans.{IsFieldPlan, nth_node}
 use Rattle.fr_plan.proofs.Growing.{field_grows, fields_added, grown_twice, ok_weaker, zip_weaker}
-use Rattle.fr_plan.proofs.Rows.{fields_more, length-fields_from}
+use Rattle.fr_plan.proofs.OneMoreRow.{fields_more, length-fields_from}
 use Rattle.fr_plan.proofs.fields.field_plans.Goals as goal
 
 pub loop-i-preserved : goal.loop-i-preserved

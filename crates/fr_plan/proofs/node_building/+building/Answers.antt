@@ -1,7 +1,7 @@
 use Rattle.std.proofs.Common.{ap, sym, subst, ◌∙◌, arith, Some}
 use Rattle.fr_plan.specs.Build.{Built, Made, MadeAll, and_then, build, children_built, finish}
 use Rattle.fr_plan.specs.Results.{Gives, IsMeant}
-use Rattle.fr_plan.proofs.Steps.{fields_left, fields_fail, fields_go_on, variants_left, variants_fail, variants_go_on, new_fails, new_goes_on, meant_first, build_unseen, build_building, build_none}
+use Rattle.fr_plan.proofs.WalkSteps.{fields_left, fields_fail, fields_go_on, variants_left, variants_fail, variants_go_on, new_fails, new_goes_on, meant_first, build_unseen, build_building, build_none}
 use Rattle.fr_plan.proofs.node_building.+building.Goals as goal
 
 pub build_fields-returns-in-Err : goal.build_fields-returns-in-Err

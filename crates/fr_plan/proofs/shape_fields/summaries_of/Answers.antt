@@ -1,7 +1,7 @@
 use Rattle.std.proofs.Common.{List, sym, subst}
 use Rattle.fr_shape.specs.declared.shape.Field.{Field}
 use Rattle.fr_plan.specs.ShapeFields.{IsSummaryOf, IsVariantSummary}
-use Rattle.fr_plan.proofs.Rows.{zip_more}
+use Rattle.fr_plan.proofs.OneMoreRow.{zip_more}
 use Rattle.fr_plan.proofs.shape_fields.summaries_of.Goals as goal
 
 pub loop-variant-preserved : goal.loop-variant-preserved

@@ -5,7 +5,7 @@ use Rattle.fr_plan.specs.declared.nodes.TypePlanNode.{TypePlanNode}
 use Rattle.fr_plan.specs.declared.outlines.Outline.{Outline}
 use Rattle.fr_plan.specs.Nodes.{IsNode}
 use Rattle.fr_plan.proofs.Growing.{node_grows, zip_weaker}
-use Rattle.fr_plan.proofs.Rows.{zip_more}
+use Rattle.fr_plan.proofs.OneMoreRow.{zip_more}
 use Rattle.fr_plan.proofs.telling.nodes_of.Goals as goal
 
 pub loop-i-preserved : goal.loop-i-preserved

@@ -6,7 +6,7 @@ use Rattle.fr_plan.specs.declared.nodes.NodeId.{NodeId}
 use Rattle.fr_plan.specs.declared.plans.VariantPlanMeta.{VariantPlanMeta}
 use Rattle.fr_plan.specs.Plans.{IsVariantPlan, PlacedVariant, variants_from}
 use Rattle.fr_plan.proofs.Growing.{variant_grows, variants_added, grown_twice, ok_weaker, zip_weaker}
-use Rattle.fr_plan.proofs.Rows.{variants_next, next_element, zip_more, length-variants_from}
+use Rattle.fr_plan.proofs.OneMoreRow.{variants_next, next_element, zip_more, length-variants_from}
 use Rattle.fr_plan.proofs.variants.variant_plans.Goals as goal
 
 pub loop-i-preserved : goal.loop-i-preserved

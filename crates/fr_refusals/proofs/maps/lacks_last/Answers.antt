@@ -1,7 +1,7 @@
 use Rattle.std.proofs.Common.{sym, ap, ◌∙◌}
 use Rattle.std.specs.Option.{option_and_then}
 use Rattle.fr_values.specs.Cells.{slot_of_cell, value_of_cell}
-use Rattle.fr_refusals.proofs.LastLaws.{absent_cell, ends_so, given_cell, placed_cell}
+use Rattle.fr_refusals.proofs.LastIsThere.{absent_cell, ends_so, given_cell, placed_cell}
 use Rattle.fr_refusals.proofs.maps.lacks_last.Goals as goal
 
 pub returns-in-None-None : goal.returns-in-None-None

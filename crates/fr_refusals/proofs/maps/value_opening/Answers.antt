@@ -4,8 +4,8 @@ use Rattle.fr_frame.specs.declared.places.Tracker.{Tracker}
 use Rattle.fr_frame.specs.Bodies.{own_tree}
 use Rattle.fr_frame.specs.Heap.{as_tracker, body_of}
 use Rattle.fr_refusals.specs.Openings.{HasItems}
-use Rattle.fr_refusals.proofs.LookLaws.{begun_items}
-use Rattle.fr_refusals.proofs.LastLaws.{ends_some}
+use Rattle.fr_refusals.proofs.BegunLooks.{begun_items}
+use Rattle.fr_refusals.proofs.LastIsThere.{ends_some}
 use Rattle.fr_refusals.proofs.maps.value_opening.Goals as goal
 
 pub returns-in-Map-clause-items : goal.returns-in-Map-clause-items

@@ -15,7 +15,7 @@ use Rattle.fr_model.specs.Tree.{initial, one_more_call}
 use Rattle.fr_partial.specs.Builder.{holds}
 use Rattle.fr_partial.specs.Starting.{RefusedWith}
 use Rattle.fr_script.specs.Outcomes.{kind_without_plan}
-use Rattle.fr_script.proofs.RunLaws.{same_step, runs_on, one_call_more}
+use Rattle.fr_script.proofs.AdmittedCommands.{same_step, runs_on, one_call_more}
 use Rattle.fr_script.proofs.building.build_script.Given.{Over}
 use Rattle.fr_script.proofs.building.build_script.Goals as goal
 use Rattle.fr_script.proofs.building.build_script.Goals.{In-Some}

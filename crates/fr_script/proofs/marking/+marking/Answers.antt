@@ -1,5 +1,5 @@
 use Rattle.std.proofs.Common.{Some, None, ◌∙◌}
-use Rattle.fr_script.proofs.MarkLaws.{values_from, key_from, entry_from}
+use Rattle.fr_script.proofs.MarkedTokens.{values_from, key_from, entry_from}
 use Rattle.fr_script.proofs.marking.+marking.Goals as goal
 
 pub mark_values-returns-then-not-mark_value : goal.mark_values-returns-then-not-mark_value

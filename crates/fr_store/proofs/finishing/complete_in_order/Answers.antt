@@ -2,7 +2,7 @@ use Rattle.std.proofs.Common.{refl}
 use Rattle.fr_store.proofs.Outcomes.{or_so}
 use Rattle.fr_store.proofs.WalkedLaws.{head_due, walk_begins, walk_goes_on, walk_held_up, walk_next, walk_stopped}
 use Rattle.fr_store.proofs.TakenLaws.{room_still}
-use Rattle.fr_store.proofs.ReleasedLaws.{conserved_on, conserved_same}
+use Rattle.fr_store.proofs.HeldOrReleased.{conserved_on, conserved_same}
 use Rattle.fr_store.proofs.finishing.complete_in_order.Goals as goal
 
 pub loop-place-init : goal.loop-place-init

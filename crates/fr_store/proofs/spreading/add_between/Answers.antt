@@ -4,7 +4,7 @@ use Rattle.std.specs.List.Sorted.{IsPartitionPoint}
 use Rattle.std.proofs.lemmas.List.{append-nil, at_drop_all, at_drop_more, take_more_set}
 use Rattle.std.proofs.lemmas.List.Sorted.{IsPartitionedBy-ltb, IsPartitionPoint-from_clause}
 use Rattle.fr_store.specs.Common.{StoredPlace, is_between, key_of, slot_of, slots_between, slots_of}
-use Rattle.fr_store.proofs.RunLaws.{run_ahead, run_ends, run_on}
+use Rattle.fr_store.proofs.KeyRanges.{run_ahead, run_ends, run_on}
 use Rattle.fr_store.proofs.spreading.add_between.Goals as goal
 use Rattle.fr_store.proofs.spreading.add_between.Goals.{After-rest-1}
 

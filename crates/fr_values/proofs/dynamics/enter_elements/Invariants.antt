@@ -1,6 +1,6 @@
 use Rattle.std.proofs.Common.{◌≡◌, ◌+◌, ◌++◌, length, map, take}
 use Rattle.fr_values.specs.Common.{into_iter_items, into_iter_len}
-use Rattle.fr_values.proofs.DynamicLaws.{element_cell}
+use Rattle.fr_values.proofs.DynamicParts.{element_cell}
 use Rattle.fr_values.proofs.dynamics.enter_elements.Given as goal
 
 abbrev pub invariant-loop-element : goal.invariant-loop-element

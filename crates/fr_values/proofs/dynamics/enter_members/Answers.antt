@@ -1,7 +1,7 @@
 use Rattle.std.proofs.Common.{map, sym, ◌∙◌, arith}
 use Rattle.fr_values.specs.Common.{into_iter_items}
 use Rattle.std.proofs.lemmas.List.{nil_from_length}
-use Rattle.fr_values.proofs.DynamicLaws.{member_cell, member_cells, entered_all}
+use Rattle.fr_values.proofs.DynamicParts.{member_cell, member_cells, entered_all}
 use Rattle.fr_values.proofs.dynamics.enter_members.Goals as goal
 
 pub returns : goal.returns

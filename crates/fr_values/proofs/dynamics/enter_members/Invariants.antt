@@ -1,6 +1,6 @@
 use Rattle.std.proofs.Common.{◌≡◌, ◌+◌, ◌++◌, length, map, take}
 use Rattle.fr_values.specs.Common.{into_iter_items, into_iter_len}
-use Rattle.fr_values.proofs.DynamicLaws.{member_cell}
+use Rattle.fr_values.proofs.DynamicParts.{member_cell}
 use Rattle.fr_values.proofs.dynamics.enter_members.Given as goal
 
 abbrev pub invariant-loop-member : goal.invariant-loop-member

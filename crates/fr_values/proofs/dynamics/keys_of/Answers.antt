@@ -1,7 +1,7 @@
 use Rattle.std.proofs.Common.{ℕ, List, map, sym, ap, ◌∙◌}
 use Rattle.std.proofs.lemmas.List.{take_all}
 use Rattle.fr_values.specs.Common.{Dyn}
-use Rattle.fr_values.proofs.DynamicLaws.{keys_viewed}
+use Rattle.fr_values.proofs.DynamicParts.{keys_viewed}
 use Rattle.fr_values.proofs.dynamics.keys_of.Goals as goal
 
 pub returns : goal.returns

@@ -2,7 +2,7 @@ use Rattle.std.proofs.Common.{◌≡◌, [], map, sym, ap, ◌∙◌, arith}
 use Rattle.fr_values.specs.Common.{dyn_view, into_iter_items, vals_occur, vals_view}
 use Rattle.fr_shape.specs.View.{dynamics_of}
 use Rattle.std.proofs.lemmas.List.{nil_from_length}
-use Rattle.fr_values.proofs.DynamicLaws.{dynamic_of, elements_made, made_all, room_next}
+use Rattle.fr_values.proofs.DynamicParts.{dynamic_of, elements_made, made_all, room_next}
 use Rattle.fr_values.proofs.dynamics.put_elements.Goals as goal
 
 pub dynamic_in-requires : goal.dynamic_in-requires

@@ -1,6 +1,6 @@
 use Rattle.std.proofs.Common.{◌≡◌, ◌≤◌, ◌+◌, ◌++◌, length, map, vec_len, vec_capacity}
 use Rattle.fr_values.specs.Common.{Conserved, dyn_view, into_iter_items, into_iter_len, vals_occur, vals_view}
-use Rattle.fr_values.proofs.DynamicLaws.{dynamic_of}
+use Rattle.fr_values.proofs.DynamicParts.{dynamic_of}
 use Rattle.fr_values.proofs.dynamics.put_elements.Given as goal
 
 abbrev pub invariant-loop-value : goal.invariant-loop-value

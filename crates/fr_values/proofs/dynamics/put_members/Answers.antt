@@ -2,7 +2,7 @@ use Rattle.std.proofs.Common.{◌≡◌, [], sym, ap, ◌∙◌, arith}
 use Rattle.fr_values.specs.Common.{into_iter_items, names_of, vals_occur, vals_view}
 use Rattle.fr_shape.specs.View.{member_view, members_of}
 use Rattle.std.proofs.lemmas.List.{nil_from_length}
-use Rattle.fr_values.proofs.DynamicLaws.{members_made, made_all, pairs_in, pairs_none, room_next}
+use Rattle.fr_values.proofs.DynamicParts.{members_made, made_all, pairs_in, pairs_none, room_next}
 use Rattle.fr_values.proofs.dynamics.put_members.Goals as goal
 
 pub dynamic_in-dynamic-requires : goal.dynamic_in-dynamic-requires

@@ -1,7 +1,7 @@
 use Rattle.std.proofs.Common.{◌≡◌, ◌≤◌, ◌+◌, ◌++◌, length, map, vec_len, vec_capacity}
 use Rattle.fr_values.specs.Common.{Conserved, into_iter_items, into_iter_len, names_of, vals_occur, vals_view}
 use Rattle.fr_shape.specs.View.{member_view}
-use Rattle.fr_values.proofs.DynamicLaws.{pairs_in}
+use Rattle.fr_values.proofs.DynamicParts.{pairs_in}
 use Rattle.fr_values.proofs.dynamics.put_members.Given as goal
 
 abbrev pub invariant-loop-value : goal.invariant-loop-value

@@ -1,7 +1,7 @@
 use Rattle.std.proofs.Common.{◌+◌, refl, arith}
 use Rattle.fr_shape.specs.TokenLaws.{Room_conserved}
 use Rattle.fr_shape.specs.View.{view}
-use Rattle.fr_builder_tests.proofs.SetLaws.{fewer, room_after, at_most_one, room_with_one, few_left, room_left}
+use Rattle.fr_builder_tests.proofs.OneTokenItems.{fewer, room_after, at_most_one, room_with_one, few_left, room_left}
 use Rattle.fr_builder_tests.proofs.builder_tests.sets.add_item.Goals as goal
 
 pub set_shape-requires-clause-room : goal.set_shape-requires-clause-room

@@ -1,4 +1,4 @@
-use Rattle.fr_builder_tests.proofs.SlotLaws.{room_at}
+use Rattle.fr_builder_tests.proofs.TokenlessSlots.{room_at}
 use Rattle.fr_builder_tests.proofs.builder_tests.slots.release.Goals as goal
 
 pub release_frame-requires-clause-room : goal.release_frame-requires-clause-room

@@ -1,8 +1,8 @@
 use Rattle.std.proofs.Common.{◌≡◌, true, sym, ◌∙◌, arith}
 use Rattle.std.proofs.lemmas.Result.{on_ok_weaker, IfErr-weaker}
 use Rattle.fr_frame.specs.Common.{Node, as_tracker, is_begun_body, opened}
-use Rattle.fr_frame.proofs.PlaceLaws.{in_use_so, shows, shows_same, occur_change}
-use Rattle.fr_frame.proofs.StayLaws.{begun_before}
+use Rattle.fr_frame.proofs.ChangedPlaces.{in_use_so, shows, shows_same, occur_change}
+use Rattle.fr_frame.proofs.UnchangedPlaces.{begun_before}
 use Rattle.fr_frame.proofs.places.SlotId.begin.Goals as goal
 
 pub returns-then-is_begun-clause-begun : goal.returns-then-is_begun-clause-begun

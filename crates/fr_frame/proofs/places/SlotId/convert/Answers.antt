@@ -4,7 +4,7 @@ use Rattle.std.proofs.lemmas.Result.{IfErr-weaker}
 use Rattle.fr_frame.specs.Common.{IfErr, IfInUse, ReflectErrorKind, TypePlanNode, heap_of, option_map, shape_of, unwrap_or, view}
 use Rattle.fr_frame.specs.Converting.{IsRefused, OfSource}
 use Rattle.fr_plan.specs.LookupLaws.{shape_of as shape_of_node}
-use Rattle.fr_frame.proofs.ConvertLaws.{converted_so, refused_so}
+use Rattle.fr_frame.proofs.ConversionSources.{converted_so, refused_so}
 use Rattle.fr_frame.proofs.places.SlotId.convert.Goals as goal
 
 pub returns-in_err-made-clause-why : goal.returns-in_err-made-clause-why

@@ -3,7 +3,7 @@ use Rattle.fr_frame.specs.Common.{Body, FrameOwner, Node, Room, Slot, body_occur
 use Rattle.fr_frame.specs.Heap.{ends}
 use Rattle.fr_frame.specs.declared.places.Taker.{Taker}
 use Rattle.fr_frame.proofs.HandLaws.{ends_unlinked, moved_conserved, passed, so_of}
-use Rattle.fr_frame.proofs.PlaceLaws.{occur_change, with_partial, shows}
+use Rattle.fr_frame.proofs.ChangedPlaces.{occur_change, with_partial, shows}
 use Rattle.fr_frame.proofs.places.SlotId.end.Goals as goal
 
 pub end_child-requires-clause-room : goal.end_child-requires-clause-room

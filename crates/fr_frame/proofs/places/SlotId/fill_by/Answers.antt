@@ -1,7 +1,7 @@
 use Rattle.std.proofs.Common.{◌≡◌, ◌⊎◌, inl, inr, set, subst, arith}
 use Rattle.std.proofs.lemmas.Result.{on_ok_weaker, IfErr-weaker}
 use Rattle.fr_frame.specs.Common.{Becomes, Body, IsClosedAt, Node, ReflectErrorKind, Shows, Slot, body_of, column_of, defaulted, heap_of, node_of, shape_of}
-use Rattle.fr_frame.proofs.PlaceLaws.{with_partial, of_place, becomes, shows_same, occur_change}
+use Rattle.fr_frame.proofs.ChangedPlaces.{with_partial, of_place, becomes, shows_same, occur_change}
 use Rattle.fr_frame.proofs.places.SlotId.fill_by.Goals as goal
 
 pub returns-clause-filled : goal.returns-clause-filled

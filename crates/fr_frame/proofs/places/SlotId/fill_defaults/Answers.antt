@@ -2,7 +2,7 @@ use Rattle.std.proofs.Common.{inl, inr}
 use Rattle.std.proofs.lemmas.Result.{IfErr-weaker}
 use Rattle.fr_frame.specs.Common.{FillColumn, IsUnfilled, Node, Some, shape_of, takes_template, true, unmet, ◌≡◌, ◌⊎◌}
 use Rattle.fr_shape.specs.declared.error.ReflectErrorKind.{ReflectErrorKind as Kind}
-use Rattle.fr_frame.proofs.PlaceLaws.{in_use_so}
+use Rattle.fr_frame.proofs.ChangedPlaces.{in_use_so}
 use Rattle.fr_frame.proofs.places.SlotId.fill_defaults.Goals as goal
 
 pub returns-clause-why : goal.returns-clause-why

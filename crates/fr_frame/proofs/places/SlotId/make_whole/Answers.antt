@@ -3,7 +3,7 @@ use Rattle.std.proofs.lemmas.Result.{on_ok_weaker, IfErr-weaker}
 use Rattle.fr_frame.specs.Common.{Node, Room, Slot, body_occurs, body_of, heap_of, node_in, node_of, option_and_then, slots_occur}
 use Rattle.fr_shape.specs.TokenLaws.{Room_conserved}
 use Rattle.fr_frame.proofs.HandLaws.{made_here, moved_conserved, so_of}
-use Rattle.fr_frame.proofs.PlaceLaws.{of_with_partial, with_partial, shows_same, occur_change}
+use Rattle.fr_frame.proofs.ChangedPlaces.{of_with_partial, with_partial, shows_same, occur_change}
 use Rattle.fr_frame.proofs.places.SlotId.make_whole.Goals as goal
 
 pub returns-clause-made : goal.returns-clause-made

@@ -1,6 +1,6 @@
 use Rattle.std.proofs.Common.{◌≡◌, ℕ, ◌+◌, set, ap, arith}
 use Rattle.fr_frame.specs.Common.{Body, Node, PartialValue, Slot, body_occurs, body_of, occurs, slots_occur, view, whole_body}
-use Rattle.fr_frame.proofs.PlaceLaws.{with_partial, of_place, occur_change, shows}
+use Rattle.fr_frame.proofs.ChangedPlaces.{with_partial, of_place, occur_change, shows}
 use Rattle.fr_frame.proofs.places.SlotId.put.Goals as goal
 
 pub returns-clause-put : goal.returns-clause-put

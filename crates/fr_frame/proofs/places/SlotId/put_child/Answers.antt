@@ -1,6 +1,6 @@
 use Rattle.std.proofs.Common.{arith}
 use Rattle.fr_frame.specs.Common.{Body, given, view, with_cell}
-use Rattle.fr_frame.proofs.PlaceLaws.{shows, occur_change}
+use Rattle.fr_frame.proofs.ChangedPlaces.{shows, occur_change}
 use Rattle.fr_frame.proofs.places.SlotId.put_child.Goals as goal
 
 pub returns-clause-put : goal.returns-clause-put

@@ -2,7 +2,7 @@ use Rattle.std.proofs.Common.{◌≡◌, slice_get, Some, ap, sym, ◌∙◌, ar
 use Rattle.fr_frame.specs.Common.{as_tracker, reformed}
 use Rattle.fr_frame.specs.RawSlots.{stays_list}
 use Rattle.fr_values.specs.SliceLaws.{read}
-use Rattle.fr_frame.proofs.PlaceLaws.{shows, occur_change}
+use Rattle.fr_frame.proofs.ChangedPlaces.{shows, occur_change}
 use Rattle.fr_frame.proofs.RawLaws.{reform_same, reform_shows, used_inside}
 use Rattle.fr_frame.proofs.places.SlotId.reform.Goals as goal
 

@@ -1,7 +1,7 @@
 use Rattle.std.proofs.Common.{◌≡◌, Some, None}
 use Rattle.std.proofs.lemmas.Result.{on_ok_weaker, IfErr-weaker}
 use Rattle.fr_frame.specs.Common.{Node, Slot, first_hole_left, shape_of}
-use Rattle.fr_frame.proofs.PlaceLaws.{of_place}
+use Rattle.fr_frame.proofs.ChangedPlaces.{of_place}
 use Rattle.fr_values.specs.SliceLaws.{set_as_was}
 use Rattle.fr_frame.proofs.places.SlotId.require_full_initialization.Goals as goal
 

@@ -1,7 +1,7 @@
 use Rattle.std.proofs.Common.{◌≡◌, ℕ, ◌+◌, List, set, ap, ◌∙◌, arith}
 use Rattle.fr_frame.specs.Common.{Cell, Node, PartialValue, Slot, as_tracker, begun_body, body_occurs, body_of, cells_occur, restarted, slots_occur}
-use Rattle.fr_frame.proofs.BodyLaws.{none_occur}
-use Rattle.fr_frame.proofs.PlaceLaws.{with_partial, of_place, occur_change, shows}
+use Rattle.fr_frame.proofs.BodyValues.{none_occur}
+use Rattle.fr_frame.proofs.ChangedPlaces.{with_partial, of_place, occur_change, shows}
 use Rattle.fr_frame.proofs.places.SlotId.restart.Goals as goal
 
 pub returns-clause-restarted : goal.returns-clause-restarted

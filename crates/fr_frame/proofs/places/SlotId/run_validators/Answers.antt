@@ -4,8 +4,8 @@ use Rattle.fr_frame.specs.Common.{HasAllChildren, IsCauseOf, IsChecked, IsPlanFo
 use Rattle.fr_frame.specs.OutlineLaws.{same_list}
 use Rattle.fr_frame.proofs.OutlinedLaws.{found_same, of_outline, same_body}
 use Rattle.fr_frame.proofs.HandLaws.{so_of}
-use Rattle.fr_frame.proofs.PlaceLaws.{of_node}
-use Rattle.fr_frame.proofs.StayLaws.{list_valid}
+use Rattle.fr_frame.proofs.ChangedPlaces.{of_node}
+use Rattle.fr_frame.proofs.UnchangedPlaces.{list_valid}
 use Rattle.fr_frame.proofs.places.SlotId.run_validators.Goals as goal
 
 pub returns-then-is_list-clause-passing : goal.returns-then-is_list-clause-passing

@@ -1,6 +1,6 @@
 use Rattle.std.proofs.Common.{List, ap, ◌∙◌, arith}
 use Rattle.fr_frame.specs.Common.{Slot, heap_of, slots_occur, slots_seen}
-use Rattle.fr_frame.proofs.SlotLaws.{append_occur, append_reserved, append_shows, past_seen}
+use Rattle.fr_frame.proofs.SingleSlots.{append_occur, append_reserved, append_shows, past_seen}
 use Rattle.fr_frame.proofs.slots.Slots.append.Goals as goal
 
 pub returns-clause-reserved : goal.returns-clause-reserved

@@ -1,7 +1,7 @@
 use Rattle.std.proofs.Common.{ap, sym, ◌∙◌, arith}
 use Rattle.fr_frame.specs.Common.{Node, Rope, Slot, SlotId, body_of, body_with, cell_at, held_items, option_and_then, slot_of_cell}
 use Rattle.fr_frame.proofs.RawLaws.{child_of_list, child_of_none, child_seen}
-use Rattle.fr_frame.proofs.SlotLaws.{past_seen}
+use Rattle.fr_frame.proofs.SingleSlots.{past_seen}
 use Rattle.fr_frame.proofs.slots.Slots.child_slot.Goals as goal
 
 pub returns-then-id-len : goal.returns-then-id-len

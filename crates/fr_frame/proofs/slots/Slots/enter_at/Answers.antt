@@ -4,7 +4,7 @@ use Rattle.fr_frame.specs.Bodies.{taken_over}
 use Rattle.fr_values.specs.Cells.{held_value}
 use Rattle.fr_frame.specs.Growing.{grown_above}
 use Rattle.fr_frame.proofs.GrowLaws.{entered_here, taken_fresh, taken_value}
-use Rattle.fr_frame.proofs.ListLaws.{fresh_by}
+use Rattle.fr_frame.proofs.EnteredItems.{fresh_by}
 use Rattle.fr_frame.proofs.slots.Slots.enter_at.Goals.{in-Some-held, in-None}
 use Rattle.fr_frame.proofs.slots.Slots.enter_at.Goals as goal
 

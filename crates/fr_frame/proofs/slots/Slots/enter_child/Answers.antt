@@ -3,7 +3,7 @@ use Rattle.std.proofs.lemmas.Result.{IfOk-weaker}
 use Rattle.fr_frame.specs.Common.{Heap, Node, Shows, def_of, heap_of, shape_of, with_entered}
 use Rattle.fr_frame.specs.Growing.{number_by, widened}
 use Rattle.fr_frame.specs.Kids.{child_owner}
-use Rattle.fr_frame.proofs.PlaceLaws.{in_use_so}
+use Rattle.fr_frame.proofs.ChangedPlaces.{in_use_so}
 use Rattle.fr_frame.proofs.slots.Slots.enter_child.Goals as goal
 
 pub returns-clause-entered : goal.returns-clause-entered

@@ -1,6 +1,6 @@
 use Rattle.std.proofs.Common.{List, refl, ap, ◌∙◌, arith}
 use Rattle.fr_frame.specs.Common.{Slot, heap_of, slots_occur, slots_seen}
-use Rattle.fr_frame.proofs.SlotLaws.{reserved_in, set_occur, set_same}
+use Rattle.fr_frame.proofs.SingleSlots.{reserved_in, set_occur, set_same}
 use Rattle.fr_frame.proofs.slots.Slots.give_back.Goals as goal
 
 pub put-requires : goal.put-requires

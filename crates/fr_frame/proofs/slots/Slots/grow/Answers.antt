@@ -2,7 +2,7 @@ use Rattle.std.proofs.Common.{arith}
 use Rattle.std.proofs.lemmas.Result.{on_ok_weaker, IfErr-weaker}
 use Rattle.fr_frame.specs.Common.{Slot}
 use Rattle.fr_frame.specs.Growing.{grown}
-use Rattle.fr_frame.proofs.PlaceLaws.{keeps_reserved, with_partial, shows, shows_same, occur_change}
+use Rattle.fr_frame.proofs.ChangedPlaces.{keeps_reserved, with_partial, shows, shows_same, occur_change}
 use Rattle.fr_frame.proofs.slots.Slots.grow.Goals as goal
 
 pub returns-clause-grown : goal.returns-clause-grown

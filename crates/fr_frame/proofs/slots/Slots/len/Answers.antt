@@ -1,6 +1,6 @@
 use Rattle.std.proofs.Common.{List, length, ap, sym, ◌∙◌}
 use Rattle.fr_frame.specs.Common.{Slot}
-use Rattle.fr_frame.proofs.SeenLaws.{seen_length}
+use Rattle.fr_frame.proofs.SeenSlots.{seen_length}
 use Rattle.fr_frame.proofs.slots.Slots.len.Goals as goal
 
 pub returns : goal.returns

@@ -1,6 +1,6 @@
 use Rattle.std.proofs.Common.{arith}
 use Rattle.fr_frame.specs.Common.{Slot, linked}
-use Rattle.fr_frame.proofs.PlaceLaws.{keeps_reserved, with_partial, shows, occur_change}
+use Rattle.fr_frame.proofs.ChangedPlaces.{keeps_reserved, with_partial, shows, occur_change}
 use Rattle.fr_frame.proofs.slots.Slots.link_child.Goals as goal
 
 pub returns-clause-rest : goal.returns-clause-rest

@@ -1,6 +1,6 @@
 use Rattle.std.proofs.Common.{List, refl, ap, ◌∙◌, arith}
 use Rattle.fr_frame.specs.Common.{Slot, heap_of, slots_occur, slots_seen}
-use Rattle.fr_frame.proofs.SlotLaws.{reserved_in, set_occur, set_shows}
+use Rattle.fr_frame.proofs.SingleSlots.{reserved_in, set_occur, set_shows}
 use Rattle.fr_frame.proofs.slots.Slots.occupy.Goals as goal
 
 pub put-requires : goal.put-requires

@@ -1,6 +1,6 @@
 use Rattle.std.proofs.Common.{◌≡◌, Some, slice_get, option_map, ap, sym, ◌∙◌, arith}
 use Rattle.fr_frame.specs.Common.{held_items, outlined}
-use Rattle.fr_frame.proofs.SlotLaws.{no_place, node_seen, past_seen, with_place}
+use Rattle.fr_frame.proofs.SingleSlots.{no_place, node_seen, past_seen, with_place}
 use Rattle.fr_values.specs.SliceLaws.{read}
 use Rattle.fr_frame.proofs.slots.Slots.place.Goals as goal
 

@@ -1,6 +1,6 @@
 use Rattle.std.proofs.Common.{◌≡◌, ℕ, Some, set, slice_get, refl, ap, arith, ◌∙◌}
 use Rattle.fr_frame.specs.Common.{Place, Slot, slots_seen}
-use Rattle.fr_frame.proofs.SlotLaws.{drained_inside, drained_slot, get_seen, set_seen}
+use Rattle.fr_frame.proofs.SingleSlots.{drained_inside, drained_slot, get_seen, set_seen}
 use Rattle.fr_values.specs.SliceLaws.{read}
 use Rattle.fr_frame.proofs.slots.Slots.place_mut.Goals as goal
 

@@ -1,7 +1,7 @@
 use Rattle.std.proofs.Common.{◌≡◌, Some, sym, ◌∙◌}
 use Rattle.fr_frame.specs.Common.{IfInUse, Node, heap_of, is_list_body, true}
-use Rattle.fr_frame.proofs.ListLaws.{linked_in, unheld_in}
-use Rattle.fr_frame.proofs.PlaceLaws.{in_use_so}
+use Rattle.fr_frame.proofs.EnteredItems.{linked_in, unheld_in}
+use Rattle.fr_frame.proofs.ChangedPlaces.{in_use_so}
 use Rattle.fr_frame.proofs.slots.Slots.take_in.Goals as goal
 
 pub returns-in_ok-add_item-in-Item-clause-linked : goal.returns-in_ok-add_item-in-Item-clause-linked

@@ -2,7 +2,7 @@ use Rattle.std.proofs.Common.{◌≡◌, not, None, ap, sym, ◌∙◌, arith}
 use Rattle.fr_frame.specs.Common.{FrameOwner, Heap, heap_of, unlinked, unlinks}
 use Rattle.fr_frame.proofs.OutlinedLaws.{place_missing}
 use Rattle.fr_frame.proofs.HeapLaws.{with_body_free}
-use Rattle.fr_frame.proofs.PlaceLaws.{shows, occur_change}
+use Rattle.fr_frame.proofs.ChangedPlaces.{shows, occur_change}
 use Rattle.fr_frame.proofs.slots.Slots.unlink.Goals as goal
 
 pub returns-then-is_none-clause-rest : goal.returns-then-is_none-clause-rest

@@ -1,7 +1,7 @@
 use Rattle.std.proofs.Common.{List, slice_get, refl, ap, ◌∙◌, arith}
 use Rattle.fr_frame.specs.Common.{Slot, heap_of, slots_occur, slots_seen}
 use Rattle.fr_values.specs.SliceLaws.{set_gets}
-use Rattle.fr_frame.proofs.SlotLaws.{get_seen, node_seen, set_occur, set_same}
+use Rattle.fr_frame.proofs.SingleSlots.{get_seen, node_seen, set_occur, set_same}
 use Rattle.fr_frame.proofs.slots.Slots.vacant.Goals as goal
 
 pub returns-clause-reserved : goal.returns-clause-reserved

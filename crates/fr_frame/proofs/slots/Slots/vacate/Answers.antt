@@ -1,6 +1,6 @@
 use Rattle.std.proofs.Common.{◌≡◌, ℕ, List, Some, set, slice_get, refl, sym, ap, ap₂, ◌∙◌, arith}
 use Rattle.fr_frame.specs.Common.{IsPlain, Slot, heap_of, slots_occur, slots_seen}
-use Rattle.fr_frame.proofs.SlotLaws.{drained_inside, drained_slot, node_seen, plain_used, set_occur, set_shows}
+use Rattle.fr_frame.proofs.SingleSlots.{drained_inside, drained_slot, node_seen, plain_used, set_occur, set_shows}
 use Rattle.fr_values.specs.SliceLaws.{read}
 use Rattle.fr_frame.proofs.slots.Slots.vacate.Goals as goal
 

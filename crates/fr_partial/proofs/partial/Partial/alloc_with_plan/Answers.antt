@@ -3,7 +3,8 @@ use Rattle.fr_shape.specs.declared.error.AllocError.{AllocError}
 use Rattle.fr_partial.specs.Common.{IsIn, IsPlanFrom, IsPlanOf, ShapeId, unsized_refusal}
 use Rattle.fr_model.specs.Tree.{initial}
 use Rattle.fr_partial.specs.Starting.{RefusedWith}
-use Rattle.fr_partial.proofs.StartLaws.{if_ok, root_shape, only_unsized}
+use Rattle.fr_moves.specs.ResultLaws.{if_ok}
+use Rattle.fr_partial.proofs.StartLaws.{root_shape, only_unsized}
 use Rattle.fr_partial.proofs.partial.Partial.alloc_with_plan.Goals as goal
 use Rattle.fr_partial.proofs.partial.Partial.alloc_with_plan.Goals.{After-root}
 use Rattle.fr_partial.proofs.partial.Partial.alloc_with_plan.Given.{Over}

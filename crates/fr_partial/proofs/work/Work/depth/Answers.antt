@@ -1,6 +1,6 @@
 use Rattle.std.proofs.Common.{length, ap, arith}
 use Rattle.fr_partial.specs.Common.{Parts}
-use Rattle.fr_partial.proofs.WorkLaws.{open_count}
+use Rattle.fr_moves.specs.WorkLaws.{open_count}
 use Rattle.fr_partial.proofs.work.Work.depth.Goals as goal
 
 pub returns : goal.returns

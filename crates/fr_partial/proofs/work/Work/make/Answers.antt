@@ -1,8 +1,8 @@
 use Rattle.std.proofs.Common.{◌≡◌, ℕ, ◌+◌, refl, sym, ◌∙◌, ap}
 use Rattle.fr_partial.specs.Common.{Conserved_same, Parts, Room_conserved, Room_same, carried, held_at, held_in}
-use Rattle.fr_partial.proofs.KeepLaws.{kept_through}
-use Rattle.fr_partial.proofs.RemovedLaws.{all_released}
-use Rattle.fr_partial.proofs.WorkLaws.{held_seen}
+use Rattle.fr_moves.specs.RemovedLaws.{kept_through}
+use Rattle.fr_moves.specs.RemovedLaws.{all_released}
+use Rattle.fr_moves.specs.WorkLaws.{held_seen}
 use Rattle.fr_partial.proofs.work.Work.make.Given.{Over}
 use Rattle.fr_partial.proofs.work.Work.make.Goals as goal
 use Rattle.fr_partial.proofs.work.Work.make.Goals.{After-deref_mut}

@@ -2,10 +2,10 @@ use Rattle.std.proofs.Common.{◌≡◌, false, sym, refl, ◌∙◌, ap, subst}
 use Rattle.fr_partial.specs.Common.{IsSound, Site, is_begun_conversion, is_begun_dynamic, is_root, is_set, site, top_place, Plan, def_of, own_tree, body_of}
 use Rattle.fr_model.specs.Step.{is_dynamic_part, is_set_item, is_source_place}
 use Rattle.fr_partial.proofs.AboveLaws.{dynamic_outlined, never_free, never_root, set_outlined, source_outlined, told, above_inside, ends_so, field_here, field_outlined, node_told}
-use Rattle.fr_partial.proofs.PlaceLaws.{none_found}
+use Rattle.fr_moves.specs.PlaceLaws.{none_found}
 use Rattle.fr_partial.proofs.work.Work.place_above.Goals as goal
 use Rattle.fr_partial.proofs.work.Work.place_above.Goals.{After-core-plan, After-deref-parts}
-use Rattle.fr_partial.specs.Underway.{IsReady}
+use Rattle.fr_moves.specs.Underway.{IsReady}
 use Rattle.fr_model.specs.Tree.{cursor_field, field_below}
 
 sound : (c : After-deref-parts) → IsSound c.deref-parts.result.now
@@ -58,7 +58,7 @@ returns-clause-source c =
 ready : (c : After-core-plan) → IsReady c.deref-parts.result.now.frames.table.now c.deref-parts.result.now.frames.root c.core-plan.result.now c.deref-parts.result.now.frames.slots c.deref-parts.result.now.frames.stack
 ready c =
     subst (λ (p : Plan). IsReady c.deref-parts.result.now.frames.table.now c.deref-parts.result.now.frames.root p c.deref-parts.result.now.frames.slots c.deref-parts.result.now.frames.stack)
-    (sym c.core-plan.ensures) (subst IsSound (sym c.deref-parts.ensures) c.self.invariant).at_work.ready
+    (sym c.core-plan.ensures.plan) (subst IsSound (sym c.deref-parts.ensures) c.self.invariant).at_work.ready
 
 pub node-requires : goal.node-requires
 node-requires c =

@@ -1,6 +1,6 @@
 use Rattle.std.proofs.Common.{ℕ, sym}
 use Rattle.fr_partial.specs.Common.{Room_same, RoseBy_same}
-use Rattle.fr_partial.proofs.WorkLaws.{held_seen}
+use Rattle.fr_moves.specs.WorkLaws.{held_seen}
 use Rattle.fr_partial.proofs.work.Work.release.Goals as goal
 
 pub release-requires : goal.release-requires

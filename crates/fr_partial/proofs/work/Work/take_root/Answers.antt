@@ -1,9 +1,9 @@
 use Rattle.std.proofs.Common.{ℕ, Ok, Err, sym, refl, ◌∙◌, ap, subst, inr}
 use Rattle.fr_partial.specs.Common.{Conserved_same, IsSound, ReflectErrorKind, Room_conserved, Room_same, RoseBy_same, Site, Val, fits, occurs, site, view}
 use Rattle.fr_partial.proofs.BuildLaws.{broken_so, broken_then, built_not, built_so, due_now, kept_then, fits_so, needed_none, refused_first, IsDue}
-use Rattle.fr_partial.proofs.KeepLaws.{kept_through}
-use Rattle.fr_partial.proofs.RemovedLaws.{all_released}
-use Rattle.fr_partial.proofs.WorkLaws.{held_seen}
+use Rattle.fr_moves.specs.RemovedLaws.{kept_through}
+use Rattle.fr_moves.specs.RemovedLaws.{all_released}
+use Rattle.fr_moves.specs.WorkLaws.{held_seen}
 use Rattle.fr_partial.proofs.work.Work.take_root.Given.{Over}
 use Rattle.fr_partial.proofs.work.Work.take_root.Goals as goal
 use Rattle.fr_partial.proofs.work.Work.take_root.Goals.{After-into_inner-plan}

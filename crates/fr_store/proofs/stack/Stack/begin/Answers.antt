@@ -1,8 +1,8 @@
 use Rattle.std.proofs.lemmas.Result.{on_ok_weaker}
 use Rattle.fr_store.specs.Common.{as_tracker, top_in_use}
-use Rattle.fr_store.proofs.BeginLaws.{open_begun, stay_begun}
+use Rattle.fr_store.proofs.BeginningTops.{open_begun, stay_begun}
 use Rattle.fr_store.proofs.Outcomes.{either_way, on_ok_each}
-use Rattle.fr_store.proofs.StayLaws.{stay_refused}
+use Rattle.fr_store.proofs.PlacesBeside.{stay_refused}
 use Rattle.fr_store.proofs.stack.Stack.begin.Goals as goal
 
 pub begin-requires-clause-in_use : goal.begin-requires-clause-in_use

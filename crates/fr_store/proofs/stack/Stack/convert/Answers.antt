@@ -1,7 +1,7 @@
 use Rattle.std.proofs.lemmas.Result.{on_ok_weaker}
 use Rattle.fr_store.specs.Common.{Taker}
 use Rattle.fr_store.proofs.ConvertUp.{converted_up, convertible, stays_converted, unconverted}
-use Rattle.fr_store.proofs.HandingLaws.{room_on_top}
+use Rattle.fr_store.proofs.ValuesHandedOver.{room_on_top}
 use Rattle.fr_store.proofs.Outcomes.{if_err_each}
 use Rattle.fr_store.proofs.stack.Stack.convert.Goals as goal
 

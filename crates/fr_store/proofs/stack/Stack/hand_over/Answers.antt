@@ -1,6 +1,6 @@
 use Rattle.std.proofs.Common.{subst}
 use Rattle.fr_store.specs.Common.{IsLeftBy, Taker}
-use Rattle.fr_store.proofs.HandingLaws.{handing, last_of, may_take, room_on_top}
+use Rattle.fr_store.proofs.ValuesHandedOver.{handing, last_of, may_take, room_on_top}
 use Rattle.fr_store.proofs.Outcomes.{on_ok_each}
 use Rattle.fr_store.proofs.stack.Stack.hand_over.Goals as goal
 

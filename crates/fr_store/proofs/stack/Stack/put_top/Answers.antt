@@ -1,7 +1,7 @@
 use Rattle.std.proofs.Common.{◌∙◌, ◌-◌}
 use Rattle.fr_store.proofs.stack.Stack.put_top.Goals as goal
 use Rattle.std.proofs.Common.{arith}
-use Rattle.fr_store.proofs.LastLaws.{put_last}
+use Rattle.fr_store.proofs.LastSlots.{put_last}
 
 pub returns : goal.returns
 returns c above n e =

@@ -2,9 +2,9 @@ use Rattle.std.proofs.Common.{List, ℕ, sym, subst}
 use Rattle.std.proofs.lemmas.Result.{on_ok_weaker}
 use Rattle.fr_store.specs.Common.{Conserved, IsKept, Slot, StoresNoMore, as_tracker, slots_occur}
 use Rattle.fr_store.proofs.Outcomes.{both_refused, either_way, on_ok_each}
-use Rattle.fr_store.proofs.ReleasedLaws.{conserved_by}
+use Rattle.fr_store.proofs.HeldOrReleased.{conserved_by}
 use Rattle.fr_store.proofs.RestartLaws.{restarts}
-use Rattle.fr_store.proofs.SetLaws.{top_rooted, prune_room, pruned_in_use, put_room, set_rose}
+use Rattle.fr_store.proofs.WholeTops.{top_rooted, prune_room, pruned_in_use, put_room, set_rose}
 use Rattle.fr_store.proofs.stack.Stack.restart.Goals as goal
 
 pub prune-requires-clause-rooted : goal.prune-requires-clause-rooted

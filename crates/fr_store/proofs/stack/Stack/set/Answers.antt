@@ -1,6 +1,6 @@
 use Rattle.fr_shape.specs.View.{view}
 use Rattle.fr_store.specs.Common.{whole_plot}
-use Rattle.fr_store.proofs.SetLaws.{top_rooted, prune_room, pruned_in_use, put_room, set_rose, is_set}
+use Rattle.fr_store.proofs.WholeTops.{top_rooted, prune_room, pruned_in_use, put_room, set_rose, is_set}
 use Rattle.fr_store.proofs.stack.Stack.set.Goals as goal
 
 pub prune-requires-clause-rooted : goal.prune-requires-clause-rooted

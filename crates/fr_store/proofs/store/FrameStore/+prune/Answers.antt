@@ -1,5 +1,5 @@
 use Rattle.std.proofs.Common.{◌≡◌, suc, Some, sym, arith}
-use Rattle.fr_values.specs.Cells.{slot_at}
+use Rattle.fr_values.specs.Cells.{slot_in_cells}
 use Rattle.fr_store.specs.Common.{cells_found, heap_of}
 use Rattle.fr_store.proofs.PruneTurns.{closed_empty, closed_last, pruning_none, pruning_skips, next_falls, next_rooted, next_room, next_in_use, next_stored, frame_room, pruning_child, pruning_same, pruned_now, released_now, tokens_now}
 use Rattle.fr_store.proofs.store.FrameStore.+prune.Goals as goal
@@ -25,7 +25,7 @@ loop-i-init t c = pruning_none c.args.slots.now c.args.ledger.now c.requires.roo
 
 pub prune-requires : goal.prune-requires
 prune-requires t c =
-    let found : slot_at (cells_found (heap_of c.loop-i.slots c.args.place.0)) c.loop-i.i ≡ Some c.in-Some.child.0
+    let found : slot_in_cells (cells_found (heap_of c.loop-i.slots c.args.place.0)) c.loop-i.i ≡ Some c.in-Some.child.0
     = sym c.in-Some.ensures in (
       omega (arith, c.decreases, next_falls c.loop-i.invariant c.in-Some.child.0 found),
       (

@@ -1,6 +1,6 @@
 use Rattle.std.proofs.Common.{ℕ, List, Contains, sym, subst, arith}
 use Rattle.fr_store.specs.Common.{slots_of}
-use Rattle.fr_store.proofs.IndexLaws.{indexed_still, slots_more}
+use Rattle.fr_store.proofs.NumbersInLists.{indexed_still, slots_more}
 use Rattle.fr_store.proofs.store.FrameStore.append.Goals as goal
 
 pub invariant_of-self-2 : goal.invariant_of-self-2

@@ -1,6 +1,6 @@
 use Rattle.fr_store.proofs.FinishedLaws.{came_by_turns, held_here, is_finished, nothing_left, stopped_here}
 use Rattle.fr_store.proofs.Outcomes.{or_so}
-use Rattle.fr_store.proofs.ReleasedLaws.{conserved_on}
+use Rattle.fr_store.proofs.HeldOrReleased.{conserved_on}
 use Rattle.fr_store.proofs.TakenLaws.{room_still}
 use Rattle.fr_store.proofs.store.FrameStore.complete_all.Goals as goal
 

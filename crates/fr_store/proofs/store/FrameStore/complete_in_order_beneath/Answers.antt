@@ -2,7 +2,7 @@ use Rattle.std.proofs.Common.{ℕ, List, refl, get_or, subst}
 use Rattle.std.proofs.lemmas.List.{drop_all}
 use Rattle.fr_store.proofs.BeneathTurns.{WalkedBeneath, beneath_begins, beneath_complete, beneath_due, beneath_goes_on, beneath_held_up, beneath_kept, beneath_marked, beneath_next, beneath_stays}
 use Rattle.fr_store.proofs.Outcomes.{or_so}
-use Rattle.fr_store.proofs.ReleasedLaws.{conserved_on, conserved_same}
+use Rattle.fr_store.proofs.HeldOrReleased.{conserved_on, conserved_same}
 use Rattle.fr_store.proofs.TakenLaws.{room_still}
 use Rattle.fr_store.proofs.store.FrameStore.complete_in_order_beneath.Goals as goal
 

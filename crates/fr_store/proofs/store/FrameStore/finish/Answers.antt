@@ -1,7 +1,7 @@
 use Rattle.std.proofs.Common.{List, refl, sym, ap, subst}
 use Rattle.fr_store.specs.Common.{NothingStored, Room_same, RoseBy_same, Slot, slots_occur, slots_tokens, stored_in, tokens_in}
 use Rattle.fr_store.proofs.OpenLaws.{open_stay}
-use Rattle.fr_store.proofs.ReleasedLaws.{room_left, rose_by_all}
+use Rattle.fr_store.proofs.HeldOrReleased.{room_left, rose_by_all}
 use Rattle.fr_store.proofs.store.FrameStore.finish.Goals as goal
 
 pub release-requires : goal.release-requires

@@ -1,6 +1,6 @@
 use Rattle.std.proofs.Common.{ℕ, List, sym, subst}
 use Rattle.fr_store.specs.Common.{IsKept}
-use Rattle.fr_store.proofs.KeptLaws.{kept_more}
+use Rattle.fr_store.proofs.StoredMarks.{kept_more}
 use Rattle.fr_store.proofs.store.FrameStore.insert.Goals as goal
 
 pub returns-clause-kept : goal.returns-clause-kept

@@ -1,6 +1,6 @@
 use Rattle.std.proofs.Common.{◌≢◌, ◌↔◌, ℕ, List, Contains, set, sym, subst, arith}
 use Rattle.fr_store.specs.Common.{slots_of}
-use Rattle.fr_store.proofs.IndexLaws.{slots_front, slots_less, slots_rest_front, slots_rest_less}
+use Rattle.fr_store.proofs.NumbersInLists.{slots_front, slots_less, slots_rest_front, slots_rest_less}
 use Rattle.fr_store.proofs.store.FrameStore.remove.Goals as goal
 
 pub invariant_of-self : goal.invariant_of-self

@@ -1,5 +1,5 @@
 use Rattle.std.proofs.Common.{sym}
-use Rattle.fr_store.proofs.KeptLaws.{kept_less, marked_in_use}
+use Rattle.fr_store.proofs.StoredMarks.{kept_less, marked_in_use}
 use Rattle.fr_store.proofs.store.FrameStore.take.Goals as goal
 
 pub returns-clause-kept : goal.returns-clause-kept

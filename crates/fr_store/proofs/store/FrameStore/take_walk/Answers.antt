@@ -1,7 +1,7 @@
 use Rattle.std.proofs.Common.{◌≡◌, ◌∙◌, List, length, sym, ap, subst, arith}
 use Rattle.std.proofs.lemmas.List.{length-map}
 use Rattle.fr_store.specs.Common.{AreOnce, StoredPlace, slot_of, slots_of}
-use Rattle.fr_store.proofs.IndexLaws.{index_once, room_indexed}
+use Rattle.fr_store.proofs.NumbersInLists.{index_once, room_indexed}
 use Rattle.fr_store.proofs.store.FrameStore.take_walk.Goals as goal
 
 pub order_walk-requires-clause-once : goal.order_walk-requires-clause-once

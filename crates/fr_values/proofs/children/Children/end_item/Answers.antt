@@ -1,6 +1,6 @@
 use Rattle.std.proofs.Common.{◌≡◌, ℕ, List, [], ◌∷◌, ◌++◌, length, ap, sym, ◌∙◌}
 use Rattle.fr_values.specs.Common.{Cell, absent, has_same_cell, view, without_cell}
-use Rattle.fr_values.proofs.ItemLaws.{comes_behind, comes_last, item_kept, item_released, same_moved, there_already}
+use Rattle.fr_values.proofs.SetChildren.{comes_behind, comes_last, item_kept, item_released, same_moved, there_already}
 use Rattle.fr_values.proofs.children.Children.end_item.Goals as goal
 
 -- it is behind the others

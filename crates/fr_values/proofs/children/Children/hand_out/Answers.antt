@@ -2,7 +2,7 @@ use Rattle.std.proofs.Common.{List, refl, sym, ◌∙◌, ap, subst, arith}
 use Rattle.fr_values.specs.Common.{BitSet, IndexesChildren, Value, cells_of, in_slot, view}
 use Rattle.fr_values.specs.CellLaws.{bit_unset, same_length, has_room, cells_unset, value_here, no_value_at}
 use Rattle.fr_values.proofs.children.Children.hand_out.Goals as goal
-use Rattle.fr_values.proofs.IndexLaws.{put_indexed}
+use Rattle.fr_values.proofs.IndexedChildren.{put_indexed}
 
 pub get-was_given-requires : goal.get-was_given-requires
 get-was_given-requires c = record { inside = has_room c.self.inside.given _ _ c.self.view_is c.args.i c.self.invariant.room c.requires }

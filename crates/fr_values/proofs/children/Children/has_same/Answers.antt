@@ -1,6 +1,6 @@
 use Rattle.std.proofs.Common.{◌≡◌, List, slice_range, take, ap, sym, ◌∙◌}
 use Rattle.fr_values.specs.Common.{Value, view}
-use Rattle.fr_values.proofs.IndexLaws.{count_is, found_behind, found_between, found_first, there_of}
+use Rattle.fr_values.proofs.IndexedChildren.{count_is, found_behind, found_between, found_first, there_of}
 use Rattle.fr_values.proofs.children.Children.has_same.Goals as goal
 use Rattle.fr_values.proofs.children.Children.has_same.Goals.{After-is_some, After-is_among}
 

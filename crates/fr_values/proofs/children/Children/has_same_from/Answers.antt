@@ -1,7 +1,7 @@
 use Rattle.std.proofs.Common.{ap, sym, ◌∙◌, arith}
 use Rattle.fr_values.specs.Common.{has_same_cell, view}
 use Rattle.std.proofs.lemmas.List.{drop_all}
-use Rattle.fr_values.proofs.ItemLaws.{same_here, same_later}
+use Rattle.fr_values.proofs.SetChildren.{same_here, same_later}
 use Rattle.fr_values.proofs.children.Children.has_same_from.Goals as goal
 
 pub loop-i-preserved : goal.loop-i-preserved

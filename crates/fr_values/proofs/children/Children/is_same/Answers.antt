@@ -1,6 +1,6 @@
 use Rattle.std.proofs.Common.{◌∙◌}
 use Rattle.fr_values.specs.Common.{view}
-use Rattle.fr_values.proofs.ItemLaws.{none_same, value_same}
+use Rattle.fr_values.proofs.SetChildren.{none_same, value_same}
 use Rattle.fr_values.proofs.children.Children.is_same.Goals as goal
 
 pub returns-in-Some : goal.returns-in-Some

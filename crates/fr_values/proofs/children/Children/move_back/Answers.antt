@@ -1,7 +1,7 @@
 use Rattle.std.proofs.Common.{List, set, ap, ◌∙◌}
 use Rattle.fr_values.specs.Common.{Cell, given, placed, view}
 use Rattle.fr_values.specs.CellLaws.{slot_child}
-use Rattle.fr_values.proofs.ItemLaws.{moved_given, moved_nothing, no_child, value_child}
+use Rattle.fr_values.proofs.SetChildren.{moved_given, moved_nothing, no_child, value_child}
 use Rattle.fr_values.proofs.children.Children.move_back.Goals as goal
 
 pub returns-in-Some : goal.returns-in-Some

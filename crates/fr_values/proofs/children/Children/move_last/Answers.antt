@@ -1,7 +1,7 @@
 use Rattle.std.proofs.Common.{ap, sym, ◌∙◌, length, List, slice_get, arith}
 use Rattle.fr_values.specs.Common.{Cell, absent, without_cell}
 use Rattle.fr_values.specs.Cells.{swapped}
-use Rattle.fr_values.proofs.ItemLaws.{next_number, one_back, one_get, one_last, one_length, one_next, with_one, without_length}
+use Rattle.fr_values.proofs.SetChildren.{next_number, one_back, one_get, one_last, one_length, one_next, with_one, without_length}
 use Rattle.fr_values.proofs.children.Children.move_last.Goals as goal
 
 pub loop-at-init : goal.loop-at-init

@@ -1,6 +1,6 @@
 use Rattle.std.proofs.Common.{◌≤◌, List, [], length, ap, arith}
 use Rattle.fr_values.specs.Common.{Value, count_in_base}
-use Rattle.fr_values.proofs.IndexLaws.{none_indexed}
+use Rattle.fr_values.proofs.IndexedChildren.{none_indexed}
 use Rattle.fr_values.proofs.children.Children.none.Goals as goal
 
 pub invariant_of-result : goal.invariant_of-result

@@ -1,7 +1,7 @@
 use Rattle.std.proofs.Common.{◌≤◌, List, [], length, replicate, ◌∙◌, ap, arith}
 use Rattle.fr_values.specs.Common.{Value, absent, cells_of, count_in_base}
 use Rattle.fr_values.specs.CellLaws.{cells_absent}
-use Rattle.fr_values.proofs.IndexLaws.{none_indexed}
+use Rattle.fr_values.proofs.IndexedChildren.{none_indexed}
 use Rattle.fr_values.proofs.children.Children.none_yet.Goals as goal
 
 pub returns-clause-absent : goal.returns-clause-absent

@@ -1,7 +1,7 @@
 use Rattle.std.proofs.Common.{refl}
-use Rattle.fr_values.proofs.ItemLaws.{cells_popped, none_popped}
+use Rattle.fr_values.proofs.SetChildren.{cells_popped, none_popped}
 use Rattle.fr_values.proofs.children.Children.pop.Goals as goal
-use Rattle.fr_values.proofs.IndexLaws.{popped_indexed}
+use Rattle.fr_values.proofs.IndexedChildren.{popped_indexed}
 
 pub returns-clause-rest : goal.returns-clause-rest
 returns-clause-rest c rest last is =

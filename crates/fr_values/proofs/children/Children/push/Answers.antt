@@ -4,7 +4,7 @@ use Rattle.fr_values.specs.Common.{BitSet, IndexesChildren, Value, cells_of, in_
 use Rattle.std.specs.Prelude.{not, ◌==◌}
 use Rattle.fr_values.specs.CellLaws.{bit_unset, cells_pushed}
 use Rattle.fr_values.proofs.children.Children.push.Goals as goal
-use Rattle.fr_values.proofs.IndexLaws.{pushed_indexed}
+use Rattle.fr_values.proofs.IndexedChildren.{pushed_indexed}
 
 pub returns-clause-added : goal.returns-clause-added
 returns-clause-added c =

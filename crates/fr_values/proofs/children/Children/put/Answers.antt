@@ -2,7 +2,7 @@ use Rattle.std.proofs.Common.{List, ◌∙◌, ap, subst, sym, arith}
 use Rattle.fr_values.specs.Common.{BitSet, IndexesChildren, Value, cell, cells_of, given, view}
 use Rattle.fr_values.specs.CellLaws.{same_length, has_room, cells_put, bit_set, bit_set_here}
 use Rattle.fr_values.proofs.children.Children.put.Goals as goal
-use Rattle.fr_values.proofs.IndexLaws.{put_indexed}
+use Rattle.fr_values.proofs.IndexedChildren.{put_indexed}
 
 pub set-requires : goal.set-requires
 set-requires c = record { inside = has_room c.self.inside.given _ _ c.self.view_is c.args.i c.self.invariant.room c.requires }

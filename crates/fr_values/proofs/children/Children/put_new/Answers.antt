@@ -1,6 +1,6 @@
 use Rattle.std.proofs.Common.{◌∙◌}
 use Rattle.fr_values.specs.Common.{view}
-use Rattle.fr_values.proofs.IndexLaws.{grown_indexed}
+use Rattle.fr_values.proofs.IndexedChildren.{grown_indexed}
 use Rattle.fr_values.proofs.children.Children.put_new.Goals as goal
 
 pub invariant_of-self : goal.invariant_of-self

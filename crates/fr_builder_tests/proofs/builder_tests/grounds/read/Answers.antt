@@ -1,6 +1,0 @@
-use Rattle.fr_script.specs.Reading.{document_view}
-use Rattle.fr_builder_tests.proofs.builder_tests.grounds.read.Goals as goal
-
-pub founded-requires : goal.founded-requires
-founded-requires c =
-    c.law_documents_in_order.ensures.in_order c.args.document.now (document_view c.in-Ok.document) c.in-Ok.ensures.document

@@ -1,0 +1,93 @@
+//! The example's form: a server with a host, a port that isn't a reserved one, and a number of
+//! workers that has a default.
+use super::bench::{check_value, ledger};
+use super::grounds::ground_of;
+use super::records::pairs_of;
+use fr_example::submit;
+use fr_shape::ShapeId;
+use std::process::Abort;
+
+const SERVER: &str = r#"{"shapes":[
+    {"name":"String","def":"String"},
+    {"name":"u16","def":"u16"},
+    {"name":"u8","def":"u8"},
+    {"name":"Server","def":{"struct":[
+        {"name":"host","shape":0},
+        {"name":"port","shape":1,"validators":[{"min":1024}]},
+        {"name":"workers","shape":2,"default":{"custom":4}}
+    ]}}
+],"root":3,"commands":[]}"#;
+
+/// Ends the test where a user of the form sees something else.
+fn check_form(rt: &(impl Abort + AllocGlobal), fields: &[(&str, &str)], want: &str) {
+    let ground = ground_of(rt, SERVER);
+    let mut ledger = ledger(rt, rt.alloc(), 0);
+    let fields = pairs_of(rt, rt.alloc(), fields);
+    assert!(rt; ground.table.len() > 3);
+    let submitted = submit(
+        rt.alloc(),
+        &ground.table,
+        ShapeId(3),
+        &ground.hooks,
+        fields.as_slice(),
+        &mut ledger,
+    );
+    match submitted {
+        Ok(built) => check_value(rt, rt.alloc(), built.value(), want),
+        Err(error) => match error.in_words(rt.alloc(), &ground.table) {
+            Ok(words) => assert!(rt; words.as_str() == want, "{words}"),
+            Err(_) => panic!(rt; "no memory"),
+        },
+    }
+}
+
+#[test]
+fn builds(rt: HostRuntime) {
+    check_form(
+        &rt,
+        &[("port", "8080"), ("host", "example.org")],
+        r#"["example.org",8080,4]"#,
+    );
+}
+
+#[test]
+fn last_of_a_name_wins(rt: HostRuntime) {
+    check_form(
+        &rt,
+        &[
+            ("port", "80"),
+            ("host", "a"),
+            ("workers", "9"),
+            ("port", "8080"),
+        ],
+        r#"["a",8080,9]"#,
+    );
+}
+
+#[test]
+fn names_every_bad_field(rt: HostRuntime) {
+    check_form(
+        &rt,
+        &[
+            ("port", "70000"),
+            ("host", "a"),
+            ("colour", "red"),
+            ("workers", "many"),
+        ],
+        "port: not a u16\ncolour: no such field\nworkers: not a u8",
+    );
+}
+
+#[test]
+fn tells_what_is_missing(rt: HostRuntime) {
+    check_form(&rt, &[("port", "8080")], "host is missing");
+}
+
+#[test]
+fn tells_what_is_not_valid(rt: HostRuntime) {
+    check_form(
+        &rt,
+        &[("port", "80"), ("host", "a")],
+        "port: must be >= 1024, got 80",
+    );
+}

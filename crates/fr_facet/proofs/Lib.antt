@@ -1,0 +1,4 @@
+mod FirstLaws
+mod ListLaws
+mod StructParts
+mod StructsInStep

@@ -1,0 +1,10 @@
+pub mod Elements
+pub mod Facets
+pub mod FitLaws
+pub mod FoundLaws
+pub mod Nameable
+pub mod Own
+pub mod PartFits
+pub mod SameLaws
+pub mod StructLaws
+pub mod Structs
