@@ -1,8 +1,8 @@
 -- Worked scripts over arrays, by the machine and by the journal.
 use Rattle.std.proofs.Common.{rules, ◌≡◌, ◌∷◌}
 use Rattle.fr_model.proofs.Common.{plain_shape, List, [], None, Ok, codes, Def, ScalarKind, Operation, no_hooks, Table, Val, nat, product, no_vals, first, PathStep, Call, journal_run, full_run}
-use Rattle.fr_model.specs.ContentExamples.{id, refused}
-use Rattle.fr_model.proofs.WorkedScripts.{Makes, set, begin, end, lacks_value, failed}
+use Rattle.fr_laws.specs.ContentExamples.{id, refused}
+use Rattle.fr_laws.proofs.WorkedScripts.{Makes, set, begin, end, lacks_value, failed}
 
 abbrev arrays : Table
 arrays =

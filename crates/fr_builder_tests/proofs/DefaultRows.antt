@@ -2,8 +2,8 @@
 use Rattle.std.proofs.Common.{rules, ◌≡◌, ◌∷◌}
 use Rattle.fr_model.proofs.Common.{plain_shape, plain_field, List, [], None, Some, Ok, codes, Def, Field, DefaultSource, ReflectErrorKind, Operation, no_hooks, Table, Val, nat, none, list_of, product, no_vals, first, Call, journal_run, full_run}
 use Rattle.fr_model.specs.Basis.{BeginField}
-use Rattle.fr_model.specs.ContentExamples.{id, refused, struct_of, u32, with_preset}
-use Rattle.fr_model.proofs.WorkedScripts.{Makes, pair_of, set, begin, end, field_at, lacks_field, lacks_value, failed}
+use Rattle.fr_laws.specs.ContentExamples.{id, refused, struct_of, u32, with_preset}
+use Rattle.fr_laws.proofs.WorkedScripts.{Makes, pair_of, set, begin, end, field_at, lacks_field, lacks_value, failed}
 
 -- to write tables and values
 

@@ -7,7 +7,7 @@ pub mod LoadingRuns
 pub mod LoadingTexts
 pub mod LoadingTold
 pub mod Loop
-pub mod Making
+pub mod FilledStructs
 pub mod OnePairMore
 pub mod Placing
 pub mod Putting

@@ -6,7 +6,7 @@ use Rattle.fr_shape.specs.Look.{Table}
 use Rattle.fr_shape.specs.declared.error.ReflectErrorKind.{ReflectErrorKind}
 use Rattle.fr_model.specs.Commands.{Call}
 use Rattle.fr_model.specs.Step.{step}
-use Rattle.fr_model.specs.SwapLaws.{AllLeadTo}
+use Rattle.fr_model.specs.Sequences.{AllLeadTo}
 use Rattle.fr_model.specs.Tree.{State}
 use Rattle.fr_partial.specs.Builder.{Builder, IsCall}
 use Rattle.fr_partial.specs.declared.reflect_error.ReflectError.{ReflectError}

@@ -11,7 +11,7 @@ use Rattle.fr_model.specs.Commands.{Call}
 use Rattle.fr_model.specs.Paths.{path_of}
 use Rattle.fr_model.specs.Run.{Refusal, refused_at, run_from, full_run, alloc_refusal, unless_alloc, numbered, and_then}
 use Rattle.fr_model.specs.Step.{step, build}
-use Rattle.fr_model.specs.SwapLaws.{AllLeadTo}
+use Rattle.fr_model.specs.Sequences.{AllLeadTo}
 use Rattle.fr_model.specs.Tree.{State, initial}
 use Rattle.fr_partial.specs.Builder.{Builder, IsBuild, IsCall}
 use Rattle.fr_partial.specs.BuiltValue.{BuiltValue}

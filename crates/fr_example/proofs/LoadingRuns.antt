@@ -9,7 +9,7 @@ use Rattle.fr_shape.specs.declared.error.ReflectErrorKind.{ReflectErrorKind}
 use Rattle.fr_model.specs.Commands.{Call}
 use Rattle.fr_model.specs.Run.{refused_at, run_from, and_then}
 use Rattle.fr_model.specs.Step.{step}
-use Rattle.fr_model.specs.SwapLaws.{AllLeadTo, IsAdmittedThen}
+use Rattle.fr_model.specs.Sequences.{AllLeadTo, IsAdmittedThen}
 use Rattle.fr_model.specs.Tree.{State}
 use Rattle.fr_example.specs.Loading.{calls_of_line, calls_of_lines, script_of, calls_up_to, IsOfLine}
 

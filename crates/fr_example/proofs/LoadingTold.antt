@@ -11,7 +11,7 @@ use Rattle.fr_shape.specs.Val.{Val, product, no_vals}
 use Rattle.fr_model.specs.Commands.{Call}
 use Rattle.fr_model.specs.Run.{Refusal}
 use Rattle.fr_model.specs.Step.{begin_deferred}
-use Rattle.fr_model.specs.SwapLaws.{AllLeadTo}
+use Rattle.fr_model.specs.Sequences.{AllLeadTo}
 use Rattle.fr_model.specs.Tree.{State, initial, fresh, tree_occurs, whole, entered, deferred, one_more_call}
 use Rattle.fr_partial.specs.Builder.{Builder}
 use Rattle.fr_partial.specs.BuiltValue.{BuiltValue}

@@ -19,7 +19,7 @@ use Rattle.fr_shape.specs.declared.error.AllocError.{AllocError}
 use Rattle.fr_example.specs.declared.record.Pair.{Pair}
 use Rattle.fr_example.specs.Meant.{is_struct, refusal_of, first_refusal, unrefused, refused_or, pairs_meant, unplanned, record_meant, IsMeant}
 use Rattle.fr_example.specs.Putting.{puts_pair}
-use Rattle.fr_example.proofs.Making.{makes}
+use Rattle.fr_example.proofs.FilledStructs.{makes}
 use Rattle.fr_example.proofs.OnePairMore.{first_refusal_later}
 use Rattle.fr_example.proofs.Putting.{filling, puts_pair_is}
 

@@ -18,7 +18,7 @@ use Rattle.fr_shape.specs.Val.{Val, text, product, dyn, no_vals}
 use Rattle.fr_shape.specs.Val.{dyn_text}
 use Rattle.fr_model.specs.Commands.{Call}
 use Rattle.fr_model.specs.Complete.{complete}
-use Rattle.fr_model.specs.Converting.{converted}
+use Rattle.fr_model.specs.ScalarsAsDynamics.{converted}
 use Rattle.fr_model.specs.Items.{is_open_slice}
 use Rattle.fr_model.specs.Places.{strict_column, child_count, child_shape}
 use Rattle.fr_model.specs.Step.{unless_refused, at_shape, named_refusal, opened_as, opened, enter, enter_child, enters_named, begins_named, set_refusal, puts, puts_dynamic, set_dynamic, set, puts_made, ended, step}

@@ -2,7 +2,7 @@
 use Rattle.std.proofs.Common.{◌≡◌, ◌⊎◌, ℕ, true, List, Option, Some, None, IsSomeAnd, refl, ◌∙◌, subst}
 use Rattle.fr_frame.specs.Common.{Becomes, Body, FillColumn, FillsAt, HasAllChildren, IfInUse, IsCauseOf, IsChecked, IsPlanFor, IsPlanned, IsUnfilled, KeepsTracker, MayComplete, Meanings, Node, OnOk, Plan, ReflectErrorKind, Result, Slot, Table, WhyNot, WhyNotDefault, asked, column_of, defaulted, deferred_column, heap_of, invalid, first_hole_left, question_of, shape_of, strict_column, takes_template, unmet, Ok, Err}
 use Rattle.fr_frame.proofs.HeapLaws.{with_here}
-use Rattle.fr_frame.proofs.FillLaws.{HasFilled, has_filled}
+use Rattle.fr_frame.proofs.FillingHoles.{HasFilled, has_filled}
 use Rattle.fr_frame.proofs.ChangedPlaces.{of_node}
 use Rattle.fr_frame.proofs.WhyLaws.{all_there, filled_after, strictly_filled, why_invalid, why_left, why_unfilled, why_unmet}
 

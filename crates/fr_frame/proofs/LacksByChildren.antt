@@ -19,7 +19,7 @@ use Rattle.fr_plan.specs.Plans.{precomputed, with_kind, kind_of as kind_in_plan}
 use Rattle.fr_frame.specs.Filling.{IsToldAt, child_value}
 use Rattle.fr_frame.proofs.AskLaws.{more_there}
 use Rattle.fr_frame.proofs.BodyValues.{full_value}
-use Rattle.fr_frame.proofs.FillLaws.{all_alike, none_placed, value_then}
+use Rattle.fr_frame.proofs.FillingHoles.{all_alike, none_placed, value_then}
 use Rattle.fr_frame.proofs.RulesOnChildren.{taken_plain}
 
 -- What fails.

@@ -8,7 +8,7 @@ pub mod ConversionSources
 pub mod DefaultedLaws
 pub mod DrainLaws
 pub mod EnteredItems
-pub mod FillLaws
+pub mod FillingHoles
 pub mod GrowLaws
 pub mod HandLaws
 pub mod HeapLaws
@@ -20,7 +20,7 @@ pub mod ReleaseLaws
 pub mod RulesOnChildren
 pub mod SeenSlots
 pub mod SingleSlots
-pub mod ToldLaws
+pub mod PlannedFieldLaws
 pub mod UnchangedPlaces
 pub mod ValidLaws
 pub mod WhyLaws

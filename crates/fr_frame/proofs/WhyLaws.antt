@@ -8,7 +8,7 @@ use Rattle.fr_model.specs.Step.{or_missing}
 use Rattle.fr_frame.specs.Completing.{IsOfValidator}
 use Rattle.fr_frame.specs.Defaults.{unmet_entered}
 use Rattle.fr_frame.proofs.AskLaws.{fails, first_none, holes_are, holes_lack, invalid_is, lack_is, misses, missing_is, passing_there, unmet_is}
-use Rattle.fr_frame.proofs.FillLaws.{asked_then, none_placed, not_some}
+use Rattle.fr_frame.proofs.FillingHoles.{asked_then, none_placed, not_some}
 use Rattle.fr_frame.proofs.LacksByChildren.{body_nothing, is_filled, lacking, lacks}
 
 -- a field that is marked to take a default that there isn't takes nothing

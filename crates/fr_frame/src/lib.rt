@@ -34,6 +34,7 @@ pub use admitting::{
 };
 pub use field_defaults::default_in;
 pub use fr_values::{Children, Keys};
+pub use partial_values::is_begun;
 pub use places::{
     ChildWay, ContentKind, Conversion, EntriesKind, FrameOwner, Item, ItemsKind, PartialValue,
     Place, Slot, SlotId, Taker, Through, Tracker,

@@ -178,8 +178,8 @@ pub(crate) fn is_list(partial: &PartialValue) -> bool
 }
 
 /// Whether a place is begun.
-pub(crate) fn is_begun(partial: &PartialValue) -> bool
-    ensures { result ≡ is_begun_body (body_of partial.now) }
+pub fn is_begun(partial: &PartialValue) -> bool
+    ensures begun { result ≡ is_begun_body (body_of partial.now) }
 {
     match partial {
         PartialValue::Begun(..) => true,

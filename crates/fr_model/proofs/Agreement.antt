@@ -2,7 +2,7 @@
 use Rattle.std.proofs.Common.{◌≡◌, ◌+◌, ◌<◌, ◌≤◌, ◌==◌, ◌∷◌, ◌++◌}
 use Rattle.fr_model.proofs.Common.{ℕ, zero, suc, true, false, List, [], length, Option, Some, None, refl, sym, ◌∙◌, ap, ap₂, subst, arith, option_or, Def, Field, IsChecked, preset_of, is_empty_struct, Meanings, Table, def_of, field_in, is_nil, Val, product, no_vals, Place, Column, count_children, child_count, one_more, product_of, each_child, child_shape, fill_of_field, fill_at, Note, entered_at, wrote_at, Journal, Held, in_parts, written, just_entered, untouched, held, longest, entered_struct, by_entered, entered_value, by_held, by_parts, child_makes, completes_within, completes, Tracker, as_fields, as_elements, Tree, hole, entered, whole, begun, Trees, no_trees, branch, tree_nth, change_nth, tree_at, change_at, shape_in, child_as, count_trees, Mode, complete, complete_all, valid_child, hole_takes, made, made_by, made_of_entered, IsBegunAs, IsTouched, Suits, OffBut, Leads, HasParts}
 use Rattle.std.proofs.lemmas.Bool.{eq-eqb}
-use Rattle.fr_model.proofs.Beneath.{down, along, each_same, child_value, held_down, completes_down, completes_along, longest_down, longest_along, parts_long}
+use Rattle.fr_model.proofs.JournalBelow.{down, along, each_same, child_value, held_down, completes_down, completes_along, longest_down, longest_along, parts_long}
 use Rattle.fr_model.proofs.Structs.{made_product, SuitFrom}
 use Rattle.fr_model.proofs.Templates.{option_preset}
 use Rattle.fr_model.proofs.Plain.{AllPlain, plain_child, valid_same}

@@ -1,7 +1,7 @@
 -- The lemmas that many proofs cite, passed on from one place. Declares nothing.
 pub use Rattle.fr_model.proofs.Agreement.{hole_makes, completes_tree, leads_child, IsWhole, by_value, by_entry, Agrees, AgreeAll, agree_nth, child_as_is, leads_within, agree_along, completes_at, under_entered, under_wrote, follow, agree_same, begun_count, begun_takes, in_child, under, down_same, down_other}
-pub use Rattle.fr_model.proofs.Beneath.{down, held_down, along, held_along, completes_along, longest_along}
-pub use Rattle.fr_model.proofs.Completing.{Made, completing_makes, no_made, made_or_lacks, none_valid, some_or, dropped_below, LawfulIn, AllLawfulIn, lawful_in, Children, all_completing_make}
+pub use Rattle.fr_model.proofs.JournalBelow.{down, held_down, along, held_along, completes_along, longest_along}
+pub use Rattle.fr_model.proofs.CompletedFits.{Made, completing_makes, no_made, made_or_lacks, none_valid, some_or, dropped_below, LawfulIn, AllLawfulIn, lawful_in, Children, all_completing_make}
 pub use Rattle.fr_model.proofs.Cursor.{started, MayGoUp, may_go_up, may_go_deferred, changed_in_order, moved_in_order, made_at, start_in_order, left_in_order, deferred_in_order, defers, at_cursor, suits_at, begun_in_order, up_long, began_up, began_strict, entry_at, PartsAlong, suits_changed, off_change, leads_left, leads_deferred, parts_along, plain_at, same_shape, put_in_order, completed_in_order}
 pub use Rattle.fr_model.proofs.FinishNotes.{touched_makes, notes_what_is_due}
 pub use Rattle.fr_model.proofs.Keys.{apart_last, found_at, key_last, member_keys_apart, bytes_are}

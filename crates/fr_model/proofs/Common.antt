@@ -19,9 +19,8 @@ pub use Rattle.fr_model.specs.Collections.{key_refusal, value_refusal, last_of, 
 pub use Rattle.fr_model.specs.Basis.{Call, IsFieldCall, IsFieldScript, step_as, steps_in, step_below, path_of, brings, IsFitting, AllFitting}
 pub use Rattle.fr_model.specs.Complete.{complete, complete_all, valid_child, hole_takes, made, made_by, made_of_entered, failing_child, missing_child, unless_there, unless_failing, made_of_fills, lack_of_hole, lack_of_holes, lack_by, lack, lack_among, value_as, first_failing, failing_field}
 pub use Rattle.fr_model.specs.Contents.{is_result, pointer_refusal, points_to_slice, slice_anew, variant_anew, around, content_anew, kept_so, kept_in, reopened, kept_slice, content_of, kept_option, is_slice, pointee_refusal}
-pub use Rattle.fr_model.specs.Converting.{converted, or_not_dynamic, from_bool, from_char, from_int, from_nat, from_text, byte_before, bytes_of, from_bytes, from_scalar}
+pub use Rattle.fr_model.specs.ScalarsAsDynamics.{converted, or_not_dynamic, from_bool, from_char, from_int, from_nat, from_text, byte_before, bytes_of, from_bytes, from_scalar}
 pub use Rattle.fr_model.specs.Conversions.{by_proxy, by_wrapper, conversions_at, convert_in, failing_source, not_taken, proxy_at, proxy_of_field, refusal_through, source_in, taken, value_given}
-pub use Rattle.fr_model.specs.Covering.{way_down, goes_on, is_entry_at, is_beneath, part_given, covering_part, since_covered, held_by_rules}
 pub use Rattle.fr_model.specs.DefaultLaws.{HasNoDefault, names_none, no_such_field, no_default, DefaultIsThreeCalls, and_step, three_calls, AreSameButCalls}
 pub use Rattle.fr_model.specs.Dropping.{dropped_by_completing, not_taken_among, left_out_of, dropped_among, dropped_but, dropped_by_finishing}
 pub use Rattle.fr_model.specs.DynamicPlaces.{array_anew, object_anew, kept_array, kept_object, entry_refusal, is_begun_object, array_of, object_of, entry_found, entry_number, number_or_last, and_entry, with_entry, is_begun_dynamic, is_dynamic_tracker}

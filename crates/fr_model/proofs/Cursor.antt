@@ -2,8 +2,8 @@
 use Rattle.std.proofs.Common.{◌≡◌, ◌<◌, ◌≤◌, ◌∷◌, ◌++◌}
 use Rattle.fr_model.proofs.Common.{ℕ, zero, suc, true, false, is_begun_conversion, without_source, [], append-nil, length, length-append, Some, refl, sym, subst, arith, None, IsChecked, Meanings, Table, def_of, Val, fits, Place, Column, up, shape_at, as_fields, as_elements, Tree, hole, whole, begun, Trees, no_trees, branch, tree_nth, Tracker, change_nth, tree_at, change_at, shape_in, child_as, tree_occurs, Mode, strict, deferred, State, cursor_shape, cursor_tree, one_more_call, initial, dropped_by_completing, complete, Way, enter_child, enters, puts, puts_and_leaves, leaves, Journal, HasParts, IsBegunAs, IsTouched, Suits, AllOff, MayWorkAt, AtCursor, OffBut, Leads, BeganAbove, IsInOrder}
 use Rattle.fr_model.proofs.Agreement.{Agrees, agree_nth, begun_count, leads_within, leads_child}
-use Rattle.fr_model.proofs.Beneath.{down}
-use Rattle.fr_model.proofs.Completing.{LawfulIn, Made, completing_makes}
+use Rattle.fr_model.proofs.JournalBelow.{down}
+use Rattle.fr_model.proofs.CompletedFits.{LawfulIn, Made, completing_makes}
 use Rattle.fr_model.proofs.Plain.{AllPlain, plain_child}
 use Rattle.fr_model.proofs.Structs.{count_change, suit_change, suit_nth}
 use Rattle.fr_model.proofs.Opening.{without_source_at, without_source_suits, Enterable, Entry, entry, fresh_suits, fresh_at_cursor, rightly_changed, whole_off, all_deferred}

@@ -3,7 +3,7 @@ use Rattle.std.proofs.Common.{◌≡◌, ◌+◌, ◌≤◌, if◌then◌else◌
 use Rattle.fr_model.proofs.Common.{ℕ, zero, suc, Bool, true, false, [], append-nil, Option, Some, None, Result, Ok, Err, refl, ◌∙◌, ap, subst, arith, ReflectErrorKind, Invariant, IsChecked, Meanings, Table, def_of, Val, Call, complete, above, up, number_in, ConversionsSuit, Place, strict_column, is_root, removed, removed_by, replaced, removed_at_build, removed_by_build, IsFitting, brings, violates, step, cause, built, build_in, build, fresh, Tree, whole, change_at, Mode, strict, deferred, State, cursor_shape, cursor_tree, initial, tree_occurs, Suits, RestsAround, IsInOrder, AreDistinct, IsWell}
 use Rattle.fr_model.specs.Laws.{held_after, built_occurs, IsFresh}
 use Rattle.fr_model.proofs.Move.{Move, stays, goes_on, goes_up, is_taken, is_same, is_converted, stays_behind, is_parsed, is_deferred, is_over}
-use Rattle.fr_model.proofs.Moving.{moves}
+use Rattle.fr_model.proofs.CommandMoves.{moves}
 use Rattle.fr_shape.specs.Hooks.{IsLawful}
 use Rattle.fr_model.proofs.Basis.{lawful_in, rest_converted, began_strict, template_holds, put_in_order, completing_makes, completed_in_order, changed_in_order, moved_in_order, made_at, start_in_order, left_in_order, deferred_in_order, rests_here, fresh_rests, rest_on, rest_up, rest_put_up, rest_took, fresh_holds, change_holds}
 use Rattle.fr_model.proofs.Ending.{took_in_order, took_holds, made_above, converted_in_order, converted_holds}

@@ -1,7 +1,7 @@
 -- A place at the cursor as its children see it, and the entry of one of them.
 use Rattle.std.proofs.Common.{◌≡◌, ◌+◌, ◌<◌, ◌≤◌, ◌∷◌, if◌then◌else◌}
 use Rattle.fr_model.proofs.Common.{ℕ, zero, suc, true, false, List, [], length, Option, Some, None, refl, sym, ◌∙◌, ap, subst, arith, Def, ShapeId, StructDef, EnumDef, VariantDef, Field, is_empty_struct, is_nil, Table, def_of, Val, Vals, unit, product, no_vals, first, fits, fields_fit, is_set_tracker, ends_in_hole, array_limit, vals_nth, entered_at, Journal, Held, written, just_entered, untouched, at_least_entered, held, Tracker, as_fields, as_elements, as_content, ContentKind, is_conversion, is_begun_conversion, without_source, Bool, as_entries, EntriesKind, tracker_of, tracker_at, over_base, selected, Tree, hole, entered, whole, begun, Trees, no_trees, branch, tree_nth, change_nth, change_child, child_as, count_trees, holes, wholes, fresh, Mode, strict, deferred, HasParts, opened, enter, enter_child, fields_or_none, variant_fields, HasFieldsOf, IsFullAs, IsBegunAs, IsTouched, IsContent, AreTouched, AreEntries, IsBehindBase, IsBegunRightly, Suits, IsOff, AllOff, MayWorkAt, AtCursor, OffBut, Leads, RestsAround}
-use Rattle.fr_model.proofs.Beneath.{down, held_down, IsLow, untouched_below, written_below}
+use Rattle.fr_model.proofs.JournalBelow.{down, held_down, IsLow, untouched_below, written_below}
 use Rattle.fr_model.proofs.Agreement.{IsWhole, by_value, by_entry, Agrees, AgreeAll, agree_change, down_same, down_other}
 use Rattle.fr_model.proofs.Wholes.{base_hole}
 use Rattle.fr_model.proofs.TokensInTrees.{fresh_is}

@@ -2,7 +2,7 @@
 use Rattle.std.specs.Prelude.{◌==◌, if◌then◌else◌}
 use Rattle.fr_model.specs.Common.{ℕ, ℤ, Bool, true, false, List, slice_get, length, nat_lt, Option, Some, None, is_some, unwrap_or, Result, Ok, Err, Def, DefaultSource, Field, ShapeId, VariantDef, Expected, ReflectErrorKind, Operation, Invariant, preset_of, is_option, Meanings, is_dynamic, Table, def_of, field_in, variants_of, Val, Dynamic, list_of, ptr, dyn, no_vals, PathStep}
 use Rattle.fr_model.specs.Basis.{Call, is_result, by_proxy, by_wrapper, convert_in, proxy_at, proxy_of_field, source_in, Conversion, cursor_field, is_begun_conversion, fresh, pointer_refusal, points_to_slice, variant_anew, slice_anew, kept_so, kept_in, kept_slice, kept_option, is_begun_dynamic, array_anew, object_anew, kept_array, kept_object, entry_refusal, Column, strict_column, deferred_column, is_root, up, content_shape, Tracker, as_fields, as_content, ContentKind, selected, Tree, whole, count_below, change_child, change_at, tree_at, Mode, strict, deferred, State, cursor_shape, cursor_tree, one_more_call, is_enum, field_found, variant_numbered, variant_named, variant_told_by, selection_refusal, is_set, key_refusal, value_refusal, last_of, set_item_refusal, with_ended_item, number_in, complete, lack, missing_value, failures, first_by_walk, path_of, without_source}
-use Rattle.fr_model.specs.Converting.{converted}
+use Rattle.fr_model.specs.ScalarsAsDynamics.{converted}
 use Rattle.fr_model.specs.Items.{init_array_refusal, item_refusal, is_open_slice, closed_slice, shared_slice_refusal}
 use Rattle.fr_model.specs.Finish.{finished, finish_cause, kind_of}
 use Rattle.fr_model.specs.Parses.{text_meant, bytes_meant}

@@ -1,27 +1,12 @@
 //! Laws of the definitions: each is the contract of a function that does nothing.
 ghost use Rattle.fr_model.specs.Agree.{MachineAgrees, StartIsRelated, StepKeepsRelated};
-ghost use Rattle.fr_model.specs.CollectionExamples.{MapExamples, SetExamples};
-ghost use Rattle.fr_model.specs.ContentExamples.{OptionExamples, PointerExamples, ResultExamples, SelectionExamples, VariantExamples};
-ghost use Rattle.fr_model.specs.Covering.{ScanAgrees, WaysAgree};
-ghost use Rattle.fr_model.specs.DefaultExamples.{DefaultExamples, ValidatorExamples};
 ghost use Rattle.fr_model.specs.DefaultLaws.{DefaultIsThreeCalls};
-ghost use Rattle.fr_model.specs.DynamicExamples.{ConversionExamples, DynamicExamples};
-ghost use Rattle.fr_model.specs.Examples.{EndRunsValidators};
-ghost use Rattle.fr_model.specs.FailingLaws.{EachFailureHasItsPlace, EachFailureOfATreeHasItsPlace, FailuresLieThere, FinishesOrRefuses, FinishOfDone, FirstByWalkIs, LackingFails, NothingFailsOfDone};
-ghost use Rattle.fr_model.specs.FinishExamples.{FinishExamples};
-ghost use Rattle.fr_model.specs.FinishLaws.{ClosingKeepsCompletion, ClosingKeepsFailures, ClosingKeepsFailuresOff, ClosingKeepsFinish};
 ghost use Rattle.fr_model.specs.DueNotes.{NotesLieApart, NotesWhatIsDue, StuckOrNoted};
+ghost use Rattle.fr_model.specs.FailingLaws.{EachFailureHasItsPlace, EachFailureOfATreeHasItsPlace, FailuresLieThere, FinishesOrRefuses, FinishOfDone, FirstByWalkIs, LackingFails, NothingFailsOfDone};
+ghost use Rattle.fr_model.specs.FinishLaws.{ClosingKeepsCompletion, ClosingKeepsFailures, ClosingKeepsFailuresOff, ClosingKeepsFinish};
 ghost use Rattle.fr_model.specs.GatheringLaws.{DistinctEntriesStay, DistinctItemsStay, NoEntryIsLeftOut, NoItemIsLeftOut, SameIsThere};
-ghost use Rattle.fr_model.specs.HookExamples.{InvariantExamples, ParsingExamples};
 ghost use Rattle.fr_model.specs.Laws.{BuildKeepsTokens, CompletesOrFails, CompletesOrLacks, CompletingFits, CompletingKeepsTokens, StartIsWell, StepKeepsConversions, StepKeepsDistinct, StepKeepsOrder, StepKeepsRest, StepKeepsTokens};
-ghost use Rattle.fr_model.specs.ListExamples.{ArrayExamples, ListExamples, SliceExamples};
-ghost use Rattle.fr_model.specs.Passage.{DeferredPasses, StrictPasses};
-ghost use Rattle.fr_model.specs.PassageExamples.{PassageExamples};
 ghost use Rattle.fr_model.specs.PathLaws.{ChangingKeepsThePath, EnteringAddsAStep, EnteringAddsItsStep, FinishingKeepsThePath, KeptIsAdmitted, LeavingDropsAStep, PathIsAsDeep};
-ghost use Rattle.fr_model.specs.SourceExamples.{SourceExamples};
-ghost use Rattle.fr_model.specs.SwapExamples.{SwapExamples};
-ghost use Rattle.fr_model.specs.SwapLaws.{EnteringAgainKeeps, ExcursionsSwap, SwappedScriptsAgree, TriedScriptsAgree};
-ghost use Rattle.fr_model.specs.WellExamples.{WellExamples};
 
 /// For every field script of fitting values over a table that is plain for the root, whatever the
 /// hooks mean, the run of the commands gives a value exactly where the journal completes, and the
@@ -32,13 +17,6 @@ pub fn law_agree()
     ensures agree { MachineAgrees }
     ensures start { StartIsRelated }
     ensures step { StepKeepsRelated }
-{}
-
-/// What a journal holds of a place is what the rules on covering notes say.
-#[tactic(auto, using(crate::proofs::Covering::scan_agrees))]
-pub fn law_covering()
-    ensures scan { ScanAgrees }
-    ensures ways { WaysAgree }
 {}
 
 /// Where a place makes a value and becomes whole with it, the tree still makes what it made and what
@@ -55,7 +33,7 @@ pub fn law_closing()
 /// In strict mode a place completes unless it lacks something, and at the end of deferred mode
 /// unless it or a place beneath it fails. Over a checked table and with lawful hooks, what completes
 /// of a tree that suits its shape fits that shape and keeps its tokens.
-#[tactic(auto, using(crate::proofs::Completing::completes_or_lacks, crate::proofs::Failing::completes_or_fails))]
+#[tactic(auto, using(crate::proofs::CompletedFits::completes_or_lacks, crate::proofs::Failing::completes_or_fails))]
 pub fn law_completes()
     ensures or_lacks { CompletesOrLacks }
     ensures or_fails { CompletesOrFails }
@@ -70,32 +48,6 @@ pub fn law_completes()
 #[tactic(auto, using(crate::proofs::Defaulting::sets_to_default))]
 pub fn law_default()
     ensures default { DefaultIsThreeCalls }
-{}
-
-/// Scripts computed through the definitions, and states that are well and such as aren't.
-pub fn law_examples()
-    ensures validators { EndRunsValidators }
-    ensures variants { VariantExamples }
-    ensures selection { SelectionExamples }
-    ensures options { OptionExamples }
-    ensures results { ResultExamples }
-    ensures pointers { PointerExamples }
-    ensures defaults { DefaultExamples }
-    ensures checks { ValidatorExamples }
-    ensures finishes { FinishExamples }
-    ensures lists { ListExamples }
-    ensures arrays { ArrayExamples }
-    ensures slices { SliceExamples }
-    ensures sets { SetExamples }
-    ensures maps { MapExamples }
-    ensures conversions { ConversionExamples }
-    ensures dynamics { DynamicExamples }
-    ensures well { WellExamples }
-    ensures parsing { ParsingExamples }
-    ensures invariants { InvariantExamples }
-    ensures sources { SourceExamples }
-    ensures swaps { SwapExamples }
-    ensures passage { PassageExamples }
 {}
 
 /// Places are completed one by one at the end of deferred mode, each at its turn: a conversion at
@@ -139,15 +91,6 @@ pub fn law_finishing()
     ensures apart { NotesLieApart }
 {}
 
-/// Where no reached shape, field or variant field has a proxy, and none has a conversion or is
-/// dynamic, an orderly run of a script without mode calls gives the same value in strict mode and in
-/// deferred mode, whatever the hooks mean: in either direction, and where the run that is known is
-/// orderly.
-pub fn law_passage()
-    ensures strictly { StrictPasses }
-    ensures deferred { DeferredPasses }
-{}
-
 /// The path of the place at which a builder works depends only on the places above it, and has a
 /// step for each place on the way: entering a child adds a step, which each way on that is admitted
 /// tells, going up takes the last one away, and the end of deferred mode keeps the path. What the
@@ -170,18 +113,6 @@ pub fn law_paths()
 pub fn law_removed()
     ensures step { StepKeepsTokens }
     ensures build { BuildKeepsTokens }
-{}
-
-/// In a deferred state whose cursor is at a struct, an array or a selected variant: an excursion into
-/// one child of that place and one into another may be swapped, with the same state after both and
-/// the same tokens dropped, whatever the hooks mean. So scripts in which they are swapped give the
-/// same value or the same refusal; and where commands of them are refused, still the same value, or
-/// both are refused. A child that is left may be entered again, which comes to the same.
-pub fn law_swap()
-    ensures swaps { ExcursionsSwap }
-    ensures scripts { SwappedScriptsAgree }
-    ensures tried { TriedScriptsAgree }
-    ensures again { EnteringAgainKeeps }
 {}
 
 /// A builder begins in a well state, whatever its table and its root. Over a checked table and with

@@ -10,10 +10,10 @@ use Rattle.fr_frame.specs.Changes.{IfInUse}
 use Rattle.fr_frame.specs.Defaults.{WhyNotDefault}
 use Rattle.fr_store.specs.Beneath.{IsCompleteBeneath, IsHeldUpHere}
 use Rattle.fr_store.specs.Turns.{root_shape, CompletesAsBefore}
-use Rattle.fr_moves.specs.Ending.{IsHeldUpAt}
+use Rattle.fr_moves.specs.CompletedPlaces.{IsHeldUpAt}
 use Rattle.fr_moves.proofs.EndingLaws.{here, here_so, own_is, plain, shape_is, IsTop}
 use Rattle.fr_moves.specs.PlaceLaws.{root_is}
-use Rattle.fr_moves.proofs.HereLaws.{top_body}
+use Rattle.fr_moves.proofs.TopBodyLaws.{top_body}
 use Rattle.fr_moves.proofs.KeepLaws.{became_after}
 use Rattle.fr_moves.specs.PlaceLaws.{here_along}
 use Rattle.fr_moves.specs.TreeLaws.{changed_twice, shape_stays}

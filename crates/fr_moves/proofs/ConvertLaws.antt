@@ -13,12 +13,12 @@ use Rattle.fr_model.specs.Tree.{for_hole, shape_below}
 use Rattle.fr_model.specs.Well.{IsTouched, Suits}
 use Rattle.fr_plan.specs.ReachLaws.{NodesAreReached, ReachedHaveNodes}
 use Rattle.fr_store.specs.LeaveLaws.{below_root, up_append}
-use Rattle.fr_moves.specs.Converting.{shape_above, tree_above, IsSourceOnTop, WhyUnconverted, IsConverted}
-use Rattle.fr_moves.specs.Ending.{IsOfConversion, IsOfUntaken, PassesValidators}
+use Rattle.fr_moves.specs.ConvertingMoves.{shape_above, tree_above, IsSourceOnTop, WhyUnconverted, IsConverted}
+use Rattle.fr_moves.specs.CompletedPlaces.{IsOfConversion, IsOfUntaken, PassesValidators}
 use Rattle.fr_moves.specs.LackLaws.{lacks_named}
 use Rattle.fr_moves.specs.Common.{WhyNot}
 use Rattle.fr_moves.specs.AboveLaws.{above_along}
-use Rattle.fr_moves.proofs.ReachLaws.{tree_leads}
+use Rattle.fr_moves.proofs.LeadLaws.{tree_leads}
 use Rattle.fr_moves.specs.TreeLaws.{nth_leads, put_above, shape_above_stays, source_stays, tracker_stays}
 use Rattle.fr_shape.specs.declared.error.TryFromFault.{TryFromFault}
 use Rattle.fr_shape.specs.HookLaws.{no_hooks_are_lawful}
@@ -31,7 +31,7 @@ use Rattle.fr_moves.proofs.GoingLaws.{tree_then}
 use Rattle.fr_moves.proofs.KeepLaws.{became_after, became_marked}
 use Rattle.fr_moves.specs.SetLaws.{keeps_own, takes_own}
 use Rattle.fr_moves.specs.SetLaws.{set_is}
-use Rattle.fr_store.specs.Converting.{IsConvertedUp, IsRefusedUp}
+use Rattle.fr_store.specs.ConvertingSources.{IsConvertedUp, IsRefusedUp}
 use Rattle.fr_moves.specs.StateLaws.{open_then}
 
 -- What stands at the end of a way.

@@ -10,11 +10,11 @@ use Rattle.fr_store.specs.MoveLaws.{closed_open, same_last, so_top, top_changed,
 use Rattle.fr_store.specs.StackMoves.{node_here as node_on_top}
 use Rattle.fr_store.specs.TopLaws.{closed_tree, held_may_have, keeps_closed, loses_none, marked_body, slot_here}
 use Rattle.fr_store.specs.TurnedLaws.{may_complete as node_may_complete, shape_along}
-use Rattle.fr_moves.specs.Ending.{column_by}
+use Rattle.fr_moves.specs.CompletedPlaces.{column_by}
 use Rattle.fr_moves.proofs.BodyLaws.{keeps_may, unboxed, why_of}
 use Rattle.fr_moves.proofs.KeepLaws.{are_open, became_marked}
-use Rattle.fr_moves.proofs.HereLaws.{top_body}
-use Rattle.fr_moves.proofs.LeftLaws.{held_left}
+use Rattle.fr_moves.proofs.TopBodyLaws.{top_body}
+use Rattle.fr_moves.proofs.KeepsBaseLaws.{held_left}
 use Rattle.fr_moves.specs.PlaceLaws.{here_along, here_found, node_here, plot_here}
 use Rattle.fr_moves.specs.StateLaws.{strict_stores}
 use Rattle.fr_plan.specs.ReachLaws.{NodesAreReached, ReachedHaveNodes}

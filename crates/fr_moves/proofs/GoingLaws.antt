@@ -13,17 +13,17 @@ use Rattle.fr_moves.specs.Moving.{step_told, IsSourcedOn}
 use Rattle.fr_moves.proofs.WithinLaws.{opened_within}
 use Rattle.fr_moves.specs.AnewLaws.{fresh_entered}
 use Rattle.fr_moves.proofs.BelowLaws.{never_map}
-use Rattle.fr_moves.proofs.EnterLaws.{count_holes, def_entered, has_child, may_open, node_stays}
+use Rattle.fr_moves.proofs.EnteredChildLaws.{count_holes, def_entered, has_child, may_open, node_stays}
 use Rattle.fr_moves.specs.FitLaws.{is_there}
 use Rattle.fr_moves.specs.TrackerLaws.{tracker_is_at, full_tree, not_begun, of_fields, opened_same, points_so}
-use Rattle.fr_moves.proofs.HereLaws.{body_here, by_plot}
+use Rattle.fr_moves.proofs.TopBodyLaws.{body_here, by_plot}
 use Rattle.fr_moves.proofs.KeepLaws.{became_after, changed_as}
-use Rattle.fr_moves.proofs.KeptLaws.{content_so, kept_as_tracker, points_around}
-use Rattle.fr_moves.proofs.ListLaws.{any_count, by_items, has_count, item_so, item_step, room_for_all}
+use Rattle.fr_moves.proofs.BegunAroundLaws.{content_so, kept_as_tracker, points_around}
+use Rattle.fr_moves.proofs.BegunListLaws.{any_count, by_items, has_count, item_so, item_step, room_for_all}
 use Rattle.fr_moves.proofs.MapLaws.{key_so, more_entries, value_so}
 use Rattle.fr_moves.proofs.ObjectLaws.{apart_here, counted_here, entered_so, entry_object, number_so}
 use Rattle.fr_moves.specs.PlaceLaws.{here_along}
-use Rattle.fr_moves.proofs.ReachLaws.{tree_leads}
+use Rattle.fr_moves.proofs.LeadLaws.{tree_leads}
 use Rattle.fr_moves.specs.TreeLaws.{changed_at, changed_twice}
 use Rattle.fr_model.specs.Step.{enter_child}
 use Rattle.fr_model.specs.Trackers.{is_conversion}

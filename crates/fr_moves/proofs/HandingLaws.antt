@@ -9,13 +9,13 @@ use Rattle.fr_frame.specs.Completing.{IsOfValidator}
 use Rattle.fr_store.specs.LeaveLaws.{below_root}
 use Rattle.fr_frame.specs.declared.places.Taker.{Taker}
 use Rattle.fr_store.specs.StackMoves.{place_then, tree_then}
-use Rattle.fr_moves.specs.Ending.{column_by, Handed, IsCompleted, IsHandedOver, IsPathThen, IsUncompleted, PassesValidators}
+use Rattle.fr_moves.specs.CompletedPlaces.{column_by, Handed, IsCompleted, IsHandedOver, IsPathThen, IsUncompleted, PassesValidators}
 use Rattle.fr_moves.specs.Moving.{after_completing, received, received_if, is_late_by, TakerServes}
-use Rattle.fr_moves.proofs.HereLaws.{top_body}
+use Rattle.fr_moves.proofs.TopBodyLaws.{top_body}
 use Rattle.fr_moves.proofs.KeepLaws.{became_after, became_marked}
 use Rattle.fr_moves.specs.LackLaws.{only_wants}
 use Rattle.fr_moves.specs.TreeLaws.{changed_twice, item_over, set_stays, source_stays}
-use Rattle.fr_moves.proofs.WayLaws.{Ends, below_root as path_below}
+use Rattle.fr_moves.proofs.KeptPathLaws.{Ends, below_root as path_below}
 
 -- what is said of what was found
 pub some_then : {A : Type 0} {P Q : A → Type 0} (found : Option A) → ((a : A) → P a → Q a) → IsSomeAnd found P → IsSomeAnd found Q

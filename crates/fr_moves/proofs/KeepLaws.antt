@@ -5,7 +5,7 @@ use Rattle.fr_shape.specs.TokenLaws.{Room_fewer}
 use Rattle.fr_frame.specs.Heap.{slots_occur}
 use Rattle.fr_store.specs.StackMoves.{changed_here, tokens_here, tree_in_slots}
 use Rattle.fr_store.specs.Stored.{StoresNoMore}
-use Rattle.fr_moves.proofs.ReachLaws.{tree_leads}
+use Rattle.fr_moves.proofs.LeadLaws.{tree_leads}
 use Rattle.fr_moves.specs.StateLaws.{became_through, stores_after}
 use Rattle.fr_moves.specs.TreeLaws.{alike_here, changed_occur, unchanged}
 

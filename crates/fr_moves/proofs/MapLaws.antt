@@ -5,7 +5,7 @@ use Rattle.fr_model.specs.Collections.{ends_in_hole, is_hole, with_key}
 use Rattle.fr_model.specs.Places.{is_key}
 use Rattle.fr_model.specs.Step.{enter_child}
 use Rattle.fr_store.specs.StackMoves.{with_key_of}
-use Rattle.fr_moves.proofs.ListLaws.{by_items}
+use Rattle.fr_moves.proofs.BegunListLaws.{by_items}
 
 -- Keys and values.
 

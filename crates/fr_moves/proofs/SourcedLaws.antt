@@ -17,8 +17,8 @@ use Rattle.fr_store.specs.LeaveLaws.{below_root, up_append}
 use Rattle.fr_model.specs.Entering.{entered_on}
 use Rattle.fr_refusals.specs.Beginnings.{kept_by}
 use Rattle.fr_moves.specs.Moving.{IsSourcedOn, MayGo}
-use Rattle.fr_moves.proofs.KeptLaws.{kept_as_tracker}
-use Rattle.fr_moves.proofs.ReachLaws.{tree_leads}
+use Rattle.fr_moves.proofs.BegunAroundLaws.{kept_as_tracker}
+use Rattle.fr_moves.proofs.LeadLaws.{tree_leads}
 use Rattle.fr_moves.specs.TreeLaws.{changed_at, field_stays, shape_stays}
 
 -- where each conversion of a tree suits its place, those at a place of it do

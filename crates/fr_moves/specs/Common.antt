@@ -12,7 +12,7 @@ pub use Rattle.fr_model.specs.Collections.{is_map, is_map_tracker, is_set, lacks
 pub use Rattle.fr_model.specs.Commands.{Call}
 pub use Rattle.fr_model.specs.Complete.{complete}
 pub use Rattle.fr_model.specs.Contents.{kept_slice, kept_so, slice_anew, variant_anew}
-pub use Rattle.fr_model.specs.Converting.{converted}
+pub use Rattle.fr_model.specs.ScalarsAsDynamics.{converted}
 pub use Rattle.fr_model.specs.DynamicPlaces.{entry_refusal}
 pub use Rattle.fr_model.specs.Items.{closed_slice, is_open_slice}
 pub use Rattle.fr_model.specs.Paths.{path_of, step_as}
@@ -23,9 +23,9 @@ pub use Rattle.fr_model.specs.Tree.{Mode, State, Tree, Trees, and_last, begun, b
 pub use Rattle.fr_model.specs.Variants.{variant_fields}
 pub use Rattle.fr_model.specs.Well.{ConversionsSuit, IsFullAs, IsInOrder, Leads, OffBut, RestsAround, Suits}
 pub use Rattle.fr_refusals.specs.Beginnings.{beginning_so, begun_by}
-pub use Rattle.fr_moves.specs.Beginnings.{IsWholeWith}
+pub use Rattle.fr_moves.specs.MayBeginAs.{IsWholeWith}
 pub use Rattle.fr_refusals.specs.DynamicBeginnings.{anew_as, kept_as}
-pub use Rattle.fr_moves.specs.Ending.{HoldsItsValue, MayReceive, WhyNot, needs_none_by}
+pub use Rattle.fr_moves.specs.CompletedPlaces.{HoldsItsValue, MayReceive, WhyNot, needs_none_by}
 pub use Rattle.fr_frame.specs.Admitting.{Describes}
 pub use Rattle.fr_moves.specs.WithoutMemory.{takes_no_memory}
 pub use Rattle.fr_moves.specs.HeldPlan.{plan_in}

@@ -1,9 +1,9 @@
 pub mod AboveLaws
 pub mod AnewLaws
-pub mod Beginnings
+pub mod MayBeginAs
 pub mod Common
-pub mod Converting
-pub mod Ending
+pub mod ConvertingMoves
+pub mod CompletedPlaces
 pub mod FitLaws
 pub mod HeldPlan
 pub mod LackLaws

@@ -36,10 +36,10 @@ use Rattle.fr_moves.specs.declared.moves.Rules.{Rules}
 use Rattle.fr_frame.specs.declared.places.Taker.{Taker}
 use Rattle.fr_moves.specs.declared.moves.Way.{Way}
 use Rattle.fr_refusals.specs.Beginnings.{kept_by}
-use Rattle.fr_moves.specs.Beginnings.{MayBeginAround}
+use Rattle.fr_moves.specs.MayBeginAs.{MayBeginAround}
 use Rattle.fr_refusals.specs.DynamicBeginnings.{anew_as, kept_as}
 use Rattle.fr_frame.specs.Admitting.{Describes}
-use Rattle.fr_moves.specs.Ending.{column_by, completes_late, needs_none_by, RulesServe}
+use Rattle.fr_moves.specs.CompletedPlaces.{column_by, completes_late, needs_none_by, RulesServe}
 use Rattle.fr_refusals.specs.Modes.{IsBelowStart}
 use Rattle.fr_model.specs.Entering.{Way as Onward, enters}
 use Rattle.fr_refusals.specs.Openings.{is_begun, HasItems, MayOpenAs}

@@ -1,8 +1,8 @@
 //! Converting a source, as it ends in strict mode.
 ghost use Rattle.std.specs.Prelude.{◌≡◌, ◌≢◌};
 ghost use Rattle.fr_moves.specs.Common.{Conserved, IfErr, IsAtWork, IsErr, IsMade, IsMeant, IsSound, OnErr, OnOk, Room, held_in, meant_by, mode_of, site, strict};
-ghost use Rattle.fr_moves.specs.Converting.{IsConverted, IsSourceOnTop, WhyUnconverted, shape_above, tree_above};
-ghost use Rattle.fr_moves.specs.Ending.{PassesValidators};
+ghost use Rattle.fr_moves.specs.ConvertingMoves.{IsConverted, IsSourceOnTop, WhyUnconverted, shape_above, tree_above};
+ghost use Rattle.fr_moves.specs.CompletedPlaces.{PassesValidators};
 ghost use Rattle.fr_moves.specs.declared.moves.Move.{Move as Moves};
 ghost use Rattle.fr_shape.specs.declared.error.ReflectErrorKind.{ReflectErrorKind as Kind};
 

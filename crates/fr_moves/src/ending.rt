@@ -4,7 +4,7 @@ ghost use Rattle.fr_moves.specs.Common.{AreOpened, Plan, AreOpen, AtTop, Conserv
 ghost use Rattle.fr_shape.specs.declared.error.ReflectErrorKind.{ReflectErrorKind as Kind};
 ghost use Rattle.fr_model.specs.Step.{leaves};
 ghost use Rattle.fr_moves.specs.declared.moves.Move.{Move as Moves};
-ghost use Rattle.fr_moves.specs.Ending.{IsCompleted, IsHandedOver, IsPathThen, IsUncompleted, PassesValidators, RulesServe};
+ghost use Rattle.fr_moves.specs.CompletedPlaces.{IsCompleted, IsHandedOver, IsPathThen, IsUncompleted, PassesValidators, RulesServe};
 ghost use Rattle.fr_refusals.specs.Modes.{IsBelowStart};
 ghost use Rattle.fr_moves.specs.Moving.{is_late_by};
 

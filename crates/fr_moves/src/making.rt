@@ -2,7 +2,7 @@
 ghost use Rattle.std.specs.Prelude.{◌+◌, ◌≡◌, ◌≢◌};
 ghost use Rattle.fr_moves.specs.Common.{Conserved, IfErr, IsErr, IsMade, IsMeant, IsSound, OnErr, OnOk, Room, carried, cursor_tree, false, held_in, meant_by, site, true};
 ghost use Rattle.fr_shape.specs.declared.error.ReflectErrorKind.{ReflectErrorKind as Kind};
-ghost use Rattle.fr_moves.specs.Ending.{PassesValidators};
+ghost use Rattle.fr_moves.specs.CompletedPlaces.{PassesValidators};
 ghost use Rattle.fr_moves.specs.Moving.{is_late, needs_message_alone, needs_none};
 
 use crate::converting::convert_up;

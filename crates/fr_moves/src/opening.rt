@@ -7,9 +7,9 @@ ghost use Rattle.fr_frame.specs.Kids.{MayHave};
 use crate::beginning::begin_so;
 use crate::parts::Frames;
 use crate::placing::place_here;
-use fr_frame::Opening;
+use fr_frame::{Opening, is_begun};
 use fr_plan::TypePlanCore;
-use fr_refusals::{Beginning, is_begun, is_conversion};
+use fr_refusals::{Beginning, is_conversion};
 use fr_shape::{Ledger, OutOfMemory};
 
 /// Begins the place on top as its definition tells, with so many children; of a whole one they have

@@ -8,7 +8,7 @@ use Rattle.fr_shape.specs.declared.error.Invariant.{Invariant}
 use Rattle.fr_model.specs.Step.{build, built, cause, violates}
 use Rattle.fr_frame.specs.Completing.{IsOfValidator}
 use Rattle.fr_partial.specs.Building.{build_refusal, meant_by_build, IsKeptIf}
-use Rattle.fr_moves.specs.Ending.{PassesValidators}
+use Rattle.fr_moves.specs.CompletedPlaces.{PassesValidators}
 use Rattle.fr_moves.specs.LackLaws.{only_wants}
 
 -- there is something to be built in strict mode and at the root alone

@@ -7,10 +7,10 @@ use Rattle.fr_model.specs.Variants.{is_enum}
 use Rattle.fr_plan.specs.PlanLaws.{PlansAreComplete}
 use Rattle.fr_refusals.specs.declared.choosing.Chosen.{Chosen}
 use Rattle.fr_refusals.specs.Choosing.{found_refusal}
-use Rattle.fr_partial.specs.Choosing.{Selects}
+use Rattle.fr_partial.specs.SelectingCalls.{Selects}
 use Rattle.fr_partial.proofs.DecidingLaws.{admitted, cannot, is_not, remains}
 use Rattle.fr_moves.specs.PlaceLaws.{here_along}
-use Rattle.fr_partial.proofs.ReachLaws.{node_reached}
+use Rattle.fr_partial.proofs.ReachedShapes.{node_reached}
 use Rattle.fr_partial.proofs.SeenLaws.{def_seen}
 use Rattle.fr_plan.specs.ReachLaws.{NodesAreReached, ReachedHaveNodes}
 

@@ -8,10 +8,10 @@ use Rattle.fr_model.specs.Well.{HasContent, PointsTo}
 use Rattle.fr_frame.specs.declared.places.Tracker.{Tracker as Started}
 use Rattle.fr_refusals.specs.Beginnings.{kept_by}
 use Rattle.fr_partial.specs.Sides.{IsSide}
-use Rattle.fr_moves.specs.Beginnings.{MayBeginAround}
+use Rattle.fr_moves.specs.MayBeginAs.{MayBeginAround}
 use Rattle.fr_moves.specs.TrackerLaws.{IsFullTree, full_tree}
 use Rattle.fr_partial.proofs.DecidingLaws.{goes}
-use Rattle.fr_partial.proofs.LookLaws.{begun_inner, begun_some}
+use Rattle.fr_partial.proofs.ChildrenByLooks.{begun_inner, begun_some}
 use Rattle.fr_partial.proofs.SeenLaws.{in_seen, seen_by}
 use Rattle.fr_moves.specs.StateLaws.{IsSiteInOrder}
 use Rattle.fr_model.specs.Trackers.{Conversion}

@@ -8,7 +8,7 @@ use Rattle.fr_model.specs.Entering.{opened_value}
 use Rattle.fr_shape.specs.Val.{first, map_of, no_vals, set_of}
 use Rattle.fr_refusals.specs.Beginnings.{kept_by}
 use Rattle.fr_model.proofs.Becoming.{kept_so_is as kept_just_so}
-use Rattle.fr_moves.specs.Beginnings.{MayBeginAround}
+use Rattle.fr_moves.specs.MayBeginAs.{MayBeginAround}
 use Rattle.fr_moves.specs.TrackerLaws.{IsFullTree}
 use Rattle.fr_model.specs.Step.{inner_option_kept}
 

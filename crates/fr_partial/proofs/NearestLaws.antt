@@ -22,7 +22,7 @@ use Rattle.fr_store.specs.WayLaws.{leads_at, leads_reach, tree_of_at}
 use Rattle.fr_store.specs.Ways.{LeadsUnstored, Reaches, StoredButIn, kid_at, owner_along, owner_below, owner_in_plot}
 use Rattle.fr_partial.specs.Readings.{nearest_along}
 use Rattle.fr_moves.specs.Underway.{IsReady}
-use Rattle.fr_partial.proofs.AboveLaws.{field_outlined}
+use Rattle.fr_partial.proofs.OwnerLaws.{field_outlined}
 use Rattle.fr_moves.specs.FitLaws.{is_there}
 use Rattle.fr_moves.specs.PlaceLaws.{Tells}
 

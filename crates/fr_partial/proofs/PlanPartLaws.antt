@@ -31,7 +31,7 @@ use Rattle.fr_plan.specs.declared.plans.StructPlan.{StructPlan}
 use Rattle.fr_plan.specs.declared.plans.VariantPlanMeta.{VariantPlanMeta}
 use Rattle.fr_partial.specs.PlanParts.{Finds, HasParts, IsWithin}
 use Rattle.fr_partial.specs.Readings.{is_struct, variant_plan_at}
-use Rattle.fr_partial.proofs.ReachLaws.{beside}
+use Rattle.fr_partial.proofs.ReachedShapes.{beside}
 
 -- Lists side by side.
 

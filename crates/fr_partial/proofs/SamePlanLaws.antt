@@ -31,7 +31,7 @@ use Rattle.fr_plan.specs.declared.plans.FieldPlan.{FieldPlan}
 use Rattle.fr_plan.specs.declared.plans.StructPlan.{StructPlan}
 use Rattle.fr_plan.specs.declared.plans.VariantPlanMeta.{VariantPlanMeta}
 use Rattle.fr_partial.proofs.PlanPartLaws.{IsOwn, KindOf, a_struct, an_enum, another, is_back, kind_of, own_of, zip_some}
-use Rattle.fr_partial.proofs.ReachLaws.{beside}
+use Rattle.fr_partial.proofs.ReachedShapes.{beside}
 
 -- The nodes of fields, as a shape's own node has them.
 

@@ -3,9 +3,9 @@ use Rattle.std.proofs.Common.{◌≡◌, ℕ, Bool, true, false, Some, None, ref
 use Rattle.fr_partial.specs.Common.{HasItems, Mode, Operation, ShapeId, Site, Table, Tracker, Tree, beginning_in, cursor_tree, def_of, field_refusal, init_array_refusal, init_list_refusal, init_map_refusal, init_set_refusal, is_dynamic, is_map, item_refusal, lacks_value, named_refusal, selected, set_item_refusal, shape_at, value_refusal}
 use Rattle.fr_model.specs.Collections.{key_refusal}
 use Rattle.fr_refusals.specs.KeyRefusals.{key_refusal_by, value_refusal_by}
-pub use Rattle.fr_partial.specs.Looks.{Sees}
+pub use Rattle.fr_partial.specs.LooksHere.{Sees}
 use Rattle.fr_moves.specs.LookLaws.{alike_by, AsBegun}
-use Rattle.fr_partial.proofs.LookLaws.{begun_array, begun_in, begun_named, begun_refusal, begun_set_item, items_alike}
+use Rattle.fr_partial.proofs.ChildrenByLooks.{begun_array, begun_in, begun_named, begun_refusal, begun_set_item, items_alike}
 
 -- of a map it is known whether its last child is there; where there is no map, that doesn't matter
 where_map : {X : Type 0} (of_map lacks there : Bool) (by_child : Bool → X) (otherwise : X) → (of_map ≡ true → lacks ≡ there)

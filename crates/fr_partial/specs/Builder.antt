@@ -18,7 +18,7 @@ use Rattle.fr_model.specs.Step.{step, build, violates}
 use Rattle.fr_model.specs.Tree.{State, cursor_shape, tree_occurs}
 use Rattle.fr_model.specs.StateCode.{state_code}
 use Rattle.fr_partial.specs.BuiltValue.{BuiltValue}
-use Rattle.fr_moves.specs.Ending.{completes_late, PassesValidators}
+use Rattle.fr_moves.specs.CompletedPlaces.{completes_late, PassesValidators}
 use Rattle.fr_partial.specs.ParseHooks.{parses_by_hook}
 use Rattle.fr_moves.specs.Sites.{Site}
 use Rattle.fr_partial.specs.declared.reflect_error.ReflectError.{ReflectError}

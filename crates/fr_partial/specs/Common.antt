@@ -11,7 +11,7 @@ pub use Rattle.fr_model.specs.Collections.{is_map, is_set, lacks_value, set_item
 pub use Rattle.fr_model.specs.Commands.{Call}
 pub use Rattle.fr_model.specs.Complete.{complete}
 pub use Rattle.fr_model.specs.Contents.{is_result, kept_so, pointer_refusal, points_to_slice}
-pub use Rattle.fr_model.specs.Converting.{converted}
+pub use Rattle.fr_model.specs.ScalarsAsDynamics.{converted}
 pub use Rattle.fr_model.specs.DynamicPlaces.{entry_refusal, is_begun_dynamic}
 pub use Rattle.fr_model.specs.Items.{init_array_refusal, is_open_slice, item_refusal}
 pub use Rattle.fr_model.specs.Paths.{path_of, step_as}
@@ -26,12 +26,12 @@ pub use Rattle.fr_refusals.specs.Beginnings.{beginning_in, beginning_of_inner, b
 pub use Rattle.fr_partial.specs.Sides.{side_call}
 pub use Rattle.fr_partial.specs.Builder.{Builder, IsCall, IsNotOutOfMemory, holds}
 pub use Rattle.fr_values.specs.ConversionNeeds.{IsUnconverted, copies_to_convert}
-pub use Rattle.fr_moves.specs.Ending.{WhyNot}
+pub use Rattle.fr_moves.specs.CompletedPlaces.{WhyNot}
 pub use Rattle.fr_frame.specs.Admitting.{Describes}
 pub use Rattle.fr_moves.specs.WithoutMemory.{takes_no_memory}
 pub use Rattle.fr_moves.specs.HeldPlan.{plan_in}
 pub use Rattle.fr_refusals.specs.Looks.{LooksLike, lacks_last}
-pub use Rattle.fr_partial.specs.Looks.{Sees}
+pub use Rattle.fr_partial.specs.LooksHere.{Sees}
 pub use Rattle.fr_refusals.specs.Modes.{mode_of}
 pub use Rattle.fr_moves.specs.Moving.{ComesTo, IsMeant, MayGo, MayStay, carried, carried_by, meant_by}
 pub use Rattle.fr_partial.specs.Deciding.{Decides, IsRefused, NeedsNone}

@@ -8,7 +8,7 @@ use Rattle.fr_model.specs.Scripts.{brings}
 use Rattle.fr_model.specs.Step.{step}
 use Rattle.fr_model.specs.Tree.{Tree}
 use Rattle.fr_moves.specs.declared.moves.Move.{Move}
-use Rattle.fr_moves.specs.Ending.{completes_late}
+use Rattle.fr_moves.specs.CompletedPlaces.{completes_late}
 use Rattle.fr_partial.specs.ParseHooks.{parses_by_hook}
 use Rattle.fr_moves.specs.Sites.{Site, shape_at}
 use Rattle.fr_moves.specs.Moving.{ComesTo, carried, is_late, meant_by, needs_message_alone, needs_none}

@@ -1,10 +1,10 @@
 pub mod Builder
 pub mod Building
 pub mod BuiltValue
-pub mod Choosing
+pub mod SelectingCalls
 pub mod Common
 pub mod Deciding
-pub mod Looks
+pub mod LooksHere
 pub mod Making
 pub mod ParseHooks
 pub mod Sides

@@ -7,7 +7,7 @@ use Rattle.fr_model.specs.Commands.{Call}
 use Rattle.fr_model.specs.Paths.{path_of}
 use Rattle.fr_model.specs.Scripts.{brought}
 use Rattle.fr_model.specs.Step.{step}
-use Rattle.fr_model.specs.SwapLaws.{AllLeadTo, removed_by_all}
+use Rattle.fr_model.specs.Sequences.{AllLeadTo, removed_by_all}
 use Rattle.fr_model.specs.Tree.{State}
 use Rattle.fr_partial.specs.Builder.{Builder, holds, left}
 use Rattle.fr_partial.specs.declared.reflect_error.ReflectError.{ReflectError}

@@ -7,7 +7,7 @@ ghost use Rattle.fr_shape.specs.Invariants.{keeps_invariants};
 ghost use Rattle.fr_model.specs.Step.{violates};
 ghost use Rattle.fr_partial.specs.Builder.{left_built};
 ghost use Rattle.fr_partial.specs.Building.{build_refusal, meant_by_build, IsBuiltSo, IsKeptIf};
-ghost use Rattle.fr_moves.specs.Ending.{PassesValidators};
+ghost use Rattle.fr_moves.specs.CompletedPlaces.{PassesValidators};
 
 use crate::work::Work;
 use crate::{Built, ReflectError};

@@ -2,7 +2,7 @@
 ghost use Rattle.fr_partial.specs.Common.{Call, Decides, List, Sees, Site, Tree, def_of, field_found, shape_at, variant_named, variant_told_by, variants_of, ℕ};
 ghost use Rattle.std.specs.Prelude.{Option, ◌≡◌};
 ghost use Rattle.fr_shape.specs.declared.shape.VariantDef.{VariantDef as Variant};
-ghost use Rattle.fr_partial.specs.Choosing.{Selects};
+ghost use Rattle.fr_partial.specs.SelectingCalls.{Selects};
 
 use crate::work::Work;
 use fr_moves::{Change, Move};

@@ -3,7 +3,7 @@ ghost use Rattle.std.specs.Prelude.{◌≡◌};
 ghost use Rattle.fr_partial.specs.Common.{Call, Decides, IsCall, IsNotOutOfMemory, NeedsNone, None, Room, RoseBy, Some, cursor_tree, false, holds, is_open_slice, is_root, length, strict, takes_no_memory, true};
 ghost use Rattle.fr_model.specs.Step.{begin_deferred, is_source_place};
 ghost use Rattle.fr_partial.specs.Builder.{meaning, meaning_of_build, IsBuild};
-ghost use Rattle.fr_moves.specs.Ending.{PassesValidators};
+ghost use Rattle.fr_moves.specs.CompletedPlaces.{PassesValidators};
 ghost use Rattle.fr_partial.specs.Deciding.{NeedsMessageAlone};
 
 use crate::work::Work;

@@ -2,7 +2,7 @@
 ghost use Rattle.std.specs.Prelude.{◌+◌, ◌≡◌};
 ghost use Rattle.fr_partial.specs.Common.{Call, ConversionsSuit, IfOk, IsCall, IsChecked, IsInOrder, IsMeant, IsNotOutOfMemory, IsNumbered, List, NeedsNone, None, RestsAround, Room, RoseBy, cursor_tree, holds, path_of, ℕ};
 ghost use Rattle.fr_partial.specs.Builder.{meaning, site_of};
-ghost use Rattle.fr_moves.specs.Ending.{PassesValidators};
+ghost use Rattle.fr_moves.specs.CompletedPlaces.{PassesValidators};
 ghost use Rattle.fr_partial.specs.Deciding.{carries, DecidesBy, NeedsMessageAlone, WasDecided};
 
 use crate::ReflectError;

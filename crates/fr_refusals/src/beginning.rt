@@ -6,7 +6,6 @@ ghost use Rattle.fr_model.specs.Contents.{is_entered_in_place};
 ghost use Rattle.fr_model.specs.Trackers.{keys_of_tracker};
 ghost use Rattle.fr_refusals.specs.Beginnings.{beginning_in, beginning_of_inner, beginning_of_some, beginning_so};
 ghost use Rattle.fr_refusals.specs.Modes.{mode_of};
-ghost use Rattle.fr_refusals.specs.Openings.{is_begun};
 ghost use Rattle.fr_shape.specs.Look.{def_of};
 
 use crate::mode::Mode;
@@ -114,15 +113,5 @@ pub fn beginning_of_inner(
     match mode {
         Mode::Strict => Beginning::Anew,
         Mode::Deferred(_) => beginning_of_some(table, content, mode, partial),
-    }
-}
-
-/// Whether the place is begun.
-pub fn is_begun(partial: &PartialValue) -> bool
-    ensures begun { result ≡ is_begun (own_tree (body_of partial.now)) }
-{
-    match partial {
-        PartialValue::Begun(..) => true,
-        PartialValue::Entered | PartialValue::Whole(_) => false,
     }
 }

@@ -18,9 +18,7 @@ mod sets;
 mod setting;
 
 pub use arrays::array_opening;
-pub use beginning::{
-    Beginning, beginning_in, beginning_of_inner, beginning_of_some, beginning_so, is_begun,
-};
+pub use beginning::{Beginning, beginning_in, beginning_of_inner, beginning_of_some, beginning_so};
 pub use choosing::{Chosen, choose, enum_of, nth_variant};
 pub use contents::{content_of, is_result};
 pub use conversions::{

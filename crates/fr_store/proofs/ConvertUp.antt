@@ -9,7 +9,7 @@ use Rattle.fr_frame.specs.Completing.{IsPlanFor}
 use Rattle.fr_plan.specs.LookupLaws.{LookupPathsAgree, LookupsAgree}
 use Rattle.fr_plan.specs.ReachLaws.{NodesAreReached, ReachedHaveNodes}
 use Rattle.fr_frame.specs.declared.places.FrameOwner.{FrameOwner}
-use Rattle.fr_store.specs.Converting.{shape_above, tree_above, IsConvertedUp, IsRefusedUp}
+use Rattle.fr_store.specs.ConvertingSources.{shape_above, tree_above, IsConvertedUp, IsRefusedUp}
 use Rattle.fr_store.specs.HereLaws.{value_closed}
 use Rattle.fr_store.specs.MoveLaws.{same_last}
 use Rattle.fr_store.specs.ShapeLaws.{Along}

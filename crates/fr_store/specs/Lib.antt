@@ -1,7 +1,7 @@
 pub mod Below
 pub mod Beneath
 pub mod Common
-pub mod Converting
+pub mod ConvertingSources
 pub mod EnterLaws
 pub mod HereLaws
 pub mod HoldLaws

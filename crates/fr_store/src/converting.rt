@@ -3,7 +3,7 @@ ghost use Rattle.fr_store.specs.Common.{AtTop, Conserved, IsChecked, IsOpen, IsS
 ghost use Rattle.std.specs.Prelude.{IfErr, ◌≡◌, ◌⊎◌};
 ghost use Rattle.fr_shape.specs.declared.error.ReflectErrorKind.{ReflectErrorKind as Kind};
 ghost use Rattle.fr_frame.specs.Completing.{IsPlanFor};
-ghost use Rattle.fr_store.specs.Converting.{tree_above, IsConvertedUp, IsRefusedUp};
+ghost use Rattle.fr_store.specs.ConvertingSources.{tree_above, IsConvertedUp, IsRefusedUp};
 
 use crate::Stack;
 use fr_frame::Slots;

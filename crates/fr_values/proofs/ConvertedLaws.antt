@@ -5,7 +5,7 @@ use Rattle.std.specs.Prelude.{encode_utf8}
 use Rattle.fr_shape.specs.Fits.{keys_once}
 use Rattle.fr_shape.specs.Val.{bool, char, int, text}
 use Rattle.fr_shape.specs.Val.{Dynamic, dyn_bool, dyn_int, dyn_nat, dyn_text, dyn_bytes}
-use Rattle.fr_model.specs.Converting.{from_bool, from_char, from_int, from_nat, from_text, from_scalar, takes_bytes}
+use Rattle.fr_model.specs.ScalarsAsDynamics.{from_bool, from_char, from_int, from_nat, from_text, from_scalar, takes_bytes}
 
 of_bool : (v : Val) (d : Dynamic) → or_not_dynamic (from_bool v) ≡ Ok d → keys_once d ≡ true
 of_bool (bool b) d e = let same : dyn_bool b ≡ d = cc in rw (← same) refl

@@ -8,6 +8,6 @@ pub mod Kept
 pub mod KeyLaws
 pub mod Known
 pub mod MadeDynamic
-pub mod PartLaws
+pub mod EntriesInTurn
 pub mod Placed
 pub mod SetChildren

@@ -1,6 +1,6 @@
 -- The names that clauses and proofs cite most, passed on from one place. Declares nothing.
 pub use Rattle.fr_arena.specs.BitSets.{BitSet}
-pub use Rattle.fr_model.specs.Converting.{bytes_of, converted, from_bytes, is_byte, or_not_dynamic}
+pub use Rattle.fr_model.specs.ScalarsAsDynamics.{bytes_of, converted, from_bytes, is_byte, or_not_dynamic}
 pub use Rattle.fr_model.specs.DynamicPlaces.{entry_found}
 pub use Rattle.fr_model.specs.Dynamics.{dynamic_in, element_vals, keys_apart, member_keys, member_vals}
 pub use Rattle.fr_model.specs.Gathering.{entries_in, is_there, items_in, with_entry_in, with_item_in}

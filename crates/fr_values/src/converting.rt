@@ -5,7 +5,7 @@ ghost use Rattle.fr_shape.specs.declared.error.Operation.{Operation as Failed};
 ghost use Rattle.fr_shape.specs.declared.error.ReflectErrorKind.{ReflectErrorKind as Kind};
 ghost use Rattle.fr_shape.specs.declared.shape.Def.{Def as Described};
 ghost use Rattle.fr_shape.specs.Tokens.{vals_tokens};
-ghost use Rattle.fr_model.specs.Converting.{from_scalar, from_bool, from_char, from_int, from_nat, from_text, takes_bytes};
+ghost use Rattle.fr_model.specs.ScalarsAsDynamics.{from_scalar, from_bool, from_char, from_int, from_nat, from_text, takes_bytes};
 ghost use Rattle.fr_values.specs.ConversionNeeds.{has_octets, in_range, is_narrow, is_octet};
 
 use fr_shape::{

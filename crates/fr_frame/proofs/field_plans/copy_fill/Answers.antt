@@ -1,6 +1,6 @@
 use Rattle.std.proofs.Common.{sym, ◌∙◌, ap, subst}
 use Rattle.fr_frame.specs.Common.{as_fields, column_of, tokens}
-use Rattle.fr_frame.proofs.FillLaws.{IsLight, takes_light}
+use Rattle.fr_frame.proofs.FillingHoles.{IsLight, takes_light}
 use Rattle.fr_frame.proofs.field_plans.copy_fill.Goals as goal
 
 pub clone_template-requires : goal.clone_template-requires

@@ -1,7 +1,7 @@
 use Rattle.std.proofs.Common.{Option, option_map, ap, sym, ◌∙◌}
 use Rattle.fr_frame.specs.Common.{TypePlanNode, def_of, has_validators, unwrap_or}
 use Rattle.fr_plan.specs.LookupLaws.{shape_of as shape_of_node}
-use Rattle.fr_frame.proofs.ToldLaws.{node_reached}
+use Rattle.fr_frame.proofs.PlannedFieldLaws.{node_reached}
 use Rattle.fr_frame.proofs.field_plans.has_validators.Goals as goal
 
 pub returns : goal.returns

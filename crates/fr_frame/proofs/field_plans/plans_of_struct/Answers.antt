@@ -1,6 +1,6 @@
 use Rattle.std.proofs.Common.{None, sym, subst}
 use Rattle.fr_frame.specs.Common.{AreTold, IsPlanned, shape_of}
-use Rattle.fr_frame.proofs.ToldLaws.{has_told, struct_found}
+use Rattle.fr_frame.proofs.PlannedFieldLaws.{has_told, struct_found}
 use Rattle.fr_frame.proofs.field_plans.plans_of_struct.Goals as goal
 
 pub fields-requires : goal.fields-requires

@@ -1,6 +1,6 @@
 use Rattle.std.proofs.Common.{Some, sym, subst}
 use Rattle.fr_frame.specs.Common.{AreTold, IsPlanned, shape_of}
-use Rattle.fr_frame.proofs.ToldLaws.{enum_found, has_told, variant_found}
+use Rattle.fr_frame.proofs.PlannedFieldLaws.{enum_found, has_told, variant_found}
 use Rattle.fr_frame.proofs.field_plans.plans_of_variant.Goals as goal
 
 pub returns-in_default-clause-told : goal.returns-in_default-clause-told

@@ -1,6 +1,6 @@
 use Rattle.std.proofs.Common.{sym, ◌∙◌, ap, subst}
 use Rattle.fr_frame.specs.Common.{Body, IsClosed, PartialValue, as_tracker, begun_body, body_occurs, body_of, column_of, defaulted, entered_body, shape_of}
-use Rattle.fr_frame.proofs.FillLaws.{has_filled, others_stay}
+use Rattle.fr_frame.proofs.FillingHoles.{has_filled, others_stay}
 use Rattle.fr_frame.proofs.filling.fill.Goals as goal
 
 pub returns-in_ok-partial-in-Entered-clause-tokens : goal.returns-in_ok-partial-in-Entered-clause-tokens

@@ -1,7 +1,7 @@
 use Rattle.std.proofs.Common.{◌≡◌, Some, sym, ◌∙◌, ap, subst}
 use Rattle.fr_frame.specs.Common.{preset_of, tokens}
 use Rattle.fr_shape.specs.Fills.{preset_in}
-use Rattle.fr_frame.proofs.FillLaws.{IsLight, preset_light}
+use Rattle.fr_frame.proofs.FillingHoles.{IsLight, preset_light}
 use Rattle.fr_frame.proofs.filling.fill_entered.Goals as goal
 
 pub clone_template-requires : goal.clone_template-requires

@@ -1,6 +1,6 @@
 use Rattle.std.proofs.Common.{Option, sym, ◌∙◌, ap}
 use Rattle.fr_frame.specs.Common.{Val, column_of, defaulted_nth, field_fill, is_some, option_map, value_at, view}
-use Rattle.fr_frame.proofs.FillLaws.{copied_some, not_some, nth_there, nth_nothing, nth_fill}
+use Rattle.fr_frame.proofs.FillingHoles.{copied_some, not_some, nth_there, nth_nothing, nth_fill}
 use Rattle.fr_frame.proofs.filling.fill_hole.Goals as goal
 
 pub returns-then-is_some-clause-filled : goal.returns-then-is_some-clause-filled

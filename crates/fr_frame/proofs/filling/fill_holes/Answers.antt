@@ -1,7 +1,7 @@
 use Rattle.std.proofs.Common.{◌≡◌, Option, length, sym, ◌∙◌, ap, arith}
 use Rattle.fr_frame.specs.Common.{Val, as_fields, column_of, defaulted_nth, hole_takes, shape_of}
 use Rattle.fr_frame.proofs.LacksByChildren.{its_fill, names_field, told_here}
-use Rattle.fr_frame.proofs.FillLaws.{alike_at, all_there_stay, first_all, first_more}
+use Rattle.fr_frame.proofs.FillingHoles.{alike_at, all_there_stay, first_all, first_more}
 use Rattle.fr_frame.proofs.filling.fill_holes.Goals as goal
 
 pub returns-then-are_all_there-clause-filled : goal.returns-then-are_all_there-clause-filled

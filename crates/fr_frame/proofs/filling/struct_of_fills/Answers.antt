@@ -1,6 +1,6 @@
 use Rattle.std.proofs.Common.{sym, subst}
 use Rattle.fr_frame.specs.Common.{AreUnplaced}
-use Rattle.fr_frame.proofs.FillLaws.{none_placed}
+use Rattle.fr_frame.proofs.FillingHoles.{none_placed}
 use Rattle.fr_frame.proofs.filling.struct_of_fills.Goals as goal
 
 pub fill_holes-requires-clause-closed : goal.fill_holes-requires-clause-closed

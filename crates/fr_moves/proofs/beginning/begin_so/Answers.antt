@@ -1,9 +1,9 @@
 use Rattle.std.proofs.Common.{sym, ap}
 use Rattle.fr_moves.specs.Common.{Beginning, as_tracker, begun, begun_by, holes, top_tree}
 use Rattle.fr_model.specs.Entering.{opened_as}
-use Rattle.fr_moves.proofs.HereLaws.{may_open_with}
+use Rattle.fr_moves.proofs.TopBodyLaws.{may_open_with}
 use Rattle.fr_moves.proofs.KeepLaws.{became, became_marked, changed_as, kept_released, ok_or, room_here, unchanged_as}
-use Rattle.fr_moves.proofs.KeptLaws.{never_begun, on_ok}
+use Rattle.fr_moves.proofs.BegunAroundLaws.{never_begun, on_ok}
 use Rattle.fr_moves.specs.TreeLaws.{holes_occur}
 use Rattle.fr_moves.proofs.beginning.begin_so.Goals as goal
 

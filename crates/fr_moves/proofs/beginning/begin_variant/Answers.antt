@@ -2,7 +2,7 @@ use Rattle.std.proofs.Common.{ℕ, ap, ◌∙◌, unwrap_or, Some}
 use Rattle.fr_moves.specs.Common.{Beginning, Def, Tree, as_fields, begun_by, def_of, kept_so, top_shape, top_tree, variant_anew}
 use Rattle.fr_moves.specs.TrackerLaws.{variant_has}
 use Rattle.fr_moves.proofs.KeepLaws.{are_open, changed_as}
-use Rattle.fr_moves.proofs.KeptLaws.{variant_so, on_ok}
+use Rattle.fr_moves.proofs.BegunAroundLaws.{variant_so, on_ok}
 use Rattle.fr_moves.specs.LookLaws.{so_alike}
 use Rattle.fr_moves.proofs.beginning.begin_variant.Goals as goal
 

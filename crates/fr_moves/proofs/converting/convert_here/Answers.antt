@@ -1,10 +1,10 @@
 use Rattle.std.proofs.Common.{◌≡◌, true, inl, inr}
 use Rattle.fr_moves.specs.Common.{Changed, IsAtWork, Room_conserved, Val, fits, top_shape, top_tree, whole}
-use Rattle.fr_store.specs.Converting.{IsConvertedUp, IsRefusedUp}
+use Rattle.fr_store.specs.ConvertingSources.{IsConvertedUp, IsRefusedUp}
 use Rattle.fr_moves.proofs.ConvertLaws.{at_work_between, converted_up, refused_up, source_between, source_here, suited_put, top_between, wanted_up, why_unmade, IsSourceHere}
 use Rattle.fr_moves.proofs.EndingLaws.{if_err, on_both}
-use Rattle.fr_moves.proofs.FinishLaws.{suits_root}
-use Rattle.fr_moves.proofs.HereLaws.{holds_value, of_value}
+use Rattle.fr_moves.proofs.EndOfDeferred.{suits_root}
+use Rattle.fr_moves.proofs.TopBodyLaws.{holds_value, of_value}
 use Rattle.fr_moves.proofs.KeepLaws.{room_here}
 use Rattle.fr_moves.specs.PlaceLaws.{here_along}
 use Rattle.fr_moves.proofs.converting.convert_here.Given.{Over}

@@ -1,6 +1,6 @@
 use Rattle.std.proofs.Common.{Ok, inl, inr, refl, sym, ap, ◌∙◌, subst}
 use Rattle.fr_moves.specs.Common.{Conserved_same, IsAtWork, Plan, State, slots_tokens}
-use Rattle.fr_moves.proofs.FinishLaws.{ended_is, ends, held_up, sound_ended, suits_root}
+use Rattle.fr_moves.proofs.EndOfDeferred.{ended_is, ends, held_up, sound_ended, suits_root}
 use Rattle.fr_moves.specs.RemovedLaws.{all_released}
 use Rattle.fr_moves.specs.WorkLaws.{room_tree}
 use Rattle.fr_moves.proofs.deferring.finish.Given.{Over}

@@ -3,7 +3,7 @@ use Rattle.fr_moves.specs.Common.{Beginning, IsWholeWith, MayHave, Tracker, anew
 use Rattle.fr_refusals.specs.DynamicBeginnings.{tracker_with}
 use Rattle.fr_moves.proofs.DynamicLaws.{as_alike, begins_so, in_place, no_base, none_may}
 use Rattle.fr_moves.proofs.KeepLaws.{are_open, changed_as}
-use Rattle.fr_moves.proofs.KeptLaws.{on_ok}
+use Rattle.fr_moves.proofs.BegunAroundLaws.{on_ok}
 use Rattle.fr_moves.proofs.dynamic_places.begin_parts.Goals as goal
 
 pub begin_so-requires : goal.begin_so-requires

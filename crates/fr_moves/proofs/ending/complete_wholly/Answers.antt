@@ -2,7 +2,7 @@ use Rattle.std.proofs.Common.{inl, inr}
 use Rattle.fr_moves.specs.Common.{Rules, mode_of, top_place}
 use Rattle.fr_moves.proofs.BeneathLaws.{beneath, held_up_here, IsBeneath}
 use Rattle.fr_moves.proofs.EndingLaws.{holds, if_err, may_complete, on_both}
-use Rattle.fr_moves.proofs.FinishLaws.{suits_root}
+use Rattle.fr_moves.proofs.EndOfDeferred.{suits_root}
 use Rattle.fr_moves.specs.StateLaws.{below_start}
 use Rattle.fr_moves.specs.WorkLaws.{room_tree}
 use Rattle.fr_moves.proofs.ending.complete_wholly.Given.{Over}

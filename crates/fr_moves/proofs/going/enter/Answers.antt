@@ -6,8 +6,8 @@ use Rattle.fr_moves.proofs.ChildLaws.{child_there, object_node, tracker_has, tra
 use Rattle.fr_moves.proofs.BelowLaws.{around_base, around_map}
 use Rattle.fr_moves.proofs.GoingLaws.{anew_has, has_then, is_object, is_planned, keys_are_apart, keys_are_counted, may_go, node_after, node_is, none_then, of_anew, of_opening, opened_has, opens, went, went_after, went_entry, Goes}
 use Rattle.fr_moves.proofs.KeepLaws.{are_open, became, became_marked}
-use Rattle.fr_moves.proofs.KeptLaws.{has_content, may_have_one, on_ok, whole_some}
-use Rattle.fr_moves.proofs.ListLaws.{has_count, has_tracker}
+use Rattle.fr_moves.proofs.BegunAroundLaws.{has_content, may_have_one, on_ok, whole_some}
+use Rattle.fr_moves.proofs.BegunListLaws.{has_count, has_tracker}
 use Rattle.fr_moves.proofs.MapLaws.{has_last, has_map, value_lacks}
 use Rattle.fr_moves.specs.StateLaws.{open_then}
 use Rattle.fr_moves.proofs.going.enter.Goals as goal

@@ -1,4 +1,4 @@
-use Rattle.fr_moves.proofs.WayLaws.{went_back}
+use Rattle.fr_moves.proofs.KeptPathLaws.{went_back}
 use Rattle.fr_moves.proofs.kept_path.step_back.Goals as goal
 
 pub returns : goal.returns

@@ -1,11 +1,12 @@
 use Rattle.std.proofs.Common.{◌≡◌, ℕ, List, [], ◌∷◌, Bool, true, false, if◌then◌else◌, refl, ap, sym, ◌∙◌, length, None}
-use Rattle.fr_moves.specs.Common.{Def, Field, MayOpenAs, Tracker, Tree, as_fields, as_tracker, begun, begun_by, def_of, entered, fresh, holes, is_begun, is_begun_conversion, opened, opened_as, opened_value, parts_as, top_shape, top_tree, tracker_of, whole}
+use Rattle.fr_frame.specs.Outlines.{is_begun_body}
+use Rattle.fr_moves.specs.Common.{Body, Def, Field, MayOpenAs, Tracker, Tree, as_fields, as_tracker, begun, begun_by, def_of, begun_body, entered, entered_body, fresh, holes, is_begun, is_begun_conversion, opened, opened_as, opened_value, own_tree, parts_as, top_shape, top_tree, tracker_of, whole, whole_body}
 use Rattle.fr_model.specs.Places.{count_children}
 use Rattle.fr_moves.specs.Moving.{opened_here}
 use Rattle.fr_refusals.specs.declared.beginning.Beginning.{Beginning}
-use Rattle.fr_moves.proofs.HereLaws.{may_open_here}
+use Rattle.fr_moves.proofs.TopBodyLaws.{may_open_here}
 use Rattle.fr_moves.proofs.KeepLaws.{are_open, became_marked, changed_as, unchanged_as}
-use Rattle.fr_moves.proofs.KeptLaws.{on_ok}
+use Rattle.fr_moves.proofs.BegunAroundLaws.{on_ok}
 use Rattle.fr_moves.specs.LookLaws.{begun_alike, converts_alike}
 use Rattle.fr_moves.proofs.opening.open_here.Goals as goal
 
@@ -25,6 +26,12 @@ opened_plain def tree apart = ap (λ (b : Bool). opened def (if b then fresh def
 begun_stays : (def : Def) (tree : Tree) → is_begun tree ≡ true → is_begun_conversion tree ≡ false → tree ≡ opened_here def tree
 begun_stays def (begun tracker ts) is apart = opened_plain def (begun tracker ts) apart
 begun_stays def _ is apart = cc
+
+-- a place by itself is begun as what it shows is
+own_begun : (body : Body) → is_begun (own_tree body) ≡ is_begun_body body
+own_begun entered_body = refl
+own_begun (whole_body v) = refl
+own_begun (begun_body tracker cells) = refl
 
 -- and a conversion starts anew
 opened_fresh : (def : Def) → begun (tracker_of def) (holes (count_children def)) ≡ opened def (fresh def)
@@ -61,7 +68,7 @@ returns-then-converts-clause-changed c =
 pub returns-then-begun-clause-changed : goal.returns-then-begun-clause-changed
 returns-then-begun-clause-changed c =
     unchanged_as (are_open c.requires.at_work) _
-    (begun_stays _ _ (sym (begun_alike _ _ c.place_here.ensures.partial) ∙ sym c.is_begun-begun.ensures.begun ∙ c.if-begun.true)
+    (begun_stays _ _ (sym (begun_alike _ _ c.place_here.ensures.partial) ∙ own_begun _ ∙ sym c.is_begun-begun.ensures.begun ∙ c.if-begun.true)
     (sym (converts_alike _ _ c.place_here.ensures.partial) ∙ sym c.is_conversion-converts.ensures.conversion ∙ c.if-converts.false))
 
 pub returns-else-begun-clause-changed : goal.returns-else-begun-clause-changed

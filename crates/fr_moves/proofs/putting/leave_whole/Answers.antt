@@ -2,9 +2,9 @@ use Rattle.std.proofs.Common.{IsOk, refl, sym, subst}
 use Rattle.fr_moves.specs.Common.{IsOpenAt, StoresNothing, Tree, Val, mode_of, top_place, up, whole, whole_tree}
 use Rattle.fr_store.specs.StackMoves.{changed_here}
 use Rattle.fr_refusals.specs.declared.mode.Mode.{Mode}
-use Rattle.fr_moves.proofs.HereLaws.{holds_value, of_unboxed, of_value}
+use Rattle.fr_moves.proofs.TopBodyLaws.{holds_value, of_unboxed, of_value}
 use Rattle.fr_moves.proofs.KeepLaws.{became_marked, room_here}
-use Rattle.fr_moves.proofs.KeptLaws.{on_ok}
+use Rattle.fr_moves.proofs.BegunAroundLaws.{on_ok}
 use Rattle.fr_moves.specs.TreeLaws.{put_again}
 use Rattle.fr_moves.proofs.putting.leave_whole.Goals as goal
 

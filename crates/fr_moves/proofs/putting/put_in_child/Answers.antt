@@ -10,7 +10,7 @@ use Rattle.fr_moves.specs.PlaceLaws.{here_along}
 use Rattle.fr_moves.specs.TrackerLaws.{full_tree}
 use Rattle.fr_moves.proofs.KeepLaws.{became, became_after, changed_as, kept_released, room_here}
 use Rattle.fr_moves.specs.RemovedLaws.{kept_through}
-use Rattle.fr_moves.proofs.KeptLaws.{on_ok}
+use Rattle.fr_moves.proofs.BegunAroundLaws.{on_ok}
 use Rattle.fr_moves.specs.StateLaws.{open_then}
 use Rattle.fr_moves.specs.TreeLaws.{alike_here, changed_below, changed_twice, put_over}
 use Rattle.fr_moves.proofs.putting.put_in_child.Goals as goal

@@ -1,9 +1,9 @@
 use Rattle.std.proofs.Common.{◌≡◌, is_some, sym, ◌∙◌}
 use Rattle.fr_moves.specs.Common.{ItemsKind, as_items, begun_as, kept_slice, mode_of, slice_anew, top_tree}
 use Rattle.fr_moves.proofs.KeepLaws.{are_open, became_marked, changed_as}
-use Rattle.fr_moves.proofs.KeptLaws.{on_ok}
+use Rattle.fr_moves.proofs.BegunAroundLaws.{on_ok}
 use Rattle.fr_moves.specs.LookLaws.{slice_alike}
-use Rattle.fr_moves.proofs.SliceLaws.{slice_kept, slice_there, starts_anew}
+use Rattle.fr_moves.proofs.SlicePointerLaws.{slice_kept, slice_there, starts_anew}
 use Rattle.fr_moves.proofs.slices.begin_slice.Goals as goal
 use Rattle.fr_moves.proofs.slices.begin_slice.Goals.{After-keeps_items-kept}
 

@@ -1,6 +1,6 @@
 use Rattle.fr_moves.specs.Common.{ItemsKind, as_items, begun_as, closed_slice, top_tree}
 use Rattle.fr_moves.proofs.KeepLaws.{became_marked, changed_as}
-use Rattle.fr_moves.proofs.SliceLaws.{closed_alike, open_there}
+use Rattle.fr_moves.proofs.SlicePointerLaws.{closed_alike, open_there}
 use Rattle.fr_moves.proofs.slices.close_slice.Goals as goal
 
 pub reform-requires-clause-is_open : goal.reform-requires-clause-is_open

@@ -3,7 +3,7 @@ use Rattle.fr_moves.specs.Common.{Change, Room, carried_by, held_in, top_tree, v
 use Rattle.fr_shape.specs.TokenLaws.{Room_left}
 use Rattle.fr_moves.proofs.KeepLaws.{are_open, became, kept_changed, kept_same, room_here, unchanged_as}
 use Rattle.fr_moves.specs.FitLaws.{both_true}
-use Rattle.fr_moves.proofs.KeptLaws.{on_ok}
+use Rattle.fr_moves.proofs.BegunAroundLaws.{on_ok}
 use Rattle.fr_moves.proofs.StayingLaws.{as_told, may_be, needs_none_so, none_carried}
 use Rattle.fr_moves.proofs.staying.change_top.Goals as goal
 use Rattle.fr_moves.proofs.staying.change_top.Goals.{Start}

@@ -1,5 +1,5 @@
 use Rattle.std.proofs.Common.{◌/◌, arith}
-use Rattle.fr_values.proofs.PartLaws.{key_at, value_at}
+use Rattle.fr_values.proofs.EntriesInTurn.{key_at, value_at}
 use Rattle.fr_values.proofs.child_values.part_at.Goals as goal
 
 pub returns-then-i-eq0 : goal.returns-then-i-eq0

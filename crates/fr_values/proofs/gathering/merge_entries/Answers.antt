@@ -1,7 +1,7 @@
 use Rattle.std.proofs.Common.{◌≡◌, ◌++◌, List, drop, length, take, subst, sym, ap, arith, ◌∙◌}
 use Rattle.fr_values.specs.Common.{Conserved, Room, Value, entries_occur, entries_view, into_iter_items, parts_of_entries, places_of, same, turn_keys}
 use Rattle.fr_values.proofs.Gathered.{entries_behind, entries_held, entries_joined, turn_count}
-use Rattle.fr_values.proofs.PartLaws.{parts_count}
+use Rattle.fr_values.proofs.EntriesInTurn.{parts_count}
 use Rattle.fr_values.proofs.gathering.merge_entries.Goals as goal
 use Rattle.fr_values.proofs.gathering.merge_entries.Goals.{After-take_entries}
 

@@ -7,4 +7,4 @@ pub returns : goal.returns
 returns c =
     of_outline (node_of c.in-Some.place.now) (heap_of c.args.self.now c.args.id.0) (λ (at : Node). c.is_begun.result ≡ is_begun_body at.body)
     c.in-Some.ensures.place
-    (λ at there same. c.is_begun.ensures ∙ same_begun _ at.body (same_body (node_of c.in-Some.place.now) at same))
+    (λ at there same. c.is_begun.ensures.begun ∙ same_begun _ at.body (same_body (node_of c.in-Some.place.now) at same))

@@ -1,7 +1,7 @@
 use Rattle.std.proofs.Common.{inl, refl, sym, ◌∙◌}
 use Rattle.fr_partial.specs.Common.{Call, Way, as_tracker}
 use Rattle.fr_partial.proofs.DecidingLaws.{cannot, goes_unless}
-use Rattle.fr_partial.proofs.ListLaws.{grows}
+use Rattle.fr_partial.proofs.NewItemLaws.{grows}
 use Rattle.fr_partial.proofs.SeenLaws.{item_seen, items_seen}
 use Rattle.fr_partial.proofs.work.Work.begin_list_item_move.Goals as goal
 

@@ -1,7 +1,7 @@
 use Rattle.std.proofs.Common.{refl, sym, ◌∙◌}
 use Rattle.fr_partial.specs.Common.{Call, Way}
 use Rattle.fr_partial.proofs.DecidingLaws.{cannot, goes_unless}
-use Rattle.fr_partial.proofs.ObjectLaws.{entry_seen}
+use Rattle.fr_partial.proofs.EntryRefusals.{entry_seen}
 use Rattle.fr_partial.proofs.work.Work.begin_object_entry_move.Goals as goal
 
 pub returns-in-None : goal.returns-in-None

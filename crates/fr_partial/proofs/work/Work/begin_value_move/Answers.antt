@@ -2,7 +2,7 @@ use Rattle.std.proofs.Common.{ℕ, suc, refl, sym, ◌∙◌, ap}
 use Rattle.fr_partial.specs.Common.{Call, Way, as_tracker, at_shape, cursor_tree, shape_at, unless_refused, value_refusal}
 use Rattle.fr_model.specs.Entering.{Way as Onward, enters}
 use Rattle.fr_partial.proofs.DecidingLaws.{cannot, goes_unless}
-use Rattle.fr_partial.proofs.ListLaws.{last_is}
+use Rattle.fr_partial.proofs.NewItemLaws.{last_is}
 use Rattle.fr_partial.proofs.SeenLaws.{items_seen, value_seen}
 use Rattle.fr_partial.proofs.work.Work.begin_value_move.Goals as goal
 

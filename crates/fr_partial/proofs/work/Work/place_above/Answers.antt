@@ -1,7 +1,7 @@
 use Rattle.std.proofs.Common.{◌≡◌, false, sym, refl, ◌∙◌, ap, subst}
 use Rattle.fr_partial.specs.Common.{IsSound, Site, is_begun_conversion, is_begun_dynamic, is_root, is_set, site, top_place, Plan, def_of, own_tree, body_of}
 use Rattle.fr_model.specs.Step.{is_dynamic_part, is_set_item, is_source_place}
-use Rattle.fr_partial.proofs.AboveLaws.{dynamic_outlined, never_free, never_root, set_outlined, source_outlined, told, above_inside, ends_so, field_here, field_outlined, node_told}
+use Rattle.fr_partial.proofs.OwnerLaws.{dynamic_outlined, never_free, never_root, set_outlined, source_outlined, told, above_inside, ends_so, field_here, field_outlined, node_told}
 use Rattle.fr_moves.specs.PlaceLaws.{none_found}
 use Rattle.fr_partial.proofs.work.Work.place_above.Goals as goal
 use Rattle.fr_partial.proofs.work.Work.place_above.Goals.{After-core-plan, After-deref-parts}

@@ -1,5 +1,5 @@
 use Rattle.std.proofs.Common.{sym}
-use Rattle.fr_partial.proofs.SliceLaws.{no_slice_put, no_slice_wanted, shared_refused}
+use Rattle.fr_partial.proofs.EmptySlices.{no_slice_put, no_slice_wanted, shared_refused}
 use Rattle.fr_partial.proofs.work.Work.set_empty_shared_slice_move.Goals as goal
 
 pub returns-in-Some : goal.returns-in-Some

@@ -1,5 +1,5 @@
 use Rattle.fr_partial.specs.Common.{body_of, own_tree}
-use Rattle.fr_partial.proofs.DefaultLaws.{default_admitted, default_empty_here, default_put, default_refused, default_wanted}
+use Rattle.fr_partial.proofs.SettingDefaults.{default_admitted, default_empty_here, default_put, default_refused, default_wanted}
 use Rattle.fr_partial.proofs.work.Work.set_nth_field_to_default_move.Goals as goal
 
 pub opening_at-opening-requires : goal.opening_at-opening-requires

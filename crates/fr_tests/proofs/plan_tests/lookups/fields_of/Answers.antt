@@ -1,4 +1,4 @@
-use Rattle.fr_frame.proofs.ToldLaws.{struct_found}
+use Rattle.fr_frame.proofs.PlannedFieldLaws.{struct_found}
 use Rattle.fr_tests.proofs.plan_tests.lookups.fields_of.Goals as goal
 
 pub fields-requires : goal.fields-requires

@@ -1,4 +1,4 @@
-use Rattle.fr_frame.proofs.ToldLaws.{enum_found}
+use Rattle.fr_frame.proofs.PlannedFieldLaws.{enum_found}
 use Rattle.fr_tests.proofs.plan_tests.lookups.variants_of.Goals as goal
 
 pub variants-requires : goal.variants-requires

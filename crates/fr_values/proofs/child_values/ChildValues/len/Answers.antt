@@ -1,5 +1,5 @@
 use Rattle.std.proofs.Common.{length, ap, arith}
-use Rattle.fr_values.proofs.PartLaws.{parts_count}
+use Rattle.fr_values.proofs.EntriesInTurn.{parts_count}
 use Rattle.fr_values.proofs.child_values.ChildValues.len.Goals as goal
 
 pub returns : goal.returns

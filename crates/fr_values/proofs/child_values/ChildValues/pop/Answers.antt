@@ -1,6 +1,6 @@
 use Rattle.std.proofs.Common.{◌≡◌, ◌-◌, ◌++◌, ℕ, List, length, take, ap, sym, arith, ◌∙◌}
 use Rattle.fr_values.specs.Common.{Value, parts_of_entries}
-use Rattle.fr_values.proofs.PartLaws.{last_gone, not_none}
+use Rattle.fr_values.proofs.EntriesInTurn.{last_gone, not_none}
 use Rattle.fr_values.proofs.child_values.ChildValues.pop.Goals as goal
 
 pub returns : goal.returns

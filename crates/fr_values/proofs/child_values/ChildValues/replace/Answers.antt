@@ -1,6 +1,6 @@
 use Rattle.std.proofs.Common.{◌-◌, ◌*◌, ◌++◌, List, get_or, set, length, ap, arith, sym, ◌∙◌}
 use Rattle.fr_values.specs.Common.{Value, parts_of_entries}
-use Rattle.fr_values.proofs.PartLaws.{parts_count, part_behind, put_behind}
+use Rattle.fr_values.proofs.EntriesInTurn.{parts_count, part_behind, put_behind}
 use Rattle.fr_values.proofs.child_values.ChildValues.replace.Goals as goal
 
 pub index_mut-requires : goal.index_mut-requires

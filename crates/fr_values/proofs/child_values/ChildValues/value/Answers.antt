@@ -1,6 +1,6 @@
 use Rattle.std.proofs.Common.{◌*◌, List, get_or, length, ap, arith, ◌∙◌}
 use Rattle.fr_values.specs.Common.{Value, parts_of_entries}
-use Rattle.fr_values.proofs.PartLaws.{parts_count, part_behind, part_in}
+use Rattle.fr_values.proofs.EntriesInTurn.{parts_count, part_behind, part_in}
 use Rattle.fr_values.proofs.child_values.ChildValues.value.Goals as goal
 
 pub returns-then-i-behind : goal.returns-then-i-behind

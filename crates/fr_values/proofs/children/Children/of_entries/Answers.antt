@@ -1,7 +1,7 @@
 use Rattle.std.proofs.Common.{◌∙◌, List, length, map, ap, subst, sym, arith, ℕ}
 use Rattle.fr_values.specs.Cells.{HasNumbers}
 use Rattle.fr_values.specs.Common.{AreApart, Base, Value, given, view}
-use Rattle.fr_values.proofs.PartLaws.{turns_apart, turns_count, turns_given}
+use Rattle.fr_values.proofs.EntriesInTurn.{turns_apart, turns_count, turns_given}
 use Rattle.fr_values.proofs.children.Children.of_entries.Goals as goal
 
 pub of_parts-requires-clause-numbers : goal.of_parts-requires-clause-numbers

@@ -4,7 +4,7 @@ use Rattle.std.proofs.lemmas.List.{length-map}
 use Rattle.std.proofs.lemmas.Option.{slice_get-map, slice_get_read}
 use Rattle.fr_values.specs.Common.{Some, Value, keys_among, parts_of_entries, view}
 use Rattle.fr_values.proofs.Gathered.{both_keys, turn_at, turn_in}
-use Rattle.fr_values.proofs.PartLaws.{parts_count, part_behind}
+use Rattle.fr_values.proofs.EntriesInTurn.{parts_count, part_behind}
 use Rattle.fr_values.proofs.key_places.KeyedParts.key.Goals as goal
 
 pub overflow_mul-result : goal.overflow_mul-result

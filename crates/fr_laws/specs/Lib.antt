@@ -1,0 +1,15 @@
+pub mod CollectionExamples
+pub mod ContentExamples
+pub mod Covering
+pub mod DefaultExamples
+pub mod DynamicExamples
+pub mod Examples
+pub mod FinishExamples
+pub mod HookExamples
+pub mod ListExamples
+pub mod Passage
+pub mod PassageExamples
+pub mod SourceExamples
+pub mod SwapExamples
+pub mod SwapLaws
+pub mod WellExamples
