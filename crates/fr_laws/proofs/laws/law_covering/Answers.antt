@@ -1,5 +1,6 @@
 use Rattle.std.proofs.Common.{◌≡◌}
-use Rattle.fr_model.proofs.Common.{Some, sym, subst, Place, way_down}
+use Rattle.fr_model.proofs.Common.{Some, sym, subst, Place}
+use Rattle.fr_laws.specs.Covering.{way_down}
 use Rattle.fr_laws.proofs.Covering.{way_leads, way_is}
 use Rattle.fr_laws.proofs.laws.law_covering.Goals as goal
 
