@@ -22,37 +22,65 @@ fn servers(alloc: Global) -> Result<ShapeTable, OutOfMemory> {
     Ok(ShapeTable::new(alloc, Items::from_vec(shapes)))
 }
 
+const BYTE: ShapeId = ShapeId(0);
+
+const LETTER: ShapeId = ShapeId(1);
+
 /// A shape by each call, the scalars u8 and char first.
 fn of_each_kind(alloc: Global) -> Result<ShapeTable, OutOfMemory> {
-    let (byte, letter) = (ShapeId(0), ShapeId(1));
-    let shapes = vec![in alloc;
-        Shape::scalar(alloc, ScalarKind::U8)?.with_preset(Template::new(Value::Nat(7))),
-        Shape::scalar(alloc, ScalarKind::Char)?,
-        Shape::opaque(alloc, "Handle")?,
-        Shape::struct_of(alloc, "Key", &[("row", byte), ("column", letter)])?,
-        Shape::tuple_of(alloc, "(u8, char)", &[byte, letter])?,
-        Shape::enum_of(
-            alloc,
-            "Lamp",
-            EnumRepr::U8,
-            &[("Off", &[]), ("On", &[("level", byte), ("colour", letter)])],
-        )?,
-        Shape::option_of(alloc, "Option<char>", letter)?,
-        Shape::result_of(alloc, "Result<u8, char>", byte, letter)?,
-        Shape::list_of(alloc, "Vec<u8>", byte)?,
-        Shape::map_of(alloc, "BTreeMap<u8, char>", byte, letter)?,
-        Shape::set_of(alloc, "BTreeSet<u8>", byte)?,
-        Shape::array_of(alloc, "[u8; 2]", byte, 2)?,
-        Shape::box_of(alloc, "Box<u8>", byte)?,
-        Shape::dynamic(alloc, "Value")?,
-        dimmed(alloc, byte)?,
-    ]?;
+    let mut shapes = Vec::new(alloc);
+    push_scalars(alloc, &mut shapes)?;
+    push_products(alloc, &mut shapes)?;
+    push_contents(alloc, &mut shapes)?;
+    push_collections(alloc, &mut shapes)?;
+    shapes.push(Shape::dynamic(alloc, "Value")?)?;
+    shapes.push(dimmed(alloc)?)?;
     Ok(ShapeTable::new(alloc, Items::from_vec(shapes)))
 }
 
+fn push_scalars(alloc: Global, shapes: &mut Vec<Shape>) -> Result<(), OutOfMemory> {
+    let byte = Shape::scalar(alloc, ScalarKind::U8)?;
+    shapes.push(byte.with_preset(Template::new(Value::Nat(7))))?;
+    shapes.push(Shape::scalar(alloc, ScalarKind::Char)?)?;
+    shapes.push(Shape::opaque(alloc, "Handle")?)?;
+    Ok(())
+}
+
+fn push_products(alloc: Global, shapes: &mut Vec<Shape>) -> Result<(), OutOfMemory> {
+    let columns = [("row", BYTE), ("column", LETTER)];
+    shapes.push(Shape::struct_of(alloc, "Key", &columns)?)?;
+    shapes.push(Shape::tuple_of(alloc, "(u8, char)", &[BYTE, LETTER])?)?;
+    shapes.push(lamp(alloc)?)?;
+    Ok(())
+}
+
+fn lamp(alloc: Global) -> Result<Shape, OutOfMemory> {
+    Shape::enum_of(
+        alloc,
+        "Lamp",
+        EnumRepr::U8,
+        &[("Off", &[]), ("On", &[("level", BYTE), ("colour", LETTER)])],
+    )
+}
+
+fn push_contents(alloc: Global, shapes: &mut Vec<Shape>) -> Result<(), OutOfMemory> {
+    shapes.push(Shape::option_of(alloc, "Option<char>", LETTER)?)?;
+    shapes.push(Shape::result_of(alloc, "Result<u8, char>", BYTE, LETTER)?)?;
+    shapes.push(Shape::box_of(alloc, "Box<u8>", BYTE)?)?;
+    Ok(())
+}
+
+fn push_collections(alloc: Global, shapes: &mut Vec<Shape>) -> Result<(), OutOfMemory> {
+    shapes.push(Shape::list_of(alloc, "Vec<u8>", BYTE)?)?;
+    shapes.push(Shape::map_of(alloc, "BTreeMap<u8, char>", BYTE, LETTER)?)?;
+    shapes.push(Shape::set_of(alloc, "BTreeSet<u8>", BYTE)?)?;
+    shapes.push(Shape::array_of(alloc, "[u8; 2]", BYTE, 2)?)?;
+    Ok(())
+}
+
 /// A struct whose field takes the default of its shape where it is left unset.
-fn dimmed(alloc: Global, byte: ShapeId) -> Result<Shape, OutOfMemory> {
-    let level = Field::new(alloc, Text::new(alloc, "level")?, byte);
+fn dimmed(alloc: Global) -> Result<Shape, OutOfMemory> {
+    let level = Field::new(alloc, Text::new(alloc, "level")?, BYTE);
     let marked = level.with_default(DefaultSource::FromTrait);
     let fields = Items::from_vec(vec![in alloc; marked]?);
     let kind = StructKind::Struct;
@@ -116,12 +144,12 @@ fn shapes_by_each_call_take_their_values(rt: HostRuntime) {
         (7, r#"{"ok":7}"#, true),
         (7, r#"{"err":{"c":"x"}}"#, true),
         (7, r#"{"ok":{"c":"x"}}"#, false),
-        (8, r#"{"l":[7]}"#, true),
-        (9, r#"{"m":[[7,{"c":"x"}]]}"#, true),
-        (10, r#"{"e":[7]}"#, true),
-        (11, "[7,8]", true),
-        (11, "[7]", false),
-        (12, r#"{"p":7}"#, true),
+        (8, r#"{"p":7}"#, true),
+        (9, r#"{"l":[7]}"#, true),
+        (10, r#"{"m":[[7,{"c":"x"}]]}"#, true),
+        (11, r#"{"e":[7]}"#, true),
+        (12, "[7,8]", true),
+        (12, "[7]", false),
         (13, r#"{"d":null}"#, true),
         (14, "[7]", true),
     ] {
