@@ -8,8 +8,6 @@ mod collection_tests;
 #[cfg(test)]
 mod content_tests;
 #[cfg(test)]
-mod conversion_tests;
-#[cfg(test)]
 mod deferred_tests;
 #[cfg(test)]
 mod document_tests;
