@@ -1,5 +1,5 @@
 -- The shapes of a table that an id can name.
-use Rattle.std.specs.Prelude.{◌≡◌, ℕ, ◌^◌, ◌<◌, ◌≤◌, nat_lt, take, length, Option, Some, None, if◌then◌else◌}
+use Rattle.std.specs.Prelude.{◌≡◌, ℕ, ◌^◌, ◌<◌, nat_lt, take, length, Option, Some, None, if◌then◌else◌}
 use Rattle.std.proofs.Common.{get_or, arith}
 use Rattle.std.proofs.lemmas.List.{get_or-take, length-take}
 use Rattle.fr_shape.specs.declared.shape.Shape.{Shape}
