@@ -1,52 +1,35 @@
--- The first shape that passes a test, as a loop over the numbers of the table's shapes comes to it.
-use Rattle.std.proofs.Common.{◌≡◌, ℕ, ◌+◌, ◌<◌, ◌≤◌, ◌^◌, Bool, true, false, cond, List, ◌∷◌, length, drop, Some, None, slice_get, sym, ap, ◌∙◌}
-use Rattle.std.specs.List.{position, position_from}
-use Rattle.std.proofs.Math.ListN.{drop_of_length-le}
-use Rattle.std.proofs.lemmas.List.{drop_more}
-use Rattle.std.proofs.lemmas.Option.{slice_get_within, get_or_from_slice_get}
-use Rattle.std.proofs.lemmas.Iterator.Adapters.{position_from-zero}
+-- The first shape that passes a test, by its number in the whole table and as an id can name it.
+use Rattle.std.proofs.Common.{◌≡◌, ℕ, ◌+◌, ◌^◌, suc, zero, min, Bool, true, false, cond, not, [], ◌∷◌, length, take, nat_lt, Some, None, ap, ◌∙◌, arith}
+use Rattle.std.specs.List.{position, prefix_len}
+use Rattle.std.specs.Option.{option_and_then}
+use Rattle.std.proofs.lemmas.Bool.Decides.{nat_tests}
+use Rattle.std.proofs.lemmas.List.{length-take}
 use Rattle.fr_shape.specs.declared.shape.Shape.{Shape}
-use Rattle.fr_facet.specs.Nameable.{nameable, within_nameable, past_names, past_table, nameable_at}
+use Rattle.fr_shape.specs.Look.{Table}
+use Rattle.fr_facet.specs.Nameable.{nameable, named_by}
 
-module _ (p : Shape → Bool) (table : List Shape) where
-  abbrev named : List Shape
-  named = nameable table
+one_more : (passes : Bool) (all few n : ℕ) → few ≡ min all n
+    → cond passes (1 + few) 0 ≡ min (cond passes (1 + all) 0) (suc n)
+one_more true all few n e = omega arith
+one_more false all few n e = omega arith
 
-  -- the first that passes is the first among those from the i-th on
-  abbrev pub IsFirstFrom : ℕ → Type 0
-  IsFirstFrom i = position_from p i (drop i named) ≡ position_from p 0 named
+-- of the first n shapes as many pass in a row as of all, but n at most
+passing_within : (p : Shape → Bool) (n : ℕ) (table : Table) → prefix_len p (take n table) ≡ min (prefix_len p table) n
+passing_within p zero table = omega arith
+passing_within p (suc n) [] = omega arith
+passing_within p (suc n) (shape ∷ shapes) = one_more (p shape) (prefix_len p shapes) (prefix_len p (take n shapes)) n (passing_within p n shapes)
 
-  from_shape : (i : ℕ) (shape : Shape) → i < 2 ^ 32 → slice_get table i ≡ Some shape → drop i named ≡ shape ∷ drop (i + 1) named
-  from_shape i shape low is =
-      let within : i < length table = slice_get_within table i shape is in
-      let short : i < length named = within_nameable table i low within in
-      drop_more named i shape short
-      ∙ ap (λ (s : Shape). s ∷ drop (i + 1) named)
-      (nameable_at table i shape short ∙ get_or_from_slice_get table i shape shape is)
+number_within : (k n count : ℕ)
+    → option_and_then (λ i. cond (nat_lt i n) (Some i) None) (cond (nat_lt k count) (Some k) None)
+    ≡ cond (nat_lt (min k n) (min n count)) (Some (min k n)) None
+number_within k n count = grind (arith, nat_tests)
 
-  read : (i : ℕ) (shape : Shape) → i < 2 ^ 32 → slice_get table i ≡ Some shape → (passes : Bool) → p shape ≡ passes
-      → position_from p i (drop i named) ≡ cond passes (Some i) (position_from p (i + 1) (drop (i + 1) named))
-  read i shape low is passes e =
-      ap (position_from p i) (from_shape i shape low is)
-      ∙ ap (λ (b : Bool). cond b (Some i) (position_from p (i + 1) (drop (i + 1) named))) e
+first_within : (p : Shape → Bool) (n : ℕ) (table : Table)
+    → option_and_then (λ i. cond (nat_lt i n) (Some i) None) (position p table) ≡ position p (take n table)
+first_within p n table =
+    rw (passing_within (λ shape. not (p shape)) n table, length-take n table)
+    (number_within (prefix_len (λ shape. not (p shape)) table) n (length table))
 
-  pub found_here : (i : ℕ) (shape : Shape) → i < 2 ^ 32 → slice_get table i ≡ Some shape → p shape ≡ true → IsFirstFrom i
-      → Some i ≡ position p named
-  found_here i shape low is passes first =
-      sym (read i shape low is true passes) ∙ first ∙ sym (position_from-zero p named)
-
-  pub found_later : (i : ℕ) (shape : Shape) → i < 2 ^ 32 → slice_get table i ≡ Some shape → p shape ≡ false → IsFirstFrom i
-      → IsFirstFrom (i + 1)
-  found_later i shape low is fails first = sym (read i shape low is false fails) ∙ first
-
-  found_nowhere : (i : ℕ) → length named ≤ i → IsFirstFrom i → None ≡ position p named
-  found_nowhere i past first =
-      sym (ap (position_from p i) (drop_of_length-le named past)) ∙ first ∙ sym (position_from-zero p named)
-
-  -- past the last number
-  pub none_named : (i : ℕ) → 2 ^ 32 ≤ i → IsFirstFrom i → None ≡ position p named
-  none_named i past = found_nowhere i (past_names table i past)
-
-  -- past the last shape
-  pub none_left : (i : ℕ) → length table ≤ i → IsFirstFrom i → None ≡ position p named
-  none_left i past = found_nowhere i (past_table table i past)
+pub first_named : (p : Shape → Bool) (table : Table) → option_and_then named_by (position p table) ≡ position p (nameable table)
+unfolding nameable
+first_named p table = first_within p (2 ^ 32) table

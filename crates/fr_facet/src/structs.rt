@@ -1,7 +1,8 @@
 //! Structs of the caller's own: their shape in a table, and the way between their parts and the
 //! value that they are.
-ghost use Rattle.std.specs.Prelude.{◌≡◌, ◌&&◌, ℕ, [], ◌∷◌, List, Option, Bool, true, reverse, IfOk, OnOk, OnErr, option_map};
+ghost use Rattle.std.specs.Prelude.{◌≡◌, ◌&&◌, ℕ, [], ◌∷◌, List, Option, Bool, true, reverse, IfOk, OnOk, OnErr, option_map, position};
 ghost use Rattle.fr_shape.specs.declared.shape.Field.{Field as OneField};
+ghost use Rattle.fr_shape.specs.declared.shape.Shape.{Shape as OneShape};
 ghost use Rattle.fr_shape.specs.declared.shape.ShapeId.{ShapeId as Id};
 ghost use Rattle.fr_shape.specs.Fits.{fields_fit};
 ghost use Rattle.fr_shape.specs.Look.{Table};
@@ -13,9 +14,12 @@ ghost use Rattle.fr_facet.specs.Facets.{IsReadIf, first_own};
 ghost use Rattle.fr_facet.specs.Structs.{Names, are_fields, first_takes, is_field, is_struct_of, names_of, none_left, product_takes, shapes_in};
 ghost use Rattle.fr_facet.specs.StructLaws.{none_fit, parts_fit};
 
+use crate::finding::id_of;
 use crate::releasing::discard;
 use crate::{Facet, FacetFault};
-use fr_shape::{Def, Field, Items, Ledger, OutOfMemory, ShapeId, ShapeTable, Value, release};
+use fr_shape::{
+    Def, Field, Items, Ledger, OutOfMemory, Shape, ShapeId, ShapeTable, Value, release,
+};
 use std::alloc::Global;
 
 /// The first struct of the table that has just these fields, in this order: of each its name and
@@ -24,17 +28,18 @@ pub fn find_struct(table: &ShapeTable, fields: &[(&str, Option<ShapeId>)]) -> Op
     ensures first { option_map (λ (id : Id). id.0) result
         ≡ first_own (λ _ def. is_struct_of (names_of fields.now) def) table.now }
 {
-    for i in 0..table.len() {
-        let Ok(number) = u32::try_from(i) else {
-            return None;
-        };
-        let id = ShapeId(number);
-        let shape = table.get(id)?;
-        if is_struct_of(&shape.def, fields) {
-            return Some(id);
-        }
-    }
-    None
+    id_of(first_struct(table.as_slice(), fields))
+}
+
+/// The number of the first struct of just these fields.
+fn first_struct(shapes: &[Shape], fields: &[(&str, Option<ShapeId>)]) -> Option<usize>
+    ensures { result
+        ≡ position (λ (shape : OneShape). is_struct_of (names_of fields.now) shape.def)
+        shapes.now }
+{
+    shapes
+        .iter()
+        .position(|shape| is_struct_of(&shape.def, fields))
 }
 
 /// Whether it is a struct of just these fields.
