@@ -17,6 +17,7 @@ mod own_hooks;
 mod paths;
 mod readings;
 mod records;
+mod servers;
 mod sets;
 mod slots;
 mod structs;

@@ -11,6 +11,7 @@ pub mod FilledStructs
 pub mod OnePairMore
 pub mod Placing
 pub mod Putting
+pub mod ServerTable
 pub mod Sized
 pub mod Slots
 pub mod TextsWithoutTokens

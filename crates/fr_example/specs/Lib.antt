@@ -3,3 +3,4 @@ pub mod Loading
 pub mod Meant
 pub mod Outcomes
 pub mod Putting
+pub mod Servers

@@ -2,7 +2,7 @@
 use Rattle.std.proofs.Common.{◌≡◌, ℕ, ℤ, Bool, List, [], ◌∷◌, Option, Some, None, Result, Ok, Err}
 use Rattle.std.specs.List.{AllZip}
 use Rattle.std.specs.Prelude.{⊤}
-use Rattle.fr_shape.specs.Val.{Val, bool, char, int, list_of, nat, ptr, text, token}
+use Rattle.fr_shape.specs.Val.{Val, Vals, bool, char, first, int, list_of, nat, product, ptr, text, token}
 use Rattle.fr_facet.specs.Elements.{option_shown, result_shown, vals_shown}
 
 -- both are empty, or both hold the same
@@ -62,3 +62,15 @@ module _ {A : Type 0} (shown : A → Val) (IsSame : A → A → Type 0) (told : 
     result_told (Ok x) (Err y) e = cc
     result_told (Err x) (Ok y) e = cc
     result_told (Err x) (Err y) e = told_error x y cc
+
+-- a struct's parts are told by the product that it is
+module _ {P : Type 0} (shown : P → Vals) (IsSame : P → P → Type 0) (told : (x y : P) → shown x ≡ shown y → IsSame x y) where
+  pub struct_told : (x y : P) → product (shown x) ≡ product (shown y) → IsSame x y
+  struct_told x y e = told x y cc
+
+-- the first part is told by its value, and the others by theirs
+module _ {A P : Type 0} (shown : A → Val) (IsSame : A → A → Type 0) (told : (x y : A) → shown x ≡ shown y → IsSame x y)
+    (others_shown : P → Vals) (AreSame : P → P → Type 0) (others_told : (x y : P) → others_shown x ≡ others_shown y → AreSame x y) where
+  pub parts_told : (x y : A) (others further : P) → first (shown x) (others_shown others) ≡ first (shown y) (others_shown further)
+      → IsSame x y × AreSame others further
+  parts_told x y others further e = (told x y cc, others_told others further cc)

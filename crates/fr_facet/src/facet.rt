@@ -43,6 +43,12 @@ pub trait Facet: Sized {
     ghost takes: { Val → Bool };
     // Two elements are the same, wherever in memory they lie.
     ghost IsSame: { Self → Self → Type 0 };
+    // The values that fit the type's shape are those that are elements.
+    ghost taken_fit: { (table : Table) (id : ℕ) → first_own is_own table ≡ Some id
+        → (v : Val) → fits table id v ≡ takes v };
+
+    // An element is told by its value.
+    ghost told_by_value: { (x y : Self) → shown x ≡ shown y → IsSame x y };
 
     /// The first shape of the table whose definition is the type's own. It looks through the table
     /// once for the type, and once for each part of the type.
@@ -64,13 +70,6 @@ pub trait Facet: Sized {
         ensures read { IsReadIf (takes (view value)) result }
         ensures unreleased { OnOk result (ledger.new ≡ ledger.old) }
         ensures released { OnErr result (RoseBy (occurs (view value)) ledger.old ledger.new) };
-
-    // The values that fit the type's shape are those that are elements.
-    ghost taken_fit: { (table : Table) (id : ℕ) → first_own is_own table ≡ Some id
-        → (v : Val) → fits table id v ≡ takes v };
-
-    // An element is told by its value.
-    ghost told_by_value: { (x y : Self) → shown x ≡ shown y → IsSame x y };
 }
 
 /// What is true of every type that has a shape in tables, for proofs.

@@ -1,6 +1,6 @@
 //! Structs of the caller's own: their shape in a table, and the way between their parts and the
 //! value that they are.
-ghost use Rattle.std.specs.Prelude.{◌≡◌, ◌&&◌, ℕ, [], ◌∷◌, List, Option, Bool, true, reverse, IfOk, OnOk, OnErr, option_map, position};
+ghost use Rattle.std.specs.Prelude.{◌≡◌, ◌&&◌, ℕ, [], ◌∷◌, List, Option, Bool, true, reverse, IfOk, OnOk, OnErr, option_map, position, ⊤};
 ghost use Rattle.fr_shape.specs.declared.shape.Field.{Field as OneField};
 ghost use Rattle.fr_shape.specs.declared.shape.Shape.{Shape as OneShape};
 ghost use Rattle.fr_shape.specs.declared.shape.ShapeId.{ShapeId as Id};
@@ -11,6 +11,7 @@ ghost use Rattle.fr_shape.specs.Tokens.{occurs, vals_occur};
 ghost use Rattle.fr_shape.specs.Val.{Vals, first, no_vals, product};
 ghost use Rattle.fr_shape.specs.View.{vals_view, view};
 ghost use Rattle.fr_facet.specs.Facets.{IsReadIf, first_own};
+ghost use Rattle.fr_facet.specs.SameLaws.{parts_told};
 ghost use Rattle.fr_facet.specs.Structs.{Names, are_fields, first_takes, is_field, is_struct_of, names_of, none_left, product_takes, shapes_in};
 ghost use Rattle.fr_facet.specs.StructLaws.{none_fit, parts_fit};
 
@@ -86,6 +87,14 @@ pub trait Parts: Sized {
     ghost shown: { Self → Vals };
     // Which values are elements of their types.
     ghost takes: { Vals → Bool };
+    // Two lists of parts are the same, part by part.
+    ghost IsSame: { Self → Self → Type 0 };
+    // The values that fit fields of these shapes are those that are elements.
+    ghost taken_fit: { (table : Table) (wanted : Names) (fields : List OneField)
+        → shapes_in wanted ≡ shapes table → are_fields wanted fields ≡ true
+        → (vs : Vals) → fields_fit table fields vs ≡ takes vs };
+    // The parts are told by their values.
+    ghost told_by_value: { (x y : Self) → shown x ≡ shown y → IsSame x y };
 
     /// The values that they are, the last one first.
     fn into_values(self, alloc: Global, ledger: &mut Ledger) -> Result<Vec<Value>, OutOfMemory>
@@ -107,11 +116,6 @@ pub trait Parts: Sized {
         ensures unreleased { OnOk result (ledger.new ≡ ledger.old) }
         ensures released { OnErr result
             (RoseBy (vals_occur (vals_view (reverse values.items))) ledger.old ledger.new) };
-
-    // The values that fit fields of these shapes are those that are elements.
-    ghost taken_fit: { (table : Table) (wanted : Names) (fields : List OneField)
-        → shapes_in wanted ≡ shapes table → are_fields wanted fields ≡ true
-        → (vs : Vals) → fields_fit table fields vs ≡ takes vs };
 }
 
 impl Parts for () {
@@ -121,7 +125,11 @@ impl Parts for () {
 
     ghost takes = { none_left };
 
+    ghost IsSame = { λ _ _. ⊤ };
+
     ghost taken_fit = { none_fit };
+
+    ghost told_by_value = { λ _ _ _. tt };
 
     fn into_values(self, alloc: Global, _ledger: &mut Ledger) -> Result<Vec<Value>, OutOfMemory> {
         Ok(Vec::new(alloc))
@@ -147,7 +155,12 @@ impl<A: Facet, R: Parts> Parts for (A, R) {
 
     ghost takes = { first_takes A.takes R.takes };
 
+    ghost IsSame = { λ x y. A.IsSame x.0 y.0 × R.IsSame x.1 y.1 };
+
     ghost taken_fit = { parts_fit A.is_own A.takes A.taken_fit R.shapes R.takes R.taken_fit };
+
+    ghost told_by_value = { λ x y. parts_told A.shown A.IsSame A.told_by_value
+        R.shown R.IsSame R.told_by_value x.0 y.0 x.1 y.1 };
 
     fn into_values(self, alloc: Global, ledger: &mut Ledger) -> Result<Vec<Value>, OutOfMemory> {
         let (part, others) = self;
