@@ -5,6 +5,7 @@ use Rattle.std.specs.List.{AllByRecursion, filter, list_any, onto_first, slice_s
 use Rattle.std.specs.Option.{option_map_or, option_and_then}
 use Rattle.std.specs.Str.{bytes_eq}
 use Rattle.std.specs.Cmp.Lexicographic.{unequal}
+use Rattle.std.proofs.Math.Bool.{and-false}
 use Rattle.std.proofs.lemmas.List.{map-append}
 use Rattle.std.proofs.lemmas.List.Folds.{list_any-append}
 use Rattle.std.proofs.lemmas.Simd.{map-map}
@@ -203,10 +204,6 @@ unlike xs ys shorter = (
 
 -- Whether the field is named
 
-and_false : (b : Bool) → (b && false) ≡ false
-and_false true = refl
-and_false false = refl
-
 and_true : (a b : Bool) → b ≡ true → ((a && b) || false) ≡ a
 and_true true b e = ap (λ (c : Bool). c || false) e
 and_true false b e = refl
@@ -247,7 +244,7 @@ named_there table shape field at (name ∷ names) [] names_are group_are found =
         (mentions_from table shape field b names)
         (λ m so. ap (λ (c : Bool). m.named && c)
         (let longer : length field < length (name ++ 46 ∷ m.key) = omega (arith, so, length-append name (46 ∷ m.key)) in (unlike field (name ++ 46 ∷ m.key) longer).1)
-        ∙ and_false m.named)
+        ∙ and-false m.named)
         (mentions_long table shape field b names))
 
     last : (b : Bool) → (b || false) ≡ (b && true)
@@ -270,7 +267,7 @@ named_there table shape field at (name ∷ names) (m ∷ group) (name_is, names_
     here false = refl
     here true =
         ap (λ (c : Bool). (bytes_eq name field && c) || false) (unlike field (m ++ 46 ∷ key_in field group) shorter).0
-        ∙ ap (λ (c : Bool). c || false) (and_false (bytes_eq name field))
+        ∙ ap (λ (c : Bool). c || false) (and-false (bytes_eq name field))
 
     leads : (o : Option ℕ) → shape_below table at m ≡ o
         → option_map_or (λ (f : ℕ). f == shape) (option_and_then (λ (b : ℕ). shape_under table b group) o) false ≡ true
@@ -290,7 +287,7 @@ named_there table shape field at (name ∷ names) (m ∷ group) (name_is, names_
         (leads (Some b) (ap (shape_below table at) (sym ((bytes_eq-Decides name m).0 e)) ∙ is))
     alike again b is false e =
         any_false (λ (k : Mention). k.named && false) (mentions_from table shape field b names)
-        (each_of (λ (k : Mention). (k.named && false) ≡ false) (mentions_from table shape field b names) (λ k. and_false k.named))
+        (each_of (λ (k : Mention). (k.named && false) ≡ false) (mentions_from table shape field b names) (λ k. and-false k.named))
 
     none : (same : Bool) → bytes_eq m name ≡ same → shape_below table at name ≡ None
         → false ≡ (same && starts_with bytes_eq names (group ++ field ∷ []))

@@ -5,6 +5,7 @@ use Rattle.std.specs.BTreeSet.{contains_by}
 use Rattle.std.specs.Cmp.Lexicographic.{slice_cmp}
 use Rattle.std.specs.List.{filter, list_any}
 use Rattle.std.specs.Str.{bytes_eq}
+use Rattle.std.proofs.Math.Bool.{or-false, or-true}
 use Rattle.std.proofs.lemmas.List.{map-append, take_more}
 use Rattle.std.proofs.lemmas.List.Elements.{filter-append}
 use Rattle.std.proofs.lemmas.List.Folds.{list_any-append, list_any_more}
@@ -110,14 +111,6 @@ keys_more mentions i mention within is =
     ap (map (λ (m : Mention). m.key)) (take_more mentions i mention within ∙ ap (λ (m : Mention). take i mentions ++ m ∷ []) (sym is))
     ∙ map-append (λ (m : Mention). m.key) (take i mentions) (mention ∷ [])
 
-or_false : (b : Bool) → (b || false) ≡ b
-or_false true = refl
-or_false false = refl
-
-or_true : (b : Bool) → (b || true) ≡ true
-or_true true = refl
-or_true false = refl
-
 -- a text is seen if it is named or was told, and one more is told, unless it was seen
 pub seen_more : (named : List ℕ → Bool) (keys : List (List ℕ)) (key q : List ℕ) (seen : Bool)
     → (named key || list_any (λ (k : List ℕ). bytes_eq k key) keys) ≡ seen
@@ -129,9 +122,9 @@ seen_more named keys key q true is =
   where
     go : (same : Bool) → bytes_eq key q ≡ same
         → ((named q || list_any (λ (k : List ℕ). bytes_eq k q) keys) || same) ≡ (named q || list_any (λ (k : List ℕ). bytes_eq k q) keys)
-    go false e = or_false (named q || list_any (λ (k : List ℕ). bytes_eq k q) keys)
+    go false e = or-false (named q || list_any (λ (k : List ℕ). bytes_eq k q) keys)
     go true e =
-        or_true (named q || list_any (λ (k : List ℕ). bytes_eq k q) keys)
+        or-true (named q || list_any (λ (k : List ℕ). bytes_eq k q) keys)
         ∙ sym (
         ap (λ (x : List ℕ). named x || list_any (λ (k : List ℕ). bytes_eq k x) keys) (sym ((bytes_eq-Decides key q).0 e)) ∙ is
         )

@@ -1,8 +1,10 @@
-use Rattle.std.proofs.Common.{◌≡◌, ℕ, Bool, true, false, cond, not, ◌&&◌, ◌||◌, List, [], ◌∷◌, ◌++◌, map, take, refl, sym, ◌∙◌, ap, ap₂, append-nil, Bor, BTreeSet, nat_cmp}
+use Rattle.std.proofs.Common.{◌≡◌, ℕ, Bool, cond, not, ◌&&◌, ◌||◌, List, [], ◌∷◌, ◌++◌, map, take, sym, ◌∙◌, ap, ap₂, append-nil, Bor, BTreeSet, nat_cmp}
 use Rattle.std.specs.BTreeMap.{is_at}
 use Rattle.std.specs.Cmp.Lexicographic.{slice_cmp}
 use Rattle.std.specs.List.{filter, list_any}
 use Rattle.std.specs.Str.{bytes_eq}
+use Rattle.std.proofs.Math.Bool.{or-false}
+use Rattle.std.proofs.lemmas.Bool.{not-false, not-true}
 use Rattle.std.proofs.lemmas.List.{take_all}
 use Rattle.fr_example.specs.declared.missing.Mention.{Mention}
 use Rattle.fr_example.specs.Mentions.{is_named}
@@ -10,18 +12,6 @@ use Rattle.fr_example.specs.Missing.{each_once}
 use Rattle.fr_example.proofs.ToldOnce.{has_more, has_text, keys_more, named_more, seen_more, told_more}
 use Rattle.fr_example.proofs.missing.unnamed_keys.Goals as goal
 use Rattle.fr_example.proofs.missing.unnamed_keys.Goals.{then-mention+in_ok-insert, else-mention, then-branch+in_ok-new+in_ok-push, else-branch}
-
-or_false : (b : Bool) → (b || false) ≡ b
-or_false true = refl
-or_false false = refl
-
-unlike : (b : Bool) → not b ≡ true → b ≡ false
-unlike true e = sym e
-unlike false e = refl
-
-like : (b : Bool) → not b ≡ false → b ≡ true
-like true e = refl
-like false e = sym e
 
 pub loop-mention-init : goal.loop-mention-init
 loop-mention-init c = λ q. ap (λ (keys : List (Bor (List ℕ))). list_any (is_at (λ (k : Bor (List ℕ)). slice_cmp nat_cmp q.now k.now)) keys) c.new-seen.ensures.empty
@@ -42,7 +32,7 @@ loop-mention-preserved c =
       | else-mention w ↦
           ap (λ (s : BTreeSet (Bor (List ℕ))). has_text s q) w.seen-is
           ∙ c.loop-mention.invariant q
-          ∙ sym (or_false (is_named (take i mentions) q.now))
+          ∙ sym (or-false (is_named (take i mentions) q.now))
           ∙ ap (λ (d : Bool). is_named (take i mentions) q.now || (d && bytes_eq mention.key q.now)) (sym w.if-mention.false)
           ∙ sym more
     ]
@@ -54,7 +44,7 @@ loop-mention-2-init c =
           λ q.
           c.loop-mention.invariant q
           ∙ ap (λ (ms : List Mention). is_named ms q.now) (take_all c.loop-mention.mention-index c.args.mentions.now c.loop-mention-test.false)
-          ∙ sym (or_false (is_named c.args.mentions.now q.now))
+          ∙ sym (or-false (is_named c.args.mentions.now q.now))
           ∙ ap (λ (keys : List (List ℕ)). is_named c.args.mentions.now q.now || list_any (λ (key : List ℕ). bytes_eq key q.now) keys)
           (sym c.new-keys.ensures.empty);
       keys = c.new-keys.ensures.empty;
@@ -75,10 +65,10 @@ loop-mention-2-preserved c =
       | then-branch+in_ok-new+in_ok-push w ↦
           w.keys-is ∙ w.in_ok-push.ensures.ok
           ∙ ap (λ (key : List ℕ). keys ++ key ∷ []) (w.in_ok-new.ensures.copy ∙ c.as_str-key.ensures.bytes)
-          ∙ ap (λ (b : Bool). keys ++ cond b [] (mention.key ∷ [])) (sym (unlike had (sym c.in_ok-insert-2.ensures.added ∙ w.if-branch.true)))
+          ∙ ap (λ (b : Bool). keys ++ cond b [] (mention.key ∷ [])) (sym (not-true had (sym c.in_ok-insert-2.ensures.added ∙ w.if-branch.true)))
       | else-branch w ↦
           w.keys-is ∙ sym (append-nil keys)
-          ∙ ap (λ (b : Bool). keys ++ cond b [] (mention.key ∷ [])) (sym (like had (sym c.in_ok-insert-2.ensures.added ∙ w.if-branch.false)))
+          ∙ ap (λ (b : Bool). keys ++ cond b [] (mention.key ∷ [])) (sym (not-false had (sym c.in_ok-insert-2.ensures.added ∙ w.if-branch.false)))
     ] in
     record {
       seen =
