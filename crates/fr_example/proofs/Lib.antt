@@ -1,11 +1,13 @@
 pub mod FormCalls
 pub mod FormErrors
 pub mod FormRuns
+pub mod GroupsLedThrough
 pub mod LoadingCalls
 pub mod LoadingEnds
 pub mod LoadingRuns
 pub mod LoadingTexts
 pub mod LoadingTold
+pub mod MissingKeys
 pub mod Loop
 pub mod FilledStructs
 pub mod OnePairMore
@@ -15,3 +17,4 @@ pub mod ServerTable
 pub mod Sized
 pub mod Slots
 pub mod TextsWithoutTokens
+pub mod ToldOnce
