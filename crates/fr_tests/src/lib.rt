@@ -1,10 +1,12 @@
 //! Tests of what the builder stands on, over public calls alone, as a user's crate makes them:
-//! arenas, paths, tables of shapes, their lookups, rules and plans, the places of a value by
-//! themselves, forms, devices and the hooks of documents.
+//! arenas, paths, tables of shapes, Rust types in them, their lookups, rules and plans, the places of
+//! a value by themselves, forms, devices and the hooks of documents.
 #![tactic(auto)]
 
 #[cfg(test)]
 mod arena_tests;
+#[cfg(test)]
+mod facet_tests;
 #[cfg(test)]
 mod fill_tests;
 #[cfg(test)]
