@@ -28,6 +28,7 @@ pub mod ToldLaws
 pub mod ViewLaws
 pub mod FoundLaws
 pub mod ReadLaws
+pub mod ReadingAsLaws
 pub mod SeveralLaws
 pub mod SpotLaws
 pub mod RangeLaws
