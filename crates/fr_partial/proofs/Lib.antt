@@ -27,6 +27,7 @@ pub mod SamePlanLaws
 pub mod ToldLaws
 pub mod ViewLaws
 pub mod FoundLaws
+pub mod CopyLaws
 pub mod ReadLaws
 pub mod ReadingAsLaws
 pub mod SeveralLaws

@@ -1,14 +1,16 @@
 -- The value that is seen at a place: by what is seen of the place and its children, that it fits the place's shape, and its tokens.
-use Rattle.std.proofs.Common.{◌≡◌, ℕ, zero, suc, ◌+◌, arith, Bool, true, false, List, [], ◌∷◌, ◌++◌, length, take, drop, Option, Some, None, option_map, slice_get, if◌then◌else◌, refl, sym, ◌∙◌, ap, subst, append-nil}
-use Rattle.std.proofs.lemmas.List.{ext_get_or}
+use Rattle.std.proofs.Common.{◌≡◌, ℕ, zero, suc, ◌+◌, arith, Bool, true, false, List, [], ◌∷◌, length, map, Option, Some, None, option_map, if◌then◌else◌, refl, sym, ◌∙◌, ap, subst, append-nil}
+use Rattle.std.proofs.lemmas.List.{ext_get_or, length-map}
 use Rattle.std.specs.Option.{option_and_then}
-use Rattle.fr_partial.specs.Common.{ContentKind, IsInOrder, RoseBy, State, Table, Tracker, Tree, Trees, Val, as_content, as_elements, as_entries, as_fields, as_items, begun, branch, child_as, count_trees, cursor_tree, def_of, entered, fits, hole, is_around, no_trees, no_vals, occurs, tokens, whole, Suits, IsFullAs}
+use Rattle.fr_partial.specs.Common.{Body, Cell, ContentKind, IsFullAs, IsInOrder, Room, RoseBy, State, Suits, Table, Tracker, Tree, Trees, Val, as_content, as_elements, as_entries, as_fields, as_items, begun, begun_body, branch, child_as, count_trees, cursor_tree, def_of, entered, entered_body, fits, hole, is_around, no_trees, no_vals, occurs, own_tree, tokens, whole, whole_body}
+use Rattle.fr_frame.specs.Bodies.{trees_of}
 use Rattle.fr_shape.specs.Fits.{count_vals}
 use Rattle.fr_shape.specs.Lists.{is_nil}
 use Rattle.fr_shape.specs.TokenLaws.{occurs_times}
 use Rattle.fr_shape.specs.Tokens.{times, vals_tokens}
 use Rattle.fr_shape.specs.Val.{Vals, first}
-use Rattle.fr_shape.specs.View.{vals_of}
+use Rattle.fr_shape.specs.View.{vals_of, vals_view, view}
+use Rattle.fr_shape.specs.declared.value.Value.{Value}
 use Rattle.fr_model.specs.Complete.{made, value_as}
 use Rattle.fr_model.specs.Places.{vals_nth}
 use Rattle.fr_model.specs.Tree.{cursor_shape}
@@ -16,13 +18,13 @@ use Rattle.fr_model.proofs.Basis.{suits_at}
 use Rattle.fr_model.proofs.Structs.{ChildrenFit, SuitFrom, sound_as, taken_as, value_fits}
 use Rattle.fr_model.proofs.Templates.{nil_is}
 use Rattle.fr_refusals.specs.Looks.{LooksLike}
-use Rattle.fr_partial.specs.PlaceViews.{Initialized, and_whole, has_parts, initialized, seen_begun, seen_whole, whole_values}
+use Rattle.fr_partial.specs.PlaceViews.{Initialized, has_parts, initialized, seen_begun, whole_values}
 use Rattle.fr_partial.specs.ReadAs.{copyable, tokenless, value_seen}
 use Rattle.fr_partial.proofs.KeptLaws.{one_child}
 
 -- By its looks.
 
-pub looks_whole : (tree : Tree) (v : Val) → LooksLike (whole v) tree → tree ≡ whole v
+looks_whole : (tree : Tree) (v : Val) → LooksLike (whole v) tree → tree ≡ whole v
 looks_whole (whole u) v alike = let same : v ≡ u = cc in ap whole (sym same)
 looks_whole hole v alike = cc
 looks_whole entered v alike = cc
@@ -33,14 +35,14 @@ pub record IsBegunSo (tracker : Tracker) (tree : Tree) : Type 0 where
   pub children : Trees
   pub is : tree ≡ begun tracker children
 
-pub looks_begun : (tree : Tree) (tracker : Tracker) (ts : Trees) → LooksLike (begun tracker ts) tree → IsBegunSo tracker tree
+looks_begun : (tree : Tree) (tracker : Tracker) (ts : Trees) → LooksLike (begun tracker ts) tree → IsBegunSo tracker tree
 looks_begun (begun other us) tracker ts alike =
     let same : tracker ≡ other = cc in record { children = us; is = ap (λ (t : Tracker). begun t us) (sym same) }
 looks_begun hole tracker ts alike = cc
 looks_begun entered tracker ts alike = cc
 looks_begun (whole v) tracker ts alike = cc
 
-pub looks_entered : (s : ℕ) (tree : Tree) (seen : Initialized) → LooksLike entered tree → Some seen ≡ initialized s tree → ⊥
+looks_entered : (s : ℕ) (tree : Tree) (seen : Initialized) → LooksLike entered tree → Some seen ≡ initialized s tree → ⊥
 looks_entered s entered seen alike e = cc
 looks_entered s hole seen alike e = cc
 looks_entered s (whole v) seen alike e = cc
@@ -48,11 +50,12 @@ looks_entered s (begun tracker ts) seen alike e = cc
 
 -- By what is seen of the place.
 
-pub unseen : (s : ℕ) (tree : Tree) → None ≡ initialized s tree → value_seen tree ≡ None
-unseen s hole e = refl
-unseen s entered e = refl
-unseen s (whole v) e = cc
-unseen s (begun tracker ts) e = go (has_parts tracker) (whole_values ts) e
+-- where nothing is seen there is no value
+value_unseen : (s : ℕ) (tree : Tree) → None ≡ initialized s tree → value_seen tree ≡ None
+value_unseen s hole e = refl
+value_unseen s entered e = refl
+value_unseen s (whole v) e = cc
+value_unseen s (begun tracker ts) e = go (has_parts tracker) (whole_values ts) e
   where
     go : (parts : Bool) (values : Option (List Val))
         → None ≡ (if parts then option_map (seen_begun s tracker) values else None)
@@ -66,7 +69,7 @@ pub record HasSeen (tracker : Tracker) (ts : Trees) (values : List Val) : Type 0
   pub parts : has_parts tracker ≡ true
   pub all : whole_values ts ≡ Some values
 
-pub has_seen : (s : ℕ) (tracker : Tracker) (ts : Trees) (seen : Initialized) → Some seen ≡ initialized s (begun tracker ts)
+has_seen : (s : ℕ) (tracker : Tracker) (ts : Trees) (seen : Initialized) → Some seen ≡ initialized s (begun tracker ts)
     → HasSeen tracker ts seen.children
 has_seen s tracker ts seen e = go (has_parts tracker) (whole_values ts) refl refl e
   where
@@ -78,7 +81,7 @@ has_seen s tracker ts seen e = go (has_parts tracker) (whole_values ts) refl ref
     go true None p w e = cc
     go false values p w e = cc
 
-pub value_of_parts : (tracker : Tracker) (ts : Trees) (values : List Val) → HasSeen tracker ts values
+value_of_parts : (tracker : Tracker) (ts : Trees) (values : List Val) → HasSeen tracker ts values
     → value_seen (begun tracker ts) ≡ Some (value_as tracker (vals_of values))
 value_of_parts tracker ts values has = rw (has.parts, has.all) refl
 
@@ -89,7 +92,7 @@ value_and_rest : (v : Val) (rest : Option (List Val)) (values : List Val) (n : �
 value_and_rest v (Some vs) values n others e = let same : v ∷ vs ≡ values = cc in sym (ap length same) ∙ ap suc (others vs refl)
 value_and_rest v None values n others e = cc
 
-pub count_seen : (ts : Trees) (values : List Val) → whole_values ts ≡ Some values → length values ≡ count_trees ts
+count_seen : (ts : Trees) (values : List Val) → whole_values ts ≡ Some values → length values ≡ count_trees ts
 count_seen no_trees values e = let same : [] ≡ values = cc in ap length (sym same)
 count_seen (branch (whole v) ts) values e = value_and_rest v (whole_values ts) values (count_trees ts) (λ vs. count_seen ts vs) e
 count_seen (branch hole ts) values e = cc
@@ -101,7 +104,7 @@ count_of [] = refl
 count_of (v ∷ vs) = ap suc (count_of vs)
 
 -- a place that holds one value sees one
-pub one_seen : (table : Table) (s : ℕ) (tracker : Tracker) (ts : Trees) (values : List Val) → Suits table s (begun tracker ts)
+one_seen : (table : Table) (s : ℕ) (tracker : Tracker) (ts : Trees) (values : List Val) → Suits table s (begun tracker ts)
     → HasSeen tracker ts values → is_around tracker ≡ true → length values ≡ 1
 one_seen table s tracker ts values suits has around =
     count_seen ts values has.all ∙ one_child tracker around (def_of table s) (count_trees ts) suits.0.0
@@ -186,7 +189,7 @@ parts_tokens (as_items kind) vs parts one = cc
 parts_tokens (as_entries kind) vs parts one = cc
 
 -- what is copied of the place whose parts have these values
-pub copied_parts : (table : Table) (s : ℕ) (tracker : Tracker) (ts : Trees) (values : List Val) → Suits table s (begun tracker ts)
+copied_parts : (table : Table) (s : ℕ) (tracker : Tracker) (ts : Trees) (values : List Val) → Suits table s (begun tracker ts)
     → HasSeen tracker ts values
     → copyable (begun tracker ts) ≡ (if is_nil (vals_tokens (vals_of values)) then Some (value_as tracker (vals_of values)) else None)
 copied_parts table s tracker ts values suits has =
@@ -194,13 +197,65 @@ copied_parts table s tracker ts values suits has =
     ∙ ap (λ (held : List ℕ). if is_nil held then Some (value_as tracker (vals_of values)) else None)
     (parts_tokens tracker (vals_of values) has.parts (λ around. count_of values ∙ one_seen table s tracker ts values suits has around))
 
+-- What is copied, by what was put at the place and what is seen of it.
+
+pub nothing_copied : (s : ℕ) (tree : Tree) → None ≡ initialized s tree → None ≡ copyable tree
+nothing_copied s tree e = sym (ap (option_and_then tokenless) (value_unseen s tree e))
+
+pub never_entered : (s : ℕ) (tree : Tree) (seen : Initialized) (body : Body) → body ≡ entered_body → LooksLike (own_tree body) tree
+    → Some seen ≡ initialized s tree → ⊥
+never_entered s tree seen body e alike sees = looks_entered s tree seen (subst (λ (b : Body). LooksLike (own_tree b) tree) e alike) sees
+
+pub whole_copied : (tree : Tree) (v : Val) (body : Body) → body ≡ whole_body v → LooksLike (own_tree body) tree → tokenless v ≡ copyable tree
+whole_copied tree v body e alike =
+    ap copyable (sym (looks_whole tree v (subst (λ (b : Body). LooksLike (own_tree b) tree) e alike)))
+
+-- the place is begun so, with children of these values
+pub record BegunHere (tracker : Tracker) (tree : Tree) (values : List Val) : Type 0 where
+  pub children : Trees
+  pub is : tree ≡ begun tracker children
+  pub has : HasSeen tracker children values
+
+pub begun_here : (s : ℕ) (tree : Tree) (seen : Initialized) (tracker : Tracker) (cells : List Cell) (body : Body)
+    → body ≡ begun_body tracker cells → LooksLike (own_tree body) tree → Some seen ≡ initialized s tree
+    → BegunHere tracker tree seen.children
+begun_here s tree seen tracker cells body e alike sees =
+    let so : IsBegunSo tracker tree
+    = looks_begun tree tracker (trees_of cells) (subst (λ (b : Body). LooksLike (own_tree b) tree) e alike) in
+    record { children = so.children; is = so.is; has = has_seen s tracker so.children seen (sees ∙ ap (initialized s) so.is) }
+
+module _ (table : Table) (s : ℕ) (tree : Tree) (tracker : Tracker) (values : List Val) (at : BegunHere tracker tree values) where
+  pub parts_here : has_parts tracker ≡ true
+  parts_here = at.has.parts
+
+  module _ (suits : Suits table s tree) where
+    suits_begun : Suits table s (begun tracker at.children)
+    suits_begun = subst (Suits table s) at.is suits
+
+    pub one_here : (copies : List Value) → map view copies ≡ values → is_around tracker ≡ true → length copies ≡ 1
+    one_here copies same around =
+        sym (length-map copies view) ∙ ap length same ∙ one_seen table s tracker at.children values suits_begun at.has around
+
+    copied_so : copyable tree ≡ (if is_nil (vals_tokens (vals_of values)) then Some (value_as tracker (vals_of values)) else None)
+    copied_so = ap copyable at.is ∙ copied_parts table s tracker at.children values suits_begun at.has
+
+    pub parts_copied : (copies : List Value) (v : Val) → map view copies ≡ values → true ≡ is_nil (vals_tokens (vals_of values))
+        → v ≡ value_as tracker (vals_view copies) → Some v ≡ copyable tree
+    parts_copied copies v same light made =
+        ap Some (made ∙ ap (λ (vs : List Val). value_as tracker (vals_of vs)) same)
+        ∙ sym (copied_so ∙ ap (λ (none : Bool). if none then Some (value_as tracker (vals_of values)) else None) (sym light))
+
+    pub parts_held : false ≡ is_nil (vals_tokens (vals_of values)) → None ≡ copyable tree
+    parts_held held =
+        sym (copied_so ∙ ap (λ (none : Bool). if none then Some (value_as tracker (vals_of values)) else None) (sym held))
+
 -- A copy is there.
 
 pub record IsCopy (seen : Option Val) (v : Val) : Type 0 where
   pub is : seen ≡ Some v
   pub light : tokens v ≡ []
 
-pub is_copy : (seen : Option Val) (v : Val) → Some v ≡ option_and_then tokenless seen → IsCopy seen v
+is_copy : (seen : Option Val) (v : Val) → Some v ≡ option_and_then tokenless seen → IsCopy seen v
 is_copy None v e = cc
 is_copy (Some u) v e = go (is_nil (tokens u)) refl e
   where
@@ -210,35 +265,25 @@ is_copy (Some u) v e = go (is_nil (tokens u)) refl e
         record { is = ap Some same; light = subst (λ (w : Val). tokens w ≡ []) same (nil_is (tokens u) none) }
     go false none e = cc
 
-pub light_occurs : (v : Val) → tokens v ≡ [] → (t : ℕ) → occurs v t ≡ 0
-light_occurs v light t = occurs_times v t ∙ ap (λ (ts : List ℕ). times ts t) light
+module _ (state : State) (v : Val) (copied : Some v ≡ copyable (cursor_tree state)) where
+  copy_here : IsCopy (value_seen (cursor_tree state)) v
+  copy_here = is_copy (value_seen (cursor_tree state)) v copied
 
--- where no token was held, the ledger is as before
-pub unrisen : (held : ℕ → ℕ) (before after : List ℕ) → RoseBy held before after → ((t : ℕ) → held t ≡ 0) → after ≡ before
-unrisen held before after rose none = ext_get_or 0 after before rose.same_length (λ t _. omega (arith, rose.each t, none t))
+  -- it fits the shape of the place
+  pub copy_fits : (table : Table) (root : ℕ) → IsInOrder table root state → fits table (cursor_shape table root state) v ≡ true
+  copy_fits table root order =
+      seen_fits table (cursor_shape table root state) (cursor_tree state) v
+      (suits_at state.mode table root state.cursor state.tree order.leads order.suits) copy_here.is
 
--- a copy of what is seen at the cursor fits the shape there
-pub copy_fits : (table : Table) (root : ℕ) (state : State) (v : Val) → IsInOrder table root state → Some v ≡ copyable (cursor_tree state)
-    → fits table (cursor_shape table root state) v ≡ true
-copy_fits table root state v order copied =
-    seen_fits table (cursor_shape table root state) (cursor_tree state) v
-    (suits_at state.mode table root state.cursor state.tree order.leads order.suits)
-    (is_copy (value_seen (cursor_tree state)) v copied).is
+  -- it holds no token
+  copy_holds : (t : ℕ) → occurs v t ≡ 0
+  copy_holds t = occurs_times v t ∙ ap (λ (ts : List ℕ). times ts t) copy_here.light
 
--- One child after the other.
+  -- so any ledger has room for it
+  pub room_for_copy : (ledger : List ℕ) → Room (occurs v) ledger
+  room_for_copy ledger t h = absurd (omega (arith, h, copy_holds t))
 
-pub take_next : (xs : List Val) (i : ℕ) (v : Val) → Some v ≡ slice_get xs i → take i xs ++ v ∷ [] ≡ take (i + 1) xs
-take_next xs i v e = let next : suc i ≡ i + 1 = omega arith in go xs i e ∙ ap (λ (n : ℕ). take n xs) next
-  where
-    go : (xs : List Val) (i : ℕ) → Some v ≡ slice_get xs i → take i xs ++ v ∷ [] ≡ take (suc i) xs
-    go [] i e = cc
-    go (x ∷ xs) zero e = let same : v ≡ x = cc in ap (λ (w : Val). w ∷ []) same
-    go (x ∷ xs) (suc i) e = ap (λ (ws : List Val). x ∷ ws) (go xs i e)
-
-pub drop_next : (xs : List Val) (i : ℕ) (v : Val) → Some v ≡ slice_get xs i → drop i xs ≡ v ∷ drop (i + 1) xs
-drop_next xs i v e = let next : suc i ≡ i + 1 = omega arith in go xs i e ∙ ap (λ (n : ℕ). v ∷ drop n xs) next
-  where
-    go : (xs : List Val) (i : ℕ) → Some v ≡ slice_get xs i → drop i xs ≡ v ∷ drop (suc i) xs
-    go [] i e = cc
-    go (x ∷ xs) zero e = let same : v ≡ x = cc in ap (λ (w : Val). w ∷ xs) (sym same)
-    go (x ∷ xs) (suc i) e = go xs i e
+  -- and stays as it is where the copy is released
+  pub copy_released : (before after : List ℕ) → RoseBy (occurs v) before after → after ≡ before
+  copy_released before after rose =
+      ext_get_or 0 after before rose.same_length (λ t _. omega (arith, rose.each t, copy_holds t))
