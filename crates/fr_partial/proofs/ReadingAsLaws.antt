@@ -1,5 +1,5 @@
 -- The value that is seen at a place: by what is seen of the place and its children, that it fits the place's shape, and its tokens.
-use Rattle.std.proofs.Common.{◌≡◌, ℕ, zero, suc, ◌+◌, arith, Bool, true, false, List, [], ◌∷◌, length, map, Option, Some, None, option_map, if◌then◌else◌, refl, sym, ◌∙◌, ap, subst, append-nil}
+use Rattle.std.proofs.Common.{◌≡◌, ℕ, zero, suc, ◌+◌, arith, Bool, true, false, List, [], ◌∷◌, length, map, Option, Some, None, option_map, if◌then◌else◌, refl, sym, ◌∙◌, ap, subst, append-nil, eqb-true}
 use Rattle.std.proofs.lemmas.List.{ext_get_or, length-map}
 use Rattle.std.specs.Option.{option_and_then}
 use Rattle.fr_partial.specs.Common.{Body, Cell, ContentKind, IsFullAs, IsInOrder, Room, RoseBy, State, Suits, Table, Tracker, Tree, Trees, Val, as_content, as_elements, as_entries, as_fields, as_items, begun, begun_body, branch, child_as, count_trees, cursor_tree, def_of, entered, entered_body, fits, hole, is_around, no_trees, no_vals, occurs, own_tree, tokens, whole, whole_body}
@@ -11,6 +11,8 @@ use Rattle.fr_shape.specs.Tokens.{times, vals_tokens}
 use Rattle.fr_shape.specs.Val.{Vals, first}
 use Rattle.fr_shape.specs.View.{vals_of, vals_view, view}
 use Rattle.fr_shape.specs.declared.value.Value.{Value}
+use Rattle.fr_facet.specs.Facets.{IsRefusedIf}
+use Rattle.fr_facet.specs.declared.facet.FacetFault.{FacetFault}
 use Rattle.fr_model.specs.Complete.{made, value_as}
 use Rattle.fr_model.specs.Places.{vals_nth}
 use Rattle.fr_model.specs.Tree.{cursor_shape}
@@ -19,7 +21,7 @@ use Rattle.fr_model.proofs.Structs.{ChildrenFit, SuitFrom, sound_as, taken_as, v
 use Rattle.fr_model.proofs.Templates.{nil_is}
 use Rattle.fr_refusals.specs.Looks.{LooksLike}
 use Rattle.fr_partial.specs.PlaceViews.{Initialized, has_parts, initialized, seen_begun, whole_values}
-use Rattle.fr_partial.specs.ReadAs.{copyable, tokenless, value_seen}
+use Rattle.fr_partial.specs.ReadAs.{copyable, is_found, tokenless, value_seen}
 use Rattle.fr_partial.proofs.KeptLaws.{one_child}
 
 -- By its looks.
@@ -287,3 +289,15 @@ module _ (state : State) (v : Val) (copied : Some v ≡ copyable (cursor_tree st
   pub copy_released : (before after : List ℕ) → RoseBy (occurs v) before after → after ≡ before
   copy_released before after rose =
       ext_get_or 0 after before rose.same_length (λ t _. omega (arith, rose.each t, copy_holds t))
+
+-- Its element is read.
+
+pub own_is : (own : Option ℕ) (s : ℕ) → is_found own s ≡ true → own ≡ Some s
+own_is (Some n) s e = ap Some (eqb-true n s e)
+own_is None s e = cc
+
+-- what fits is taken, and so doesn't mismatch
+pub never_mismatched : (fit is_element : Bool) (fault : FacetFault) → fit ≡ true → fit ≡ is_element → fault ≡ FacetFault.Mismatch
+    → IsRefusedIf is_element fault → ⊥
+never_mismatched fit is_element fault fits_so same is refused =
+    let none : is_element ≡ false = subst (IsRefusedIf is_element) is refused in cc

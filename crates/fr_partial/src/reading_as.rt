@@ -11,6 +11,7 @@ ghost use Rattle.fr_partial.specs.PlaceViews.{has_parts};
 ghost use Rattle.fr_partial.specs.ReadAs.{copyable, is_found, readable, tokenless};
 ghost use Rattle.fr_shape.specs.Lists.{is_nil};
 ghost use Rattle.fr_shape.specs.Tokens.{vals_tokens};
+ghost use Rattle.fr_shape.specs.Val.{first, no_vals};
 ghost use Rattle.fr_shape.specs.View.{vals_of, vals_view, view};
 
 use crate::tokenless::is_tokenless;
@@ -65,7 +66,7 @@ fn copies_of(alloc: Global, seen: &PlaceView) -> Result<Option<Items<Value>>, Ou
 /// The only one of these, in a box.
 fn boxed_one(alloc: Global, values: Items<Value>) -> Result<Box<Value>, OutOfMemory>
     requires { length values ≡ 1 }
-    ensures { IfOk result (λ one. map view values ≡ view one.value ∷ []) }
+    ensures { IfOk result (λ one. vals_view values ≡ first (view one.value) no_vals) }
 {
     match values.into_vec().pop() {
         Some(value) => Ok(Box::new(alloc, value)?),
