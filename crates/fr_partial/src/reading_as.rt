@@ -75,11 +75,7 @@ fn boxed_one(alloc: Global, values: Items<Value>) -> Result<Box<Value>, OutOfMem
 }
 
 /// What the values of the children of a place that is begun so make. No token stands in them.
-fn made_of(
-    alloc: Global,
-    tracker: &Tracker,
-    values: Items<Value>,
-) -> Result<Value, OutOfMemory>
+fn made_of(alloc: Global, tracker: &Tracker, values: Items<Value>) -> Result<Value, OutOfMemory>
     requires parts { has_parts (as_tracker tracker.now) ≡ true }
     requires one { is_around (as_tracker tracker.now) ≡ true → length values ≡ 1 }
     ensures { IfOk result (λ v. view v ≡ value_as (as_tracker tracker.now) (vals_view values)) }
