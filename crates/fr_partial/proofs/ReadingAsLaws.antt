@@ -1,5 +1,5 @@
 -- The value that is seen at a place: by what is seen of the place and its children, that it fits the place's shape, and its tokens.
-use Rattle.std.proofs.Common.{◌≡◌, ℕ, zero, suc, ◌+◌, arith, Bool, true, false, List, [], ◌∷◌, length, map, Option, Some, None, option_map, if◌then◌else◌, refl, sym, ◌∙◌, ap, subst, append-nil, eqb-true}
+use Rattle.std.proofs.Common.{◌≡◌, ℕ, suc, arith, Bool, true, false, List, [], ◌∷◌, length, map, Option, Some, None, option_map, if◌then◌else◌, refl, sym, ◌∙◌, ap, subst, append-nil, eqb-true}
 use Rattle.std.proofs.lemmas.List.{ext_get_or, length-map}
 use Rattle.std.specs.Option.{option_and_then}
 use Rattle.fr_partial.specs.Common.{Body, Cell, ContentKind, IsFullAs, IsInOrder, Room, RoseBy, State, Suits, Table, Tracker, Tree, Trees, Val, as_content, as_elements, as_entries, as_fields, as_items, begun, begun_body, branch, child_as, count_trees, cursor_tree, def_of, entered, entered_body, fits, hole, is_around, no_trees, no_vals, occurs, own_tree, tokens, whole, whole_body}
