@@ -115,9 +115,9 @@ impl<'t> Work<'t> {
 }
 
 impl<'t, H: Hooks> Partial<'t, H> {
-    /// A copy of the value of the place at which it works, as an element of the type, whose first
-    /// shape in the table the place has to be of. There is none where `initialized_value` shows
-    /// none, and where a token stands in the value, for that would then be held twice.
+    /// A copy of what `initialized_value` shows, as an element of the type. A value in which a token
+    /// stands isn't copied, for the token would then be released twice. Beside memory for the copy
+    /// it takes a look through the value, and those of `find` through the table.
     pub fn read_as<T: Facet>(&self, ledger: &mut Ledger) -> Result<Option<T>, OutOfMemory>
         ensures read { IfOk result (λ read. option_map T.shown read
             ≡ readable T.is_own self.now.shapes (here self.now) (cursor_tree self.now.state)) }
