@@ -2,7 +2,7 @@
 use Rattle.std.proofs.Common.{◌≡◌, ℕ, suc, arith, Bool, true, false, List, [], ◌∷◌, length, map, Option, Some, None, option_map, if◌then◌else◌, refl, sym, ◌∙◌, ap, subst, append-nil, eqb-true}
 use Rattle.std.proofs.lemmas.List.{ext_get_or, length-map}
 use Rattle.std.specs.Option.{option_and_then}
-use Rattle.fr_partial.specs.Common.{Body, Cell, ContentKind, IsFullAs, IsInOrder, Room, RoseBy, State, Suits, Table, Tracker, Tree, Trees, Val, as_content, as_elements, as_entries, as_fields, as_items, begun, begun_body, branch, child_as, count_trees, cursor_tree, def_of, entered, entered_body, fits, hole, is_around, no_trees, no_vals, occurs, own_tree, tokens, whole, whole_body}
+use Rattle.fr_partial.specs.Common.{Body, Cell, ContentKind, IsFullAs, IsInOrder, Room, RoseBy, State, Suits, Table, Tracker, Tree, Trees, Val, as_content, as_elements, as_entries, as_fields, as_items, begun, begun_body, branch, child_as, count_trees, cursor_tree, def_of, entered, fits, hole, is_around, no_trees, no_vals, occurs, own_tree, tokens, whole}
 use Rattle.fr_frame.specs.Bodies.{trees_of}
 use Rattle.fr_shape.specs.Fits.{count_vals}
 use Rattle.fr_shape.specs.Lists.{is_nil}
@@ -26,12 +26,6 @@ use Rattle.fr_partial.proofs.KeptLaws.{one_child}
 
 -- By its looks.
 
-looks_whole : (tree : Tree) (v : Val) → LooksLike (whole v) tree → tree ≡ whole v
-looks_whole (whole u) v alike = let same : v ≡ u = cc in ap whole (sym same)
-looks_whole hole v alike = cc
-looks_whole entered v alike = cc
-looks_whole (begun tracker ts) v alike = cc
-
 -- the place is begun so
 pub record IsBegunSo (tracker : Tracker) (tree : Tree) : Type 0 where
   pub children : Trees
@@ -44,27 +38,7 @@ looks_begun hole tracker ts alike = cc
 looks_begun entered tracker ts alike = cc
 looks_begun (whole v) tracker ts alike = cc
 
-looks_entered : (s : ℕ) (tree : Tree) (seen : Initialized) → LooksLike entered tree → Some seen ≡ initialized s tree → ⊥
-looks_entered s entered seen alike e = cc
-looks_entered s hole seen alike e = cc
-looks_entered s (whole v) seen alike e = cc
-looks_entered s (begun tracker ts) seen alike e = cc
-
 -- By what is seen of the place.
-
--- where nothing is seen there is no value
-value_unseen : (s : ℕ) (tree : Tree) → None ≡ initialized s tree → value_seen tree ≡ None
-value_unseen s hole e = refl
-value_unseen s entered e = refl
-value_unseen s (whole v) e = cc
-value_unseen s (begun tracker ts) e = go (has_parts tracker) (whole_values ts) e
-  where
-    go : (parts : Bool) (values : Option (List Val))
-        → None ≡ (if parts then option_map (seen_begun s tracker) values else None)
-        → (if parts then made tracker (option_map vals_of values) else None) ≡ None
-    go true (Some values) e = cc
-    go true None e = refl
-    go false values e = refl
 
 -- a begun place has parts, whose values are seen
 pub record HasSeen (tracker : Tracker) (ts : Trees) (values : List Val) : Type 0 where
@@ -201,17 +175,6 @@ copied_parts table s tracker ts values suits has =
 
 -- What is copied, by what was put at the place and what is seen of it.
 
-pub nothing_copied : (s : ℕ) (tree : Tree) → None ≡ initialized s tree → None ≡ copyable tree
-nothing_copied s tree e = sym (ap (option_and_then tokenless) (value_unseen s tree e))
-
-pub never_entered : (s : ℕ) (tree : Tree) (seen : Initialized) (body : Body) → body ≡ entered_body → LooksLike (own_tree body) tree
-    → Some seen ≡ initialized s tree → ⊥
-never_entered s tree seen body e alike sees = looks_entered s tree seen (subst (λ (b : Body). LooksLike (own_tree b) tree) e alike) sees
-
-pub whole_copied : (tree : Tree) (v : Val) (body : Body) → body ≡ whole_body v → LooksLike (own_tree body) tree → tokenless v ≡ copyable tree
-whole_copied tree v body e alike =
-    ap copyable (sym (looks_whole tree v (subst (λ (b : Body). LooksLike (own_tree b) tree) e alike)))
-
 -- the place is begun so, with children of these values
 pub record BegunHere (tracker : Tracker) (tree : Tree) (values : List Val) : Type 0 where
   pub children : Trees
@@ -226,30 +189,26 @@ begun_here s tree seen tracker cells body e alike sees =
     = looks_begun tree tracker (trees_of cells) (subst (λ (b : Body). LooksLike (own_tree b) tree) e alike) in
     record { children = so.children; is = so.is; has = has_seen s tracker so.children seen (sees ∙ ap (initialized s) so.is) }
 
-module _ (table : Table) (s : ℕ) (tree : Tree) (tracker : Tracker) (values : List Val) (at : BegunHere tracker tree values) where
-  pub parts_here : has_parts tracker ≡ true
-  parts_here = at.has.parts
+module _ (table : Table) (s : ℕ) (tree : Tree) (tracker : Tracker) (values : List Val) (at : BegunHere tracker tree values) (suits : Suits table s tree) where
+  suits_begun : Suits table s (begun tracker at.children)
+  suits_begun = subst (Suits table s) at.is suits
 
-  module _ (suits : Suits table s tree) where
-    suits_begun : Suits table s (begun tracker at.children)
-    suits_begun = subst (Suits table s) at.is suits
+  pub one_here : (copies : List Value) → map view copies ≡ values → is_around tracker ≡ true → length copies ≡ 1
+  one_here copies same around =
+      sym (length-map copies view) ∙ ap length same ∙ one_seen table s tracker at.children values suits_begun at.has around
 
-    pub one_here : (copies : List Value) → map view copies ≡ values → is_around tracker ≡ true → length copies ≡ 1
-    one_here copies same around =
-        sym (length-map copies view) ∙ ap length same ∙ one_seen table s tracker at.children values suits_begun at.has around
+  copied_so : copyable tree ≡ (if is_nil (vals_tokens (vals_of values)) then Some (value_as tracker (vals_of values)) else None)
+  copied_so = ap copyable at.is ∙ copied_parts table s tracker at.children values suits_begun at.has
 
-    copied_so : copyable tree ≡ (if is_nil (vals_tokens (vals_of values)) then Some (value_as tracker (vals_of values)) else None)
-    copied_so = ap copyable at.is ∙ copied_parts table s tracker at.children values suits_begun at.has
+  pub parts_copied : (copies : List Value) (v : Val) → map view copies ≡ values → true ≡ is_nil (vals_tokens (vals_of values))
+      → v ≡ value_as tracker (vals_view copies) → Some v ≡ copyable tree
+  parts_copied copies v same light made =
+      ap Some (made ∙ ap (λ (vs : List Val). value_as tracker (vals_of vs)) same)
+      ∙ sym (copied_so ∙ ap (λ (none : Bool). if none then Some (value_as tracker (vals_of values)) else None) (sym light))
 
-    pub parts_copied : (copies : List Value) (v : Val) → map view copies ≡ values → true ≡ is_nil (vals_tokens (vals_of values))
-        → v ≡ value_as tracker (vals_view copies) → Some v ≡ copyable tree
-    parts_copied copies v same light made =
-        ap Some (made ∙ ap (λ (vs : List Val). value_as tracker (vals_of vs)) same)
-        ∙ sym (copied_so ∙ ap (λ (none : Bool). if none then Some (value_as tracker (vals_of values)) else None) (sym light))
-
-    pub parts_held : false ≡ is_nil (vals_tokens (vals_of values)) → None ≡ copyable tree
-    parts_held held =
-        sym (copied_so ∙ ap (λ (none : Bool). if none then Some (value_as tracker (vals_of values)) else None) (sym held))
+  pub parts_held : false ≡ is_nil (vals_tokens (vals_of values)) → None ≡ copyable tree
+  parts_held held =
+      sym (copied_so ∙ ap (λ (none : Bool). if none then Some (value_as tracker (vals_of values)) else None) (sym held))
 
 -- A copy is there.
 
