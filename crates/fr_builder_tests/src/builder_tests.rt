@@ -15,6 +15,7 @@ mod lists;
 mod loader;
 mod own_hooks;
 mod paths;
+mod read_as;
 mod readings;
 mod records;
 mod servers;

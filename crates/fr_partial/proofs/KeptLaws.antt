@@ -79,7 +79,7 @@ one_content (Def.Pointer pointer) ContentKind.Pointer n full = go pointer.pointe
 one_content _ kind n full = absurd full
 
 -- a place with a content has that alone
-one_child : (tracker : Tracker) → is_around tracker ≡ true → (def : Def) (n : ℕ) → IsFullAs def tracker n → n ≡ 1
+pub one_child : (tracker : Tracker) → is_around tracker ≡ true → (def : Def) (n : ℕ) → IsFullAs def tracker n → n ≡ 1
 one_child (as_content kind) h def n full = one_content def kind n full
 one_child _ h def n full = absurd (cc)
 

@@ -27,7 +27,9 @@ pub mod SamePlanLaws
 pub mod ToldLaws
 pub mod ViewLaws
 pub mod FoundLaws
+pub mod CopyLaws
 pub mod ReadLaws
+pub mod ReadingAsLaws
 pub mod SeveralLaws
 pub mod SpotLaws
 pub mod RangeLaws

@@ -13,6 +13,7 @@ pub mod Starting
 pub mod PlaceTold
 pub mod PlaceViews
 pub mod PlanParts
+pub mod ReadAs
 pub mod Readings
 pub mod Given
 pub mod Several

@@ -13,7 +13,7 @@ use fr_shape::Hooks;
 
 impl<'t> Work<'t> {
     /// The look at the place, where it has a value so far.
-    fn initialized_here(&self) -> Option<PlaceView<'_>>
+    pub fn initialized_here(&self) -> Option<PlaceView<'_>>
         ensures view { result ≡ initialized (shape_at self.now) (tree_at_site self.now) }
     {
         let shape = self.place().1;
