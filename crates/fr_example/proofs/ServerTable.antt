@@ -1,5 +1,5 @@
 -- The table of a server is what a builder asks of one.
-use Rattle.std.proofs.Common.{◌≡◌, ◌<◌, ◌^◌, ℕ, zero, suc, Bool, true, List, [], ◌∷◌, Some, None, length, slice_get, codes, zip, IsSome, refl, sym, ap, ◌∙◌, subst, arith}
+use Rattle.std.proofs.Common.{◌≡◌, ◌<◌, ◌^◌, ℕ, zero, suc, Bool, true, List, [], ◌∷◌, Some, None, slice_get, codes, zip, IsSome, refl, sym, ap, ◌∙◌, subst, arith}
 use Rattle.fr_shape.specs.declared.shape.VariantDef.{VariantDef}
 use Rattle.fr_shape.specs.Checked.{IsChecked, EachKeeps, ids_in_range, name_is_new, parts_are_sized, variants_apart, validators_suit, templates_fit, conversion_suits, hooks_in_range, option_preset_is_none}
 use Rattle.fr_shape.specs.Numbered.{IsNumbered, field_count}

@@ -1,6 +1,3 @@
-use Rattle.std.proofs.Common.{◌≡◌, ap, ◌∙◌}
-use Rattle.fr_facet.specs.Facets.{first_own}
-use Rattle.fr_facet.specs.Structs.{Names, is_struct_of}
 use Rattle.fr_example.proofs.server.ServerFacet.find.Goals as goal
 
 pub returns : goal.returns
