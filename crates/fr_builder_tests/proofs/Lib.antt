@@ -2,4 +2,5 @@ pub mod ArrayRows
 pub mod DefaultRows
 pub mod LastChild
 pub mod OneTokenItems
+pub mod OwnPlans
 pub mod TokenlessSlots
