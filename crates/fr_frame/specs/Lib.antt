@@ -7,7 +7,6 @@ pub mod Common
 pub mod Completing
 pub mod Converting
 pub mod Defaults
-pub mod FieldDefaults
 pub mod Filling
 pub mod Growing
 pub mod Handing

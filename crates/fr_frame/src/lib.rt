@@ -13,7 +13,6 @@ mod converting;
 mod defaulting;
 mod draining;
 mod entering;
-mod field_defaults;
 mod field_plans;
 mod filling;
 mod growing;
@@ -32,7 +31,6 @@ mod validating;
 pub use admitting::{
     MOST_ELEMENTS, Opening, field_of, named_refusal, nth_opening, opening_at, selected,
 };
-pub use field_defaults::default_in;
 pub use fr_values::{Children, Keys};
 pub use partial_values::is_begun;
 pub use places::{

@@ -5,7 +5,7 @@ use Rattle.fr_partial.specs.Common.{Call, Change, ComesTo, Def, Describes, Field
 use Rattle.fr_shape.specs.declared.shape.DefaultSource.{DefaultSource}
 use Rattle.fr_shape.specs.Look.{field_of_variant}
 use Rattle.fr_model.specs.Step.{default_by_mark, default_or, puts_child, puts_child_default, set_nth_field_to_default}
-use Rattle.fr_frame.specs.FieldDefaults.{default_in, default_of}
+use Rattle.fr_refusals.specs.FieldDefaults.{default_in, default_of}
 use Rattle.fr_model.proofs.Templates.{field_default_template}
 use Rattle.fr_partial.proofs.BeginLaws.{describes_here}
 use Rattle.fr_partial.proofs.DecidingLaws.{remains}

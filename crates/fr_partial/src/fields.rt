@@ -5,8 +5,9 @@ ghost use Rattle.fr_partial.specs.Common.{Call, Decides, IsCall, Room, holds};
 use crate::set::copy_template;
 use crate::work::Work;
 use crate::{Partial, ReflectError};
-use fr_frame::{default_in, named_refusal, nth_opening, opening_at, selected};
+use fr_frame::{named_refusal, nth_opening, opening_at, selected};
 use fr_moves::{Change, Move, child_way};
+use fr_refusals::default_in;
 use fr_shape::{Hooks, Ledger, OutOfMemory, ReflectErrorKind};
 
 impl<'t> Work<'t> {

@@ -1,6 +1,7 @@
 pub mod Beginnings
 pub mod Choosing
 pub mod DynamicBeginnings
+pub mod FieldDefaults
 pub mod KeyRefusals
 pub mod Looks
 pub mod Modes

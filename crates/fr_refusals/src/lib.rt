@@ -8,6 +8,7 @@ mod choosing;
 mod contents;
 mod conversions;
 mod dynamic_places;
+mod field_defaults;
 mod lists;
 mod maps;
 mod mode;
@@ -26,6 +27,7 @@ pub use conversions::{
     source_tracker,
 };
 pub use dynamic_places::{DynamicParts, beginning_as, is_dynamic, tracker_with};
+pub use field_defaults::default_in;
 pub use lists::{init_list_refusal, item_opening};
 pub use maps::{init_map_refusal, key_opening, value_opening};
 pub use mode::Mode;

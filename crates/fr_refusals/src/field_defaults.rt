@@ -1,11 +1,11 @@
 //! What a field is set to by its default.
-ghost use Rattle.std.specs.Prelude.{Err, ◌≡◌};
-ghost use Rattle.fr_frame.specs.Common.{IfErr, IfOk, Ok, body_of, own_tree};
-ghost use Rattle.fr_frame.specs.FieldDefaults.{default_in};
+ghost use Rattle.std.specs.Prelude.{Err, IfErr, IfOk, Ok, ◌≡◌};
+ghost use Rattle.fr_frame.specs.Bodies.{own_tree};
+ghost use Rattle.fr_frame.specs.Heap.{body_of};
 ghost use Rattle.fr_model.specs.Step.{field_default};
+ghost use Rattle.fr_refusals.specs.FieldDefaults.{default_in};
 
-use crate::admitting::{field_of, named_refusal, selected};
-use crate::places::PartialValue;
+use fr_frame::{PartialValue, field_of, named_refusal, selected};
 use fr_shape::{DefaultSource, Field, Operation, ReflectErrorKind, ShapeId, ShapeTable, Template};
 
 /// What a field is set to by its default, or why it can't be.
