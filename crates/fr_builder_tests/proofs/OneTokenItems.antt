@@ -7,7 +7,7 @@ use Rattle.fr_shape.specs.Tokens.{occurs, tokens, times}
 use Rattle.fr_shape.specs.TokenLaws.{Room_conserved, Room_same, occurs_times, times_append}
 use Rattle.fr_shape.specs.Val.{Val}
 use Rattle.fr_partial.specs.Builder.{Builder, holds, left}
-use Rattle.fr_partial.specs.declared.reflect_error.ReflectError.{ReflectError}
+use Rattle.fr_work.specs.declared.reflect_error.ReflectError.{ReflectError}
 
 -- a call that brings nothing leaves nothing more than was held, and what is left has its room
 module _ (held brought : ℕ → ℕ) (before : List ℕ) (left : ℕ → ℕ) (after : List ℕ) (kept : Conserved (λ t. held t + brought t) before left after) (none : (t : ℕ) → brought t ≡ 0) where

@@ -4,7 +4,7 @@ use Rattle.fr_shape.specs.Look.{Table}
 use Rattle.fr_shape.specs.declared.shape.Def.{Def}
 use Rattle.fr_facet.specs.FitLaws.{first_is_own}
 use Rattle.fr_plan.specs.TypePlan.{Plan, IsPlanOf}
-use Rattle.fr_partial.specs.Starting.{IsPlanFrom}
+use Rattle.fr_work.specs.Starting.{IsPlanFrom}
 use Rattle.fr_partial.specs.Typed.{HasShape, own_shape}
 
 -- what is there is what is told of it

@@ -8,7 +8,7 @@ use Rattle.fr_shape.specs.Released.{RoseBy}
 use Rattle.fr_shape.specs.Val.{product, no_vals}
 use Rattle.fr_model.specs.Commands.{Call}
 use Rattle.fr_model.specs.Tree.{State, entered, whole, initial, tree_occurs}
-use Rattle.fr_partial.specs.declared.reflect_error.ReflectError.{ReflectError}
+use Rattle.fr_work.specs.declared.reflect_error.ReflectError.{ReflectError}
 use Rattle.fr_partial.specs.Builder.{Builder, IsCall, holds, left}
 use Rattle.fr_example.specs.declared.record.Pair.{Pair}
 use Rattle.fr_example.specs.Forms.{parses_field, FailsParsing, FailsFilling}

@@ -10,9 +10,9 @@ use Rattle.fr_model.specs.Commands.{Call}
 use Rattle.fr_model.specs.Run.{Refusal, alloc_refusal, and_then, numbered, run_from, unless_alloc, full_run}
 use Rattle.fr_model.specs.Step.{step, build}
 use Rattle.fr_model.specs.Tree.{State, initial}
-use Rattle.fr_partial.specs.declared.reflect_error.ReflectError.{ReflectError}
+use Rattle.fr_work.specs.declared.reflect_error.ReflectError.{ReflectError}
 use Rattle.fr_partial.specs.Builder.{Builder, IsBuilt, TellsPlaceBefore}
-use Rattle.fr_partial.specs.BuiltValue.{BuiltValue}
+use Rattle.fr_work.specs.BuiltValue.{BuiltValue}
 use Rattle.fr_example.specs.declared.record.Pair.{Pair}
 use Rattle.fr_example.specs.Forms.{FailsFilling, fills_field, form_script}
 use Rattle.fr_example.specs.Outcomes.{IsOutcome}

@@ -9,7 +9,7 @@ use Rattle.fr_model.specs.Step.{step}
 use Rattle.fr_model.specs.Sequences.{AllLeadTo}
 use Rattle.fr_model.specs.Tree.{State}
 use Rattle.fr_partial.specs.Builder.{Builder, IsCall}
-use Rattle.fr_partial.specs.declared.reflect_error.ReflectError.{ReflectError}
+use Rattle.fr_work.specs.declared.reflect_error.ReflectError.{ReflectError}
 use Rattle.fr_example.specs.Loading.{calls_of_pair}
 use Rattle.fr_partial.specs.Several.{StopsAtOne, AreSteps}
 use Rattle.fr_example.proofs.LoadingRuns.{lead_on, leads}

@@ -14,9 +14,9 @@ use Rattle.fr_model.specs.Step.{step, build}
 use Rattle.fr_model.specs.Sequences.{AllLeadTo}
 use Rattle.fr_model.specs.Tree.{State, initial}
 use Rattle.fr_partial.specs.Builder.{Builder, IsBuild, IsCall}
-use Rattle.fr_partial.specs.BuiltValue.{BuiltValue}
-use Rattle.fr_partial.specs.Starting.{RefusedWith}
-use Rattle.fr_partial.specs.declared.reflect_error.ReflectError.{ReflectError}
+use Rattle.fr_work.specs.BuiltValue.{BuiltValue}
+use Rattle.fr_work.specs.Starting.{RefusedWith}
+use Rattle.fr_work.specs.declared.reflect_error.ReflectError.{ReflectError}
 use Rattle.fr_example.specs.Meant.{kind_of}
 use Rattle.fr_example.specs.Loading.{calls_of_line, calls_of_lines, script_of, IsOfLine, IsAfterLines}
 use Rattle.fr_partial.specs.Several.{StopsAtOne}

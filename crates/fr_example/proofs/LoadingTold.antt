@@ -14,7 +14,7 @@ use Rattle.fr_model.specs.Step.{begin_deferred}
 use Rattle.fr_model.specs.Sequences.{AllLeadTo}
 use Rattle.fr_model.specs.Tree.{State, initial, fresh, tree_occurs, whole, entered, deferred, one_more_call}
 use Rattle.fr_partial.specs.Builder.{Builder}
-use Rattle.fr_partial.specs.BuiltValue.{BuiltValue}
+use Rattle.fr_work.specs.BuiltValue.{BuiltValue}
 use Rattle.fr_example.specs.declared.loader.LoadError.{LoadError}
 use Rattle.fr_example.specs.Loading.{says_nothing, has_equals_sign, is_equals_sign, names_of, value_of, calls_of_pair, calls_of_line, calls_of_lines, IsRunTold, IsLoaded}
 use Rattle.fr_partial.specs.Several.{AreSteps}

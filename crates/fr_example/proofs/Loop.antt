@@ -12,8 +12,8 @@ use Rattle.fr_shape.specs.Val.{Val}
 use Rattle.fr_model.specs.Step.{unless_refused, build}
 use Rattle.fr_model.specs.Tree.{State, one_more_call, most_calls}
 use Rattle.fr_partial.specs.Builder.{Builder, IsStepTo, IsBuilt, meaning_of_build}
-use Rattle.fr_partial.specs.BuiltValue.{BuiltValue}
-use Rattle.fr_partial.specs.declared.reflect_error.ReflectError.{ReflectError}
+use Rattle.fr_work.specs.BuiltValue.{BuiltValue}
+use Rattle.fr_work.specs.declared.reflect_error.ReflectError.{ReflectError}
 use Rattle.fr_model.specs.Run.{alloc_refusal}
 use Rattle.fr_shape.specs.declared.error.AllocError.{AllocError}
 use Rattle.fr_example.specs.declared.record.Pair.{Pair}

@@ -22,9 +22,9 @@ use Rattle.fr_model.specs.Run.{alloc_refusal}
 use Rattle.fr_model.specs.Step.{unless_refused, enters_named, puts, step}
 use Rattle.fr_model.specs.Tree.{State, one_more_call}
 use Rattle.fr_partial.specs.Builder.{Builder, IsCall, IsStepTo, TellsPlaceBefore}
-use Rattle.fr_partial.specs.BuiltValue.{BuiltValue}
-use Rattle.fr_partial.specs.Starting.{RefusedWith}
-use Rattle.fr_partial.specs.declared.reflect_error.ReflectError.{ReflectError}
+use Rattle.fr_work.specs.BuiltValue.{BuiltValue}
+use Rattle.fr_work.specs.Starting.{RefusedWith}
+use Rattle.fr_work.specs.declared.reflect_error.ReflectError.{ReflectError}
 use Rattle.fr_example.specs.declared.record.Pair.{Pair}
 use Rattle.fr_example.specs.Meant.{is_struct, kind_of, takes_text, text_at, refusal_of, first_refusal, unplanned, place_found, place_of, refused_here_or, place_refused, record_place, IsPlaceOfAny, TellsPlace}
 use Rattle.fr_example.specs.Putting.{then_call, enters_field, sets_text, puts_pair, FailsAfter, FailsPutting}

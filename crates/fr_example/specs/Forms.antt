@@ -12,8 +12,8 @@ use Rattle.fr_shape.specs.Val.{Val}
 use Rattle.fr_model.specs.Commands.{Call}
 use Rattle.fr_model.specs.Run.{Refusal}
 use Rattle.fr_model.specs.Tree.{State, initial}
-use Rattle.fr_partial.specs.declared.reflect_error.ReflectError.{ReflectError}
-use Rattle.fr_partial.specs.BuiltValue.{BuiltValue}
+use Rattle.fr_work.specs.declared.reflect_error.ReflectError.{ReflectError}
+use Rattle.fr_work.specs.BuiltValue.{BuiltValue}
 use Rattle.fr_example.specs.declared.form.BadField.{BadField}
 use Rattle.fr_example.specs.declared.form.FormError.{FormError}
 use Rattle.fr_example.specs.declared.record.Pair.{Pair}

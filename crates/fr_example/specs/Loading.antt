@@ -7,7 +7,7 @@ use Rattle.fr_shape.specs.declared.error.ReflectErrorKind.{ReflectErrorKind}
 use Rattle.fr_shape.specs.Val.{Val}
 use Rattle.fr_model.specs.Commands.{Call}
 use Rattle.fr_model.specs.Run.{Refusal}
-use Rattle.fr_partial.specs.BuiltValue.{BuiltValue}
+use Rattle.fr_work.specs.BuiltValue.{BuiltValue}
 use Rattle.fr_example.specs.declared.loader.LoadError.{LoadError}
 use Rattle.fr_example.specs.Meant.{kind_of}
 use Rattle.fr_example.specs.Outcomes.{IsOutcome}

@@ -19,8 +19,8 @@ use Rattle.fr_model.specs.Complete.{missing_field, failing_field_in}
 use Rattle.fr_model.specs.Places.{strict_column, child_count, child_shape, fill_at}
 use Rattle.fr_model.specs.Run.{alloc_refusal}
 use Rattle.fr_model.specs.Step.{violates}
-use Rattle.fr_partial.specs.declared.reflect_error.ReflectError.{ReflectError}
-use Rattle.fr_partial.specs.BuiltValue.{BuiltValue}
+use Rattle.fr_work.specs.declared.reflect_error.ReflectError.{ReflectError}
+use Rattle.fr_work.specs.BuiltValue.{BuiltValue}
 use Rattle.fr_example.specs.declared.record.Pair.{Pair}
 
 abbrev pub is_struct : Def → Bool

@@ -3,8 +3,8 @@ use Rattle.std.specs.Prelude.{◌≡◌, ◌⊎◌, Result, Ok, Err}
 use Rattle.fr_shape.specs.declared.error.ReflectErrorKind.{ReflectErrorKind}
 use Rattle.fr_shape.specs.Val.{Val}
 use Rattle.fr_model.specs.Run.{Refusal}
-use Rattle.fr_partial.specs.declared.reflect_error.ReflectError.{ReflectError}
-use Rattle.fr_partial.specs.BuiltValue.{BuiltValue}
+use Rattle.fr_work.specs.declared.reflect_error.ReflectError.{ReflectError}
+use Rattle.fr_work.specs.BuiltValue.{BuiltValue}
 
 -- the error is that of this refusal: its kind, and the path of the place at which the builder worked before the call that is refused
 abbrev pub IsRefusal : Refusal → ReflectError → Type 0

@@ -8,7 +8,7 @@ use Rattle.fr_model.specs.Commands.{Call}
 use Rattle.fr_model.specs.Paths.{path_of}
 use Rattle.fr_model.specs.Step.{step}
 use Rattle.fr_model.specs.Tree.{State}
-use Rattle.fr_partial.specs.declared.reflect_error.ReflectError.{ReflectError}
+use Rattle.fr_work.specs.declared.reflect_error.ReflectError.{ReflectError}
 use Rattle.fr_example.specs.declared.record.Pair.{Pair}
 
 -- a call after others, where none of those was refused

@@ -8,7 +8,7 @@ ghost use Rattle.fr_shape.specs.Numbered.{IsNumbered};
 ghost use Rattle.fr_plan.specs.TypePlan.{IsPlanOf};
 ghost use Rattle.fr_model.specs.Run.{alloc_refusal, full_run, run_from};
 ghost use Rattle.fr_partial.specs.Builder.{holds, IsStepTo};
-ghost use Rattle.fr_partial.specs.Starting.{IsPlanFrom};
+ghost use Rattle.fr_work.specs.Starting.{IsPlanFrom};
 ghost use Rattle.fr_example.specs.Forms.{bad_fields, fills_field, form_script, parses_field, FailsFilling, FailsParsing, FindsBad, IsNoPlan, IsOutcomeOfForm, NamesBad, TellsNoPlan};
 ghost use Rattle.fr_example.specs.Outcomes.{IsOutcome};
 

@@ -3,7 +3,7 @@ use Rattle.std.proofs.Common.{◌≡◌, ℕ, List, Result, Ok, Err, IfOk, OnErr
 use Rattle.fr_partial.specs.Common.{Builder, Call, Decides, IsMeant, Meanings, Move, ReflectErrorKind, RoseBy, Site, Room, Room_same}
 use Rattle.fr_model.specs.Scripts.{brings}
 use Rattle.fr_partial.specs.Builder.{site_of}
-use Rattle.fr_partial.specs.Deciding.{DecidesBy, WasDecided, carries}
+use Rattle.fr_work.specs.Deciding.{DecidesBy, WasDecided, carries}
 
 -- a call that brings nothing has nothing to release as it is decided
 pub nothing_spent : (call : Call) → ((t : ℕ) → brings call t ≡ 0) → (decided : Result Move ReflectErrorKind) (ledger : List ℕ)

@@ -20,9 +20,9 @@ use Rattle.fr_model.proofs.Basis.{suits_at}
 use Rattle.fr_model.proofs.Structs.{ChildrenFit, SuitFrom, sound_as, taken_as, value_fits}
 use Rattle.fr_model.proofs.Templates.{nil_is}
 use Rattle.fr_refusals.specs.Looks.{LooksLike}
-use Rattle.fr_partial.specs.PlaceViews.{Initialized, has_parts, initialized, seen_begun, whole_values}
+use Rattle.fr_work.specs.PlaceViews.{Initialized, has_parts, initialized, seen_begun, whole_values}
 use Rattle.fr_partial.specs.ReadAs.{copyable, is_found, tokenless, value_seen}
-use Rattle.fr_partial.proofs.KeptLaws.{one_child}
+use Rattle.fr_work.proofs.KeptLaws.{one_child}
 
 -- By its looks.
 

@@ -14,7 +14,7 @@ use Rattle.fr_model.specs.Sequences.{AllLeadTo, IsAdmittedThen, dropped_then, re
 use Rattle.fr_model.specs.Tree.{State, tree_occurs}
 use Rattle.fr_partial.specs.Builder.{Builder, IsCall, holds, left, meaning}
 use Rattle.fr_partial.specs.Several.{AreCalls, AreSteps, StopsAtOne, dropped_by_calls}
-use Rattle.fr_partial.specs.declared.reflect_error.ReflectError.{ReflectError}
+use Rattle.fr_work.specs.declared.reflect_error.ReflectError.{ReflectError}
 
 -- where it stopped, all was dropped that was held and brought
 all_dropped : (held : ℕ → ℕ) (old new : List ℕ) → Conserved held old (λ t. 0) new → RoseBy held old new

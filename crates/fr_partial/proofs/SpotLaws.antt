@@ -13,7 +13,7 @@ use Rattle.fr_model.specs.Scripts.{brings, brought}
 use Rattle.fr_partial.specs.Builder.{Builder, IsCall, holds}
 use Rattle.fr_partial.specs.Several.{AreCalls}
 use Rattle.fr_partial.specs.Spots.{begin_call, set_at}
-use Rattle.fr_partial.specs.declared.reflect_error.ReflectError.{ReflectError}
+use Rattle.fr_work.specs.declared.reflect_error.ReflectError.{ReflectError}
 use Rattle.fr_partial.specs.declared.shorthands.Spot.{Spot}
 use Rattle.fr_partial.proofs.SeveralLaws.{last, stopped, then, without_memory}
 

@@ -1,5 +1,5 @@
 -- What contracts see of a builder, and what its calls owe.
-use Rattle.std.specs.Prelude.{◌≡◌, ◌≢◌, ◌⊎◌, ℕ, ◌+◌, List, Result, Ok, Err, IsErr, IfErr, IfOk, true, false, refl}
+use Rattle.std.specs.Prelude.{◌≡◌, ◌≢◌, ◌⊎◌, ℕ, ◌+◌, List, Result, Ok, Err, IsErr, IfErr, IfOk, Bool, true, false, refl}
 use Rattle.std.specs.Coded.{Coded, code_by, coded×, coded_ℕ}
 use Rattle.fr_shape.specs.TableCode.{table_code}
 use Rattle.fr_shape.specs.Fits.{fits}
@@ -17,11 +17,13 @@ use Rattle.fr_model.specs.Scripts.{brings}
 use Rattle.fr_model.specs.Step.{step, build, violates}
 use Rattle.fr_model.specs.Tree.{State, cursor_shape, tree_occurs}
 use Rattle.fr_model.specs.StateCode.{state_code}
-use Rattle.fr_partial.specs.BuiltValue.{BuiltValue}
+use Rattle.fr_work.specs.Building.{left_built}
+use Rattle.fr_work.specs.BuiltValue.{BuiltValue}
 use Rattle.fr_moves.specs.CompletedPlaces.{completes_late, PassesValidators}
-use Rattle.fr_partial.specs.ParseHooks.{parses_by_hook}
+use Rattle.fr_work.specs.Making.{IsNotOutOfMemory}
+use Rattle.fr_work.specs.ParseHooks.{parses_by_hook}
 use Rattle.fr_moves.specs.Sites.{Site}
-use Rattle.fr_partial.specs.declared.reflect_error.ReflectError.{ReflectError}
+use Rattle.fr_work.specs.declared.reflect_error.ReflectError.{ReflectError}
 
 -- the table that its shapes come from, the hooks, the root's shape, and the state
 pub record Builder (H : Type 0) : Type 0 where
@@ -65,6 +67,11 @@ IsStepTo before meant (Err error) = (error.kind ≡ ReflectErrorKind.OutOfMemory
 abbrev pub IsStep : {H : Type 0} → Meanings → Builder H → Call → Result (Builder H) ReflectError → Type 0
 IsStep hooks before call result = IsStepTo before (meaning hooks before call) result
 
+-- the builder that a call answers beside a truth value
+abbrev pub builder_then : {H : Type 0} → Result (Builder H × Bool) ReflectError → Result (Builder H) ReflectError
+builder_then (Ok both) = Ok both.0
+builder_then (Err error) = Err error
+
 -- what `build` means, as the hooks mean: the value, or why it is refused
 abbrev pub meaning_of_build : {H : Type 0} → Meanings → Builder H → Result Val ReflectErrorKind
 meaning_of_build hooks builder = build hooks builder.shapes builder.root builder.state
@@ -79,10 +86,6 @@ abbrev pub TellsPlaceBefore : {H A : Type 0} → Builder H → Result A ReflectE
 TellsPlaceBefore before result = IfErr result (λ error. error.path ≡ path_of before.state)
 
 -- Memory
-
--- the call isn't out of memory
-abbrev pub IsNotOutOfMemory : {A : Type 0} → Result A ReflectError → Type 0
-IsNotOutOfMemory result = IfErr result (λ error. error.kind ≢ ReflectErrorKind.OutOfMemory)
 
 -- a call that means a refusal other than that a value fails a validator, or isn't converted, is refused so, and not out of memory
 abbrev pub RefusesBeforeMemory : {H : Type 0} → Meanings → Builder H → Call → Result (Builder H) ReflectError → Type 0
@@ -116,11 +119,6 @@ dropped hooks before call (Err error) t = dropped_refused hooks before call erro
 -- the ledger's count of each token rises by exactly what the call removes of it
 abbrev pub RisesByRemoved : {H : Type 0} → Meanings → Builder H → Call → Result (Builder H) ReflectError → (old new : List ℕ) → Type 0
 RisesByRemoved hooks before call result old new = RoseBy (dropped hooks before call result) old new
-
--- how often a token stands in what `build` returns
-abbrev pub left_built : Result BuiltValue ReflectError → ℕ → ℕ
-left_built (Ok built) t = occurs built.value t
-left_built (Err error) t = 0
 
 -- how often a refused `build` drops a token: as often as it removes it; out of memory, as often as the builder held it
 abbrev pub dropped_unbuilt : {H : Type 0} → Meanings → Builder H → ReflectErrorKind → ℕ → ℕ

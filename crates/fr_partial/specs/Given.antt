@@ -10,7 +10,7 @@ use Rattle.fr_shape.specs.declared.error.ReflectErrorKind.{ReflectErrorKind}
 use Rattle.fr_model.specs.Commands.{Call}
 use Rattle.fr_model.specs.Paths.{path_of}
 use Rattle.fr_partial.specs.Builder.{Builder, IsCall, here, holds}
-use Rattle.fr_partial.specs.declared.reflect_error.ReflectError.{ReflectError}
+use Rattle.fr_work.specs.declared.reflect_error.ReflectError.{ReflectError}
 
 -- a value, if one is returned, fits the shape that it names
 abbrev pub FitsIfGiven : Table → Result ShapedValue ReflectErrorKind → Type 0

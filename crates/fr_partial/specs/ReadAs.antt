@@ -10,7 +10,7 @@ use Rattle.fr_shape.specs.declared.shape.Def.{Def}
 use Rattle.fr_facet.specs.Facets.{first_own}
 use Rattle.fr_model.specs.Complete.{made}
 use Rattle.fr_model.specs.Tree.{Tree, hole, entered, whole, begun}
-use Rattle.fr_partial.specs.PlaceViews.{has_parts, whole_values}
+use Rattle.fr_work.specs.PlaceViews.{has_parts, whole_values}
 
 -- The value that is seen where this stands: of a whole place its own; of one that is begun as a struct, an array, a variant, an option,
 -- either side of a result or a pointer, and whose children are all whole, what these make.

@@ -10,7 +10,7 @@ use Rattle.fr_model.specs.Step.{step}
 use Rattle.fr_model.specs.Sequences.{AllLeadTo, removed_by_all}
 use Rattle.fr_model.specs.Tree.{State}
 use Rattle.fr_partial.specs.Builder.{Builder, holds, left}
-use Rattle.fr_partial.specs.declared.reflect_error.ReflectError.{ReflectError}
+use Rattle.fr_work.specs.declared.reflect_error.ReflectError.{ReflectError}
 
 -- One of the calls is refused, and those before it are admitted: the error has the kind that is meant and the path of the place before that
 -- call. Or there was no memory for that call, or for the value that it brings or a later one brings.

@@ -1,32 +1,9 @@
 //! `init_array`: an array whose elements aren't there yet.
 ghost use Rattle.std.specs.Prelude.{◌≡◌};
-ghost use Rattle.fr_partial.specs.Common.{Call, Decides, IsCall, IsNotOutOfMemory, NeedsNone, Room, cursor_tree, false, holds, is_begun, is_begun_conversion, true};
+ghost use Rattle.fr_partial.specs.Common.{Call, IsCall, IsNotOutOfMemory, Room, cursor_tree, false, holds, is_begun, is_begun_conversion, true};
 
-use crate::work::Work;
 use crate::{Partial, ReflectError};
-use fr_frame::{Opening, Tracker};
-use fr_moves::{Change, Move};
-use fr_refusals::array_opening;
-use fr_shape::{Hooks, Ledger, ReflectErrorKind};
-
-impl<'t> Work<'t> {
-    /// An array is begun.
-    fn init_array_move<'k>(&self) -> Result<Move<'k>, ReflectErrorKind>
-        ensures decides { Decides self.now Call.InitArray result }
-        ensures memory { is_begun (cursor_tree self.now.state) ≡ true
-            → is_begun_conversion (cursor_tree self.now.state) ≡ false
-            → NeedsNone (cursor_tree self.now.state) result }
-    {
-        let (table, shape, partial) = self.place();
-        match array_opening(table, shape, partial) {
-            Ok(count) => {
-                let tracker = Tracker::Elements;
-                Ok(Move::Stay(Change::Open(Opening { tracker, count })))
-            }
-            Err(operation) => Err(ReflectErrorKind::OperationFailed { shape, operation }),
-        }
-    }
-}
+use fr_shape::{Hooks, Ledger};
 
 impl<'t, H: Hooks> Partial<'t, H> {
     /// Begins an array whose elements aren't there yet. One that is begun stays as it is, but for a

@@ -1,42 +1,8 @@
 //! `select_nth_variant`, `select_variant_named` and `select_variant`: the variant of an enum.
-ghost use Rattle.fr_partial.specs.Common.{Call, Decides, IsCall, Room, holds};
+ghost use Rattle.fr_partial.specs.Common.{Call, IsCall, Room, holds};
 
-use crate::choosing::select;
-use crate::work::Work;
 use crate::{Partial, ReflectError};
-use fr_moves::Move;
-use fr_refusals::nth_variant;
-use fr_shape::{Hooks, Ledger, Operation, ReflectErrorKind};
-
-impl<'t> Work<'t> {
-    /// The variant of this number is selected.
-    fn select_nth_variant_move<'k>(&self, index: usize) -> Result<Move<'k>, ReflectErrorKind>
-        ensures { Decides self.now (Call.SelectNthVariant index) result }
-    {
-        self.law_sound();
-        let (table, shape, _) = self.place();
-        let found = nth_variant(table, shape, index);
-        select(table, shape, found, Operation::VariantIndexOutOfBounds)
-    }
-
-    /// The variant of this name is selected.
-    fn select_variant_named_move<'k>(&self, name: &str) -> Result<Move<'k>, ReflectErrorKind>
-        ensures { Decides self.now (Call.SelectVariantNamed name.now) result }
-    {
-        let (table, shape, _) = self.place();
-        let found = self.variant_named(shape, name);
-        select(table, shape, found, Operation::VariantNameUnknown)
-    }
-
-    /// The first variant that has this discriminant is selected.
-    fn select_variant_move<'k>(&self, discriminant: i64) -> Result<Move<'k>, ReflectErrorKind>
-        ensures { Decides self.now (Call.SelectVariant discriminant) result }
-    {
-        let (table, shape, _) = self.place();
-        let found = self.variant_told_by(shape, discriminant);
-        select(table, shape, found, Operation::DiscriminantUnknown)
-    }
-}
+use fr_shape::{Hooks, Ledger};
 
 impl<'t, H: Hooks> Partial<'t, H> {
     /// Begins the enum as its variant of this number, counted from 0. One that is begun as that

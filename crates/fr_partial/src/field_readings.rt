@@ -5,7 +5,7 @@ ghost use Rattle.std.specs.Prelude.{IsNone, false, ◌↔◌, ◌≡◌};
 ghost use Rattle.fr_model.specs.Tree.{cursor_field};
 ghost use Rattle.fr_partial.specs.Builder.{here};
 ghost use Rattle.fr_partial.specs.Common.{cursor_tree, def_of, path_of, selected};
-ghost use Rattle.fr_partial.specs.Readings.{ends_in_field, field_number, has_field_step, is_set_at, nearest_field};
+ghost use Rattle.fr_work.specs.Readings.{ends_in_field, field_number, has_field_step, is_set_at, nearest_field};
 
 use crate::Partial;
 use fr_shape::{Field, Hooks, ReflectErrorKind};

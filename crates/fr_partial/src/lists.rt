@@ -1,48 +1,10 @@
 //! `init_list`, `init_list_with_capacity` and `begin_list_item`: a list, a dynamic array or a slice
 //! behind a pointer, item by item.
 ghost use Rattle.std.specs.Prelude.{◌≡◌};
-ghost use Rattle.fr_partial.specs.Common.{Call, Decides, IsCall, IsNotOutOfMemory, NeedsNone, Room, cursor_tree, holds, is_begun, true};
+ghost use Rattle.fr_partial.specs.Common.{Call, IsCall, IsNotOutOfMemory, Room, cursor_tree, holds, is_begun, true};
 
-use crate::work::Work;
 use crate::{Partial, ReflectError};
-use fr_frame::{ItemsKind, Opening, Tracker};
-use fr_moves::{Change, Move, Way};
-use fr_refusals::{DynamicParts, init_list_refusal, is_dynamic, item_opening};
-use fr_shape::{Hooks, Ledger, ReflectErrorKind};
-
-impl<'t> Work<'t> {
-    /// A list is begun, or a dynamic array.
-    fn init_list_move<'k>(&self) -> Result<Move<'k>, ReflectErrorKind>
-        ensures decides { Decides self.now Call.InitList result }
-        ensures memory { is_begun (cursor_tree self.now.state) ≡ true
-            → NeedsNone (cursor_tree self.now.state) result }
-    {
-        self.law_sound();
-        let (table, shape, partial) = self.place();
-        match init_list_refusal(table, shape, partial) {
-            Some(kind) => Err(kind),
-            None if is_dynamic(table, shape) => Ok(Move::Stay(Change::Gather(
-                DynamicParts::Elements,
-            ))),
-            None => {
-                let (tracker, count) = (Tracker::Items(ItemsKind::List), 0);
-                Ok(Move::Stay(Change::Open(Opening { tracker, count })))
-            }
-        }
-    }
-
-    /// On to a new item of a list, a slice or a dynamic array.
-    #[inline(always)]
-    fn begin_list_item_move<'k>(&self) -> Result<Move<'k>, ReflectErrorKind>
-        ensures { Decides self.now Call.BeginListItem result }
-    {
-        let (table, shape, partial) = self.place();
-        match item_opening(table, shape, partial) {
-            Ok(opening) => Ok(Move::Go(Way::Item(opening))),
-            Err(operation) => Err(ReflectErrorKind::OperationFailed { shape, operation }),
-        }
-    }
-}
+use fr_shape::{Hooks, Ledger};
 
 impl<'t, H: Hooks> Partial<'t, H> {
     /// Begins a list: a whole one keeps its items, in front of those that come. A list that is

@@ -1,100 +1,13 @@
 //! `end`, `build` and `abandon`, and deferred mode: `begin_deferred` and `finish_deferred`.
 ghost use Rattle.std.specs.Prelude.{◌≡◌};
-ghost use Rattle.fr_partial.specs.Common.{Call, Decides, IsCall, IsNotOutOfMemory, NeedsNone, None, Room, RoseBy, Some, cursor_tree, false, holds, is_open_slice, is_root, length, strict, takes_no_memory, true};
+ghost use Rattle.fr_partial.specs.Common.{Call, IsCall, IsNotOutOfMemory, None, Room, RoseBy, Some, cursor_tree, false, holds, strict, takes_no_memory, true};
 ghost use Rattle.fr_model.specs.Step.{begin_deferred, is_source_place};
 ghost use Rattle.fr_partial.specs.Builder.{meaning, meaning_of_build, IsBuild};
 ghost use Rattle.fr_moves.specs.CompletedPlaces.{PassesValidators};
-ghost use Rattle.fr_partial.specs.Deciding.{NeedsMessageAlone};
 
-use crate::work::Work;
 use crate::{Built, Partial, ReflectError};
-use fr_frame::Taker;
 use fr_model::law_removed;
-use fr_moves::{Change, Move, Rules};
-use fr_refusals::{Mode, is_open_slice};
-use fr_shape::{Hooks, Invariant, Ledger, ReflectErrorKind};
-
-impl<'t> Work<'t> {
-    /// How the place ends.
-    #[inline(always)]
-    fn end_move<'k>(&self) -> Result<Move<'k>, ReflectErrorKind>
-        ensures decides { Decides self.now Call.End result }
-        ensures memory { self.now.state.mode ≡ strict
-            → is_source_place self.now.state ≡ false
-            → takes_no_memory (cursor_tree self.now.state) ≡ true
-            → NeedsMessageAlone (cursor_tree self.now.state) result }
-    {
-        let (_, _, partial) = self.place();
-        if is_open_slice(partial) {
-            return match self.mode() {
-                Mode::Strict => Ok(Move::Complete(Rules::Strict, Taker::Itself)),
-                Mode::Deferred(_) => Ok(Move::Stay(Change::CloseSlice)),
-            };
-        }
-        let depth = self.depth();
-        if depth == 0 {
-            let invariant = Invariant::EndAtRoot;
-            return Err(ReflectErrorKind::InvariantViolation { invariant });
-        }
-        self.leaving_move(depth)
-    }
-
-    /// How a place ends that lies this deep, below the root, and is no open pointer to a slice.
-    #[inline(always)]
-    fn leaving_move<'k>(&self, depth: usize) -> Result<Move<'k>, ReflectErrorKind>
-        requires not_open { is_open_slice (cursor_tree self.now.state) ≡ false }
-        requires depth { depth ≡ length self.now.state.cursor }
-        requires below { is_root self.now.state.cursor ≡ false }
-        ensures decides { Decides self.now Call.End result }
-        ensures memory { self.now.state.mode ≡ strict
-            → is_source_place self.now.state ≡ false
-            → takes_no_memory (cursor_tree self.now.state) ≡ true
-            → NeedsMessageAlone (cursor_tree self.now.state) result }
-    {
-        let item = self.is_set_item();
-        match self.mode() {
-            Mode::Strict if item => Ok(Move::Complete(Rules::Strict, Taker::Set)),
-            Mode::Strict if self.is_source() => Ok(Move::Convert),
-            Mode::Strict => Ok(Move::Complete(Rules::Strict, Taker::Above)),
-            Mode::Deferred(start) if depth <= start => {
-                let invariant = Invariant::EndAtStart;
-                Err(ReflectErrorKind::InvariantViolation { invariant })
-            }
-            Mode::Deferred(_) if item => Ok(Move::Complete(Rules::Deferred, Taker::Set)),
-            Mode::Deferred(_) if self.is_dynamic_part() => {
-                Ok(Move::Complete(Rules::Deferred, Taker::Above))
-            }
-            Mode::Deferred(_) => Ok(Move::Leave),
-        }
-    }
-
-    /// Into deferred mode, from strict mode alone.
-    fn begin_deferred_move<'k>(&self) -> Result<Move<'k>, ReflectErrorKind>
-        ensures decides { Decides self.now Call.BeginDeferred result }
-        ensures memory { NeedsNone (cursor_tree self.now.state) result }
-    {
-        match self.mode() {
-            Mode::Strict => Ok(Move::Defer),
-            Mode::Deferred(_) => {
-                let invariant = Invariant::AlreadyDeferred;
-                Err(ReflectErrorKind::InvariantViolation { invariant })
-            }
-        }
-    }
-
-    /// Out of deferred mode.
-    fn finish_deferred_move<'k>(&self) -> Result<Move<'k>, ReflectErrorKind>
-        ensures decides { Decides self.now Call.FinishDeferred result }
-    {
-        match self.mode() {
-            Mode::Strict => {
-                let invariant = Invariant::NotDeferred;
-                Err(ReflectErrorKind::InvariantViolation { invariant })
-            }
-            Mode::Deferred(_) => Ok(Move::Finish),
-        }
-    }
-}
+use fr_shape::{Hooks, Ledger, ReflectErrorKind};
 
 impl<'t, H: Hooks> Partial<'t, H> {
     /// Leaves the place for the one above. In strict mode it is completed, and its value written

@@ -1,24 +1,8 @@
 //! `begin_object_entry`: a dynamic value that is an object, entry by entry.
-ghost use Rattle.fr_partial.specs.Common.{Call, Decides, IsCall, Room, holds};
+ghost use Rattle.fr_partial.specs.Common.{Call, IsCall, Room, holds};
 
-use crate::work::Work;
 use crate::{Partial, ReflectError};
-use fr_moves::{Move, Way};
-use fr_refusals::entry_refusal;
-use fr_shape::{Hooks, Ledger, ReflectErrorKind};
-
-impl<'t> Work<'t> {
-    /// On to the entry of this key of a dynamic object.
-    fn begin_object_entry_move<'k>(&self, key: &'k str) -> Result<Move<'k>, ReflectErrorKind>
-        ensures { Decides self.now (Call.BeginObjectEntry key.now) result }
-    {
-        let (table, shape, partial) = self.place();
-        match entry_refusal(table, shape, partial) {
-            None => Ok(Move::Go(Way::Entry(key))),
-            Some(operation) => Err(ReflectErrorKind::OperationFailed { shape, operation }),
-        }
-    }
-}
+use fr_shape::{Hooks, Ledger};
 
 impl<'t, H: Hooks> Partial<'t, H> {
     /// Enters the entry of this key of a dynamic value that is begun as an object: the one that it

@@ -1,28 +1,8 @@
 //! `begin_some`: on to the content of an option.
-ghost use Rattle.fr_partial.specs.Common.{Call, Decides, IsCall, Room, holds};
+ghost use Rattle.fr_partial.specs.Common.{Call, IsCall, Room, holds};
 
-use crate::work::Work;
 use crate::{Partial, ReflectError};
-use fr_frame::{ContentKind, Tracker};
-use fr_moves::{Move, Way};
-use fr_refusals::{beginning_of_some, content_of};
-use fr_shape::{Expected, Hooks, Ledger, ReflectErrorKind};
-
-impl<'t> Work<'t> {
-    /// On to the content of an option.
-    fn begin_some_move<'k>(&self) -> Result<Move<'k>, ReflectErrorKind>
-        ensures { Decides self.now Call.BeginSome result }
-    {
-        self.law_sound();
-        let (table, shape, partial) = self.place();
-        let Some(content) = content_of(table, shape) else {
-            let (expected, actual) = (Expected::Option, shape);
-            return Err(ReflectErrorKind::WasNotA { expected, actual });
-        };
-        let beginning = beginning_of_some(table, content, self.mode(), partial);
-        Ok(Move::Go(Way::Content(Tracker::Content(ContentKind::Some), beginning)))
-    }
-}
+use fr_shape::{Hooks, Ledger};
 
 impl<'t, H: Hooks> Partial<'t, H> {
     /// Enters the content of an option. One that is begun is entered again as it is in deferred

@@ -3,13 +3,13 @@ ghost use Rattle.std.specs.Prelude.{◌+◌, ◌≡◌};
 ghost use Rattle.fr_partial.specs.Common.{Call, ConversionsSuit, IfOk, IsCall, IsChecked, IsInOrder, IsMeant, IsNotOutOfMemory, IsNumbered, List, NeedsNone, None, RestsAround, Room, RoseBy, cursor_tree, holds, path_of, ℕ};
 ghost use Rattle.fr_partial.specs.Builder.{meaning, site_of};
 ghost use Rattle.fr_moves.specs.CompletedPlaces.{PassesValidators};
-ghost use Rattle.fr_partial.specs.Deciding.{carries, DecidesBy, NeedsMessageAlone, WasDecided};
+ghost use Rattle.fr_work.specs.Deciding.{carries, DecidesBy, NeedsMessageAlone, WasDecided};
 
 use crate::ReflectError;
-use crate::work::Work;
 use fr_model::law_removed;
 use fr_moves::Move;
 use fr_shape::{Hooks, Ledger, ReflectErrorKind, law_hooks};
+use fr_work::Work;
 use std::marker::Model;
 
 /// A builder of one value of a shape of `table`. Each consuming call spends it and returns it

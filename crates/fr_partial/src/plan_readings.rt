@@ -8,7 +8,8 @@ ghost use Rattle.fr_model.specs.Variants.{is_enum};
 ghost use Rattle.fr_plan.specs.Lookups.{by_id, enum_plan_at, node_at, struct_plan_at};
 ghost use Rattle.fr_partial.specs.Builder.{here};
 ghost use Rattle.fr_partial.specs.Common.{Plan, TypePlanNode as Node, cursor_tree, def_of, selected};
-ghost use Rattle.fr_partial.specs.Readings.{ByItsPlan, IsItsPlan, cursor_node, field_plans_at, is_struct, serving_at, variant_plan_at};
+ghost use Rattle.fr_work.specs.Readings.{cursor_node, field_plans_at, is_struct, serving_at, variant_plan_at};
+ghost use Rattle.fr_partial.specs.ItsPlan.{ByItsPlan, IsItsPlan};
 
 use crate::Partial;
 use fr_plan::{

@@ -7,7 +7,7 @@ ghost use Rattle.fr_model.specs.Complete.{value_as};
 ghost use Rattle.fr_moves.specs.Sites.{tree_at_site};
 ghost use Rattle.fr_partial.specs.Builder.{here};
 ghost use Rattle.fr_partial.specs.Common.{cursor_tree};
-ghost use Rattle.fr_partial.specs.PlaceViews.{has_parts};
+ghost use Rattle.fr_work.specs.PlaceViews.{has_parts};
 ghost use Rattle.fr_partial.specs.ReadAs.{copyable, is_found, readable, tokenless};
 ghost use Rattle.fr_shape.specs.Lists.{is_nil};
 ghost use Rattle.fr_shape.specs.Tokens.{vals_tokens};
@@ -15,11 +15,11 @@ ghost use Rattle.fr_shape.specs.Val.{first, no_vals};
 ghost use Rattle.fr_shape.specs.View.{vals_of, vals_view, view};
 
 use crate::tokenless::is_tokenless;
-use crate::work::Work;
 use crate::{Partial, PlaceView};
 use fr_facet::{Facet, FacetFault, law_facet};
 use fr_frame::{ContentKind, PartialValue, Tracker};
 use fr_shape::{Hooks, Items, Ledger, OutOfMemory, ShapeId, ShapeTable, Value, clone_template};
+use fr_work::Work;
 use std::alloc::Global;
 
 /// Whether the shape is the first of the type in the table.
@@ -92,25 +92,23 @@ fn made_of(alloc: Global, tracker: &Tracker, values: Items<Value>) -> Result<Val
     })
 }
 
-impl<'t> Work<'t> {
-    /// A copy of the value that is seen at the place, where no token stands in it.
-    fn copy_here(&self) -> Result<Option<Value>, OutOfMemory>
-        ensures copy { IfOk result (λ copy.
-            option_map view copy ≡ copyable (tree_at_site self.now)) }
-    {
-        self.law_sound();
-        let alloc = self.alloc();
-        let Some(seen) = self.initialized_here() else {
-            return Ok(None);
-        };
-        match self.place().2 {
-            PartialValue::Whole(value) => copy_of(alloc, value),
-            PartialValue::Begun(tracker, _) => match copies_of(alloc, &seen)? {
-                Some(values) => Ok(Some(made_of(alloc, tracker, values)?)),
-                None => Ok(None),
-            },
-            PartialValue::Entered => unreachable!(),
-        }
+/// A copy of the value that is seen at the place, where no token stands in it.
+fn copy_here(work: &Work) -> Result<Option<Value>, OutOfMemory>
+    ensures copy { IfOk result (λ copy.
+        option_map view copy ≡ copyable (tree_at_site work.now)) }
+{
+    work.law_sound();
+    let alloc = work.alloc();
+    let Some(seen) = work.initialized_here() else {
+        return Ok(None);
+    };
+    match work.place().2 {
+        PartialValue::Whole(value) => copy_of(alloc, value),
+        PartialValue::Begun(tracker, _) => match copies_of(alloc, &seen)? {
+            Some(values) => Ok(Some(made_of(alloc, tracker, values)?)),
+            None => Ok(None),
+        },
+        PartialValue::Entered => unreachable!(),
     }
 }
 
@@ -128,7 +126,7 @@ impl<'t, H: Hooks> Partial<'t, H> {
         if !is_shape_of::<T>(self.table(), self.shape()) {
             return Ok(None);
         }
-        let Some(copy) = self.work.copy_here()? else {
+        let Some(copy) = copy_here(&self.work)? else {
             return Ok(None);
         };
         match T::from_value(self.work.alloc(), copy, ledger) {

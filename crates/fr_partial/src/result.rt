@@ -1,30 +1,9 @@
 //! `begin_ok` and `begin_err`: on to either side of a result.
-ghost use Rattle.fr_partial.specs.Common.{Call, Decides, IsCall, Room, as_tracker, holds, side_call};
-ghost use Rattle.fr_partial.specs.Sides.{IsSide};
+ghost use Rattle.fr_partial.specs.Common.{Call, IsCall, Room, holds};
 
-use crate::work::Work;
 use crate::{Partial, ReflectError};
 use fr_frame::{ContentKind, Tracker};
-use fr_moves::{Move, Way};
-use fr_refusals::{beginning_in, is_result};
-use fr_shape::{Expected, Hooks, Ledger, ReflectErrorKind};
-
-impl<'t> Work<'t> {
-    /// On to this side of a result.
-    fn begin_side_move<'k>(&self, side: Tracker) -> Result<Move<'k>, ReflectErrorKind>
-        requires { IsSide (as_tracker side) }
-        ensures { Decides self.now (side_call (as_tracker side)) result }
-    {
-        self.law_sound();
-        let (table, actual, partial) = self.place();
-        if !is_result(table, actual) {
-            let expected = Expected::Result;
-            return Err(ReflectErrorKind::WasNotA { expected, actual });
-        }
-        let beginning = beginning_in(self.mode(), &side, partial);
-        Ok(Move::Go(Way::Content(side, beginning)))
-    }
-}
+use fr_shape::{Hooks, Ledger};
 
 impl<'t, H: Hooks> Partial<'t, H> {
     /// Enters the ok side of a result. One that is begun on that side is entered again as it is in

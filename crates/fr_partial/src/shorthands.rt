@@ -1,5 +1,5 @@
 //! A child is entered, set to a value, and left: three calls as one.
-ghost use Rattle.std.specs.Prelude.{◌+◌, ◌≡◌};
+ghost use Rattle.std.specs.Prelude.{◌+◌};
 ghost use Rattle.fr_partial.specs.Common.{Call, IsCall, Room, holds, occurs};
 ghost use Rattle.fr_partial.specs.Several.{AreCalls};
 ghost use Rattle.fr_partial.specs.Spots.{begin_call, set_at};

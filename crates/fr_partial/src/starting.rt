@@ -1,71 +1,16 @@
 //! The ways to start a builder: by a shape, whose plan it makes, or by a plan that is lent to it.
 ghost use Rattle.std.specs.Prelude.{◌≡◌};
-ghost use Rattle.fr_partial.specs.Common.{IfOk, IsChecked, IsIn, IsNumbered, IsOpenAt, IsPlanFrom, IsPlanOf, NothingStored, [], def_of, fresh, plan_in, unsized_refusal};
-ghost use Rattle.fr_shape.specs.Checked.{is_sized};
+ghost use Rattle.fr_partial.specs.Common.{IfOk, IsChecked, IsIn, IsNumbered, IsPlanFrom, IsPlanOf, plan_in, unsized_refusal};
 ghost use Rattle.fr_model.specs.Run.{alloc_refusal};
 ghost use Rattle.fr_model.specs.Tree.{initial};
-ghost use Rattle.fr_partial.specs.Starting.{RefusedWith};
+ghost use Rattle.fr_work.specs.Starting.{RefusedWith};
 
 use crate::Partial;
-use crate::work::Work;
-use fr_frame::{FrameOwner, Slots};
-use fr_model::law_well;
-use fr_moves::{Frames, HeldPlan, Parts};
-use fr_path::Path;
-use fr_plan::{TypePlanCore, law_first_refusal, law_plan_lookups, law_plan_paths};
-use fr_refusals::Mode;
-use fr_shape::{AllocError, Def, Hooks, PlanError, PlanFault, ShapeId, ShapeTable};
-use fr_store::{FrameStore, Stack};
+use fr_moves::HeldPlan;
+use fr_plan::{TypePlanCore, law_first_refusal, law_plan_paths};
+use fr_shape::{Hooks, PlanError, ShapeId, ShapeTable};
+use fr_work::Work;
 use std::alloc::Global;
-
-/// Whether the size of the shape's values is known.
-fn is_sized(table: &ShapeTable, shape: ShapeId) -> bool
-    ensures { result ≡ is_sized (def_of table.now shape.0) }
-{
-    let Some(entry) = table.get(shape) else {
-        return true;
-    };
-    match &entry.def {
-        Def::Str | Def::Slice(_) => false,
-        Def::Scalar(_) | Def::Opaque | Def::Struct(_) | Def::Enum(_) | Def::Option(_) => true,
-        Def::Result(_, _) | Def::List(_) | Def::Map(_, _) | Def::Set(_) | Def::Array(_, _) => true,
-        Def::Pointer(_) | Def::Dynamic | Def::Undefined | Def::Other => true,
-    }
-}
-
-/// The slot of a root at which nothing was put yet, and the stack of it alone, unless the root is
-/// unsized.
-fn first_place(
-    alloc: Global,
-    table: &ShapeTable,
-    plan: &TypePlanCore,
-    root: ShapeId,
-) -> Result<(Slots, Stack), PlanError>
-    requires checked { IsChecked table.now }
-    requires inside { IsIn table.now root.0 }
-    requires planned { IsPlanOf table.now root plan.now }
-    ensures open { IfOk result (λ both.
-        IsOpenAt plan.now both.0 both.1 [] (fresh (def_of table.now root.0))) }
-    ensures nothing { IfOk result (λ both. NothingStored both.0) }
-    ensures refused { RefusedWith (unsized_refusal table.now root.0) result }
-{
-    law_plan_lookups();
-    if !is_sized(table, root) {
-        return Err(PlanError::Alloc(AllocError {
-            shape: root,
-            operation: PlanFault::NotSized,
-        }));
-    }
-    let mut slots = Slots::new(alloc);
-    let mut stack = Stack::new(alloc);
-    let Ok(top) = slots.enter(table, plan, plan.root_id(), FrameOwner::Root) else {
-        return Err(PlanError::OutOfMemory);
-    };
-    let Ok(()) = stack.push(top) else {
-        return Err(PlanError::OutOfMemory);
-    };
-    Ok((slots, stack))
-}
 
 impl<'t, H: Hooks> Partial<'t, H> {
     /// A builder of a value of this shape, at which nothing was put yet. It makes the plan of the
@@ -182,30 +127,9 @@ impl<'t, H: Hooks> Partial<'t, H> {
         ensures state { IfOk result (λ p. p.state ≡ initial table.now root.0) }
         ensures refused { RefusedWith (unsized_refusal table.now root.0) result }
     {
-        law_well();
-        let (slots, stack) = match first_place(alloc, table, plan.core(), root) {
-            Ok(both) => both,
-            Err(refused) => return Err(refused),
-        };
-        let frames = Frames {
-            table,
-            root,
-            slots,
-            stack,
-            store: FrameStore::new(alloc),
-            mode: Mode::Strict,
-        };
-        let parts = Parts {
-            alloc,
-            plan,
-            frames,
-            path: Path::new(alloc),
-            calls: 0,
-        };
-        let Ok(parts) = Box::new(alloc, parts) else {
-            return Err(PlanError::OutOfMemory);
-        };
-        let work = Work { parts };
-        Ok(Partial { hooks, work })
+        match Work::start(alloc, table, plan, root) {
+            Ok(work) => Ok(Partial { hooks, work }),
+            Err(refused) => Err(refused),
+        }
     }
 }

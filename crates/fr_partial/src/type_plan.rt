@@ -3,7 +3,7 @@ ghost use Rattle.fr_partial.specs.Common.{IfErr, IfOk, IsChecked, IsNumbered, Is
 ghost use Rattle.std.specs.Prelude.{◌≡◌, Some};
 ghost use Rattle.fr_model.specs.Run.{alloc_refusal};
 ghost use Rattle.fr_model.specs.Tree.{initial};
-ghost use Rattle.fr_partial.specs.Starting.{RefusedWith};
+ghost use Rattle.fr_work.specs.Starting.{RefusedWith};
 ghost use Rattle.fr_partial.specs.Typed.{HasShape, own_shape};
 ghost use Rattle.fr_plan.specs.Build.{planned};
 ghost use Rattle.fr_plan.specs.Lookups.{node_at};

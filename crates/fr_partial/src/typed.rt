@@ -8,7 +8,7 @@ ghost use Rattle.fr_model.specs.Run.{alloc_refusal};
 ghost use Rattle.fr_model.specs.Tree.{initial};
 ghost use Rattle.fr_partial.specs.Builder.{IsCall, here};
 ghost use Rattle.fr_partial.specs.Several.{AreCalls};
-ghost use Rattle.fr_partial.specs.Starting.{RefusedWith};
+ghost use Rattle.fr_work.specs.Starting.{RefusedWith};
 ghost use Rattle.fr_partial.specs.Typed.{HasShape, own_number};
 
 use crate::{Partial, ReflectError};

@@ -5,7 +5,7 @@ use Rattle.fr_shape.specs.declared.error.ReflectErrorKind.{ReflectErrorKind}
 use Rattle.fr_shape.specs.Tokens.{occurs}
 use Rattle.fr_shape.specs.Val.{Val}
 use Rattle.fr_model.specs.Run.{Refusal}
-use Rattle.fr_partial.specs.BuiltValue.{BuiltValue}
+use Rattle.fr_work.specs.BuiltValue.{BuiltValue}
 use Rattle.fr_script.specs.declared.building.ScriptError.{ScriptError}
 
 -- The answer is the machine's: its value, or its refusal by number, kind and path; an error may also be that no memory

@@ -1,7 +1,7 @@
 //! Where a refused call was, what a builder tells of itself, and one plan for two builders.
 ghost use Rattle.std.specs.Prelude.{◌≡◌, ℕ};
 ghost use Rattle.fr_partial.specs.Builder.{holds};
-ghost use Rattle.fr_partial.specs.Starting.{IsPlanFrom};
+ghost use Rattle.fr_work.specs.Starting.{IsPlanFrom};
 
 use super::bench::{
     abandoned, built, check_counts, check_path, check_value, done, fresh, ledger, named, refusal,

@@ -3,7 +3,7 @@
 ghost use Rattle.std.specs.Prelude.{◌≡◌, ℕ};
 ghost use Rattle.fr_shape.specs.Tokens.{occurs};
 ghost use Rattle.fr_shape.specs.View.{view};
-ghost use Rattle.fr_partial.specs.Starting.{IsPlanFrom};
+ghost use Rattle.fr_work.specs.Starting.{IsPlanFrom};
 ghost use Rattle.fr_partial.specs.Typed.{HasShape};
 
 use super::bench::{

@@ -1,6 +1,6 @@
 use Rattle.std.proofs.Common.{◌≡◌, ◌≢◌, [], drop, None}
 use Rattle.fr_model.specs.Run.{alloc_refusal}
-use Rattle.fr_partial.specs.Starting.{IsPlanFrom}
+use Rattle.fr_work.specs.Starting.{IsPlanFrom}
 use Rattle.fr_example.specs.Forms.{bad_fields}
 use Rattle.fr_example.proofs.FormErrors.{AreAll}
 use Rattle.fr_example.proofs.form.bad_fields.Given as goal

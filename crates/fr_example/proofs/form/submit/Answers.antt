@@ -3,7 +3,7 @@ use Rattle.std.proofs.lemmas.Result.{err_from_is_err_and}
 use Rattle.fr_shape.specs.Fits.{fits}
 use Rattle.fr_shape.specs.Look.{Table}
 use Rattle.fr_model.specs.Run.{alloc_refusal}
-use Rattle.fr_partial.specs.Starting.{IsPlanFrom}
+use Rattle.fr_work.specs.Starting.{IsPlanFrom}
 use Rattle.fr_example.specs.Forms.{form_script, without_plan}
 use Rattle.fr_example.proofs.FormCalls.{nothing_held}
 use Rattle.fr_example.proofs.FormErrors.{no_plan, tells_no_plan, no_plan_no_bad, no_plan_no_run, planned_refused, none_bad_refused, outcome_refused}

@@ -1,5 +1,5 @@
 use Rattle.std.proofs.Common.{◌≡◌, inl, inr, ℕ, IfOk, Ok, Err, Result, refl, ap, ◌∙◌, rules}
-use Rattle.fr_partial.specs.declared.reflect_error.ReflectError.{ReflectError}
+use Rattle.fr_work.specs.declared.reflect_error.ReflectError.{ReflectError}
 use Rattle.fr_partial.specs.Builder.{Builder, holds, left}
 use Rattle.fr_model.specs.Commands.{Call}
 use Rattle.fr_example.specs.Putting.{enters_field, FailsPutting}

@@ -2,8 +2,8 @@ use Rattle.std.proofs.Common.{◌≡◌, ℕ, List, ◌++◌, length, Result, Er
 use Rattle.std.specs.Vec.Iter.{into_iter_items}
 use Rattle.fr_shape.specs.Hooks.{Meanings}
 use Rattle.fr_shape.specs.Look.{Table}
-use Rattle.fr_partial.specs.BuiltValue.{BuiltValue}
-use Rattle.fr_partial.specs.declared.reflect_error.ReflectError.{ReflectError}
+use Rattle.fr_work.specs.BuiltValue.{BuiltValue}
+use Rattle.fr_work.specs.declared.reflect_error.ReflectError.{ReflectError}
 use Rattle.fr_example.specs.declared.record.Pair.{Pair}
 use Rattle.fr_example.specs.Meant.{pairs_meant, record_meant, IsMeant, TellsPlace}
 use Rattle.fr_example.proofs.Loop.{struct_within, planned_means, filled_more, loop_refused, loop_built, all_taken, one_taken}

@@ -13,7 +13,7 @@ use Rattle.fr_model.specs.Scripts.{AllFitting, brings, brought}
 use Rattle.fr_model.specs.Step.{step}
 use Rattle.fr_model.specs.Tree.{initial, one_more_call}
 use Rattle.fr_partial.specs.Builder.{holds}
-use Rattle.fr_partial.specs.Starting.{RefusedWith}
+use Rattle.fr_work.specs.Starting.{RefusedWith}
 use Rattle.fr_script.specs.Outcomes.{kind_without_plan}
 use Rattle.fr_script.proofs.AdmittedCommands.{same_step, runs_on, one_call_more}
 use Rattle.fr_script.proofs.building.build_script.Given.{Over}

@@ -2,7 +2,7 @@ use Rattle.std.proofs.Common.{◌≡◌, ℕ, ap, sym, subst, ◌∙◌}
 use Rattle.fr_shape.specs.Look.{Table, def_of}
 use Rattle.fr_model.specs.Tree.{State, tree_occurs}
 use Rattle.fr_model.proofs.TokensInTrees.{fresh_holds}
-use Rattle.fr_partial.specs.Starting.{IsPlanFrom}
+use Rattle.fr_work.specs.Starting.{IsPlanFrom}
 use Rattle.fr_builder_tests.proofs.builder_tests.paths.lent_owned.Goals as goal
 
 -- a builder that was just begun holds nothing

@@ -1,6 +1,6 @@
 use Rattle.std.proofs.Common.{subst}
 use Rattle.fr_shape.specs.Look.{Table}
-use Rattle.fr_partial.specs.Starting.{IsPlanFrom}
+use Rattle.fr_work.specs.Starting.{IsPlanFrom}
 use Rattle.fr_builder_tests.proofs.OwnPlans.{plan_of_own}
 use Rattle.fr_builder_tests.proofs.builder_tests.typed.plan_in_json.Goals as goal
 

@@ -2,7 +2,7 @@ use Rattle.std.proofs.Common.{◌≡◌, ℕ, Option, sym, ap, ◌∙◌, subst}
 use Rattle.fr_shape.specs.declared.error.AllocError.{AllocError}
 use Rattle.fr_partial.specs.Common.{IsIn, IsPlanFrom, IsPlanOf, ShapeId, unsized_refusal}
 use Rattle.fr_model.specs.Tree.{initial}
-use Rattle.fr_partial.specs.Starting.{RefusedWith}
+use Rattle.fr_work.specs.Starting.{RefusedWith}
 use Rattle.fr_moves.specs.ResultLaws.{if_ok}
 use Rattle.fr_partial.proofs.StartLaws.{root_shape, only_unsized}
 use Rattle.fr_partial.proofs.partial.Partial.alloc_with_plan.Goals as goal

@@ -1,6 +1,6 @@
 use Rattle.std.proofs.Common.{refl, ap, ◌∙◌, subst}
 use Rattle.fr_partial.specs.Common.{Builder, Call, cursor_tree, takes_no_memory}
-use Rattle.fr_partial.specs.Deciding.{NeedsMessageAlone}
+use Rattle.fr_work.specs.Deciding.{NeedsMessageAlone}
 use Rattle.fr_partial.proofs.CallLaws.{called, decided_of, meant_of}
 use Rattle.fr_partial.proofs.partial.Partial.end.Goals as goal
 use Rattle.fr_model.specs.Step.{is_source_place}

@@ -1,7 +1,7 @@
 use Rattle.std.proofs.Common.{refl, subst}
 use Rattle.fr_partial.specs.Common.{Builder, Call}
 use Rattle.fr_partial.specs.Builder.{site_of}
-use Rattle.fr_partial.specs.Deciding.{DecidesBy}
+use Rattle.fr_work.specs.Deciding.{DecidesBy}
 use Rattle.fr_partial.proofs.CallLaws.{nothing_spent}
 use Rattle.fr_partial.proofs.partial.Partial.parse_from_str.Goals as goal
 

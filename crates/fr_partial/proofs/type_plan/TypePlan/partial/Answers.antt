@@ -2,7 +2,7 @@ use Rattle.std.proofs.Common.{◌≡◌, subst}
 use Rattle.fr_partial.specs.Common.{IfOk, IsPlanFrom, Plan}
 use Rattle.fr_model.specs.Run.{alloc_refusal}
 use Rattle.fr_model.specs.Tree.{initial}
-use Rattle.fr_partial.specs.Starting.{RefusedWith}
+use Rattle.fr_work.specs.Starting.{RefusedWith}
 use Rattle.fr_partial.proofs.type_plan.TypePlan.partial.Goals as goal
 
 pub returns-clause-root : goal.returns-clause-root

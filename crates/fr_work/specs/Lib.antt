@@ -1,0 +1,15 @@
+pub mod Building
+pub mod BuiltValue
+pub mod Common
+pub mod Deciding
+pub mod LooksHere
+pub mod Making
+pub mod ParseHooks
+pub mod PlaceTold
+pub mod PlaceViews
+pub mod PlanParts
+pub mod Readings
+pub mod SelectingCalls
+pub mod Sides
+pub mod Sources
+pub mod Starting
