@@ -40,6 +40,7 @@ impl<T: Facet> TypePlan<T> {
         requires shape { HasShape T.is_own table.now }
         requires checked { IsChecked table.now }
         ensures plan { IfOk result (IsPlanOf table.now (own_shape T.is_own table.now)) }
+        ensures from { IfOk result (IsPlanFrom table.now) }
         ensures refused { IfErr result (IsMeant
             (planned table.now (own_shape T.is_own table.now))) }
     {
@@ -61,6 +62,7 @@ impl<T: Facet> TypePlan<T> {
         requires shape { HasShape T.is_own table.now }
         requires checked { IsChecked table.now }
         ensures plan { IfOk result (IsPlanOf table.now (own_shape T.is_own table.now)) }
+        ensures from { IfOk result (IsPlanFrom table.now) }
         ensures refused { IfErr result (IsMeant
             (planned table.now (own_shape T.is_own table.now))) }
     {
