@@ -1,7 +1,7 @@
 //! Deferred mode in documents: places are left half done, entered again, overwritten and completed
 //! at the end.
 use crate::cases::check_each;
-use crate::row_tests::{ARRAYS, MARKED, check_descending};
+use crate::row_tests::{ARRAYS, DEFAULTS, MARKED, check_descending};
 use crate::run_tests::{CELLS, check};
 use std::test::Fail;
 
@@ -86,16 +86,6 @@ const OVERWRITTEN: &str = r#"
     ]}
     = 1 {"error":{"command":9,"detail":"k","kind":"UninitializedField","path":""},"released":[0,1]}
 "#;
-
-/// The shapes u32, Nums (a list with a default), Empty (a struct without fields, with a default),
-/// HasList and HasEmpty, before the root.
-const DEFAULTS: &str = r#"{"shapes":[
-    {"name":"u32","def":"u32"},
-    {"name":"Nums","def":{"list":0},"preset":{"l":[]}},
-    {"name":"Empty","def":{"unit":[]},"preset":[]},
-    {"name":"HasList","def":{"struct":[{"name":"l","shape":1}]}},
-    {"name":"HasEmpty","def":{"struct":[{"name":"e","shape":2},{"name":"k","shape":0}]}}
-],"#;
 
 const FILLED_AT_THE_END: &str = r#"
     # the end fills a list that has a default

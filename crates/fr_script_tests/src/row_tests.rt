@@ -1,13 +1,12 @@
 //! Worked examples of fills, presets, arrays and named fields, each as a whole run.
 use crate::cases::check_each;
-use crate::limit_tests::joined;
 use crate::run_tests::check;
 use std::process::Abort;
 use std::test::Fail;
 
 /// The shapes u32, Nums (a list with a default), Empty (a struct without fields, with a default),
 /// HasList and HasEmpty, before the root.
-const DEFAULTS: &str = r#"{"shapes":[
+pub(crate) const DEFAULTS: &str = r#"{"shapes":[
     {"name":"u32","def":"u32"},
     {"name":"Nums","def":{"list":0},"preset":{"l":[]}},
     {"name":"Empty","def":{"unit":[]},"preset":[]},
@@ -178,28 +177,4 @@ pub(crate) fn check_descending(
 #[test]
 fn elements_may_come_in_any_order(rt: HostRuntime) -> Result<(), Fail> {
     check_descending(&rt, "", "")
-}
-
-#[test]
-fn a_script_may_begin_a_thousand_places(rt: HostRuntime) -> Result<(), Fail> {
-    let alloc = rt.alloc();
-    let front = r#"{"shapes":[
-        {"name":"u32","def":"u32"},
-        {"name":"String","def":"String"},
-        {"name":"Inner","def":{"struct":[{"name":"x","shape":0},{"name":"b","shape":0}]}},
-        {"name":"Outer","def":{"struct":[{"name":"name","shape":1},{"name":"inner","shape":2}]}}
-    ],"root":3,"commands":["#;
-    let begin = r#"["begin_nth_field",1]"#;
-    let most = joined(alloc, front, begin, 1_000, "]}")?;
-    let refused = r#"{"error":{"command":2,"detail":"cannot select a field from this type",
-        "kind":"OperationFailed","path":"inner.b"},"released":[]}"#;
-    check(&rt, "at the limit", most.as_bytes(), 1, refused)?;
-    let past = joined(alloc, front, begin, 1_001, "]}")?;
-    check(
-        &rt,
-        "past it",
-        past.as_bytes(),
-        2,
-        r#"{"fault":"TooLarge","what":"depth"}"#,
-    )
 }
