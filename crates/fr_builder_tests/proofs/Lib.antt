@@ -3,4 +3,3 @@ pub mod DefaultRows
 pub mod LastChild
 pub mod OneTokenItems
 pub mod OwnPlans
-pub mod TokenlessSlots

@@ -1,6 +1,6 @@
 //! Each call of the builder with ample memory and hooks of the tests' own, whole builds, and where
-//! the token is after each refusal; then the slots that the builder stands on, what it tells of
-//! itself, calls by Rust types, and the examples.
+//! the token is after each refusal; then what it tells of itself, calls by Rust types, and the
+//! examples.
 mod bench;
 mod calls;
 mod contents;
@@ -20,6 +20,5 @@ mod readings;
 mod records;
 mod servers;
 mod sets;
-mod slots;
 mod structs;
 mod typed;

@@ -1,5 +1,5 @@
-//! Tests of the builder, its slots and the hooks that it asks, over public calls alone, as a user's
-//! crate makes them.
+//! Tests of the builder and the hooks that it asks, over public calls alone, as a user's crate makes
+//! them.
 #![tactic(auto)]
 
 #[cfg(test)]

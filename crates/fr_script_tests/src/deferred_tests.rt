@@ -1,7 +1,8 @@
 //! Deferred mode in documents: places are left half done, entered again, overwritten and completed
 //! at the end.
 use crate::cases::check_each;
-use crate::run_tests::check;
+use crate::row_tests::{ARRAYS, DEFAULTS, MARKED, check_descending};
+use crate::run_tests::{CELLS, check};
 use std::test::Fail;
 
 /// The shapes u32, String, Inner (x and b) and Outer (name and inner), with Outer as the root.
@@ -62,14 +63,6 @@ const COMING_BACK: &str = r#"
     = 1 {"error":{"command":6,"detail":"b","kind":"UninitializedField","path":""},"released":[]}
 "#;
 
-/// The shapes u32, Res, Cell (a Res and a u32) and Pair (p and q, two cells), before the root.
-const CELLS: &str = r#"{"shapes":[
-    {"name":"u32","def":"u32"},
-    {"name":"Res","def":"opaque"},
-    {"name":"Cell","def":{"struct":[{"name":"a","shape":1},{"name":"k","shape":0}]}},
-    {"name":"Pair","def":{"struct":[{"name":"p","shape":2},{"name":"q","shape":2}]}}
-],"#;
-
 const OVERWRITTEN: &str = r#"
     # a whole value releases what was left beneath it
     "root":3,"tokens":3,"commands":[
@@ -94,16 +87,6 @@ const OVERWRITTEN: &str = r#"
     = 1 {"error":{"command":9,"detail":"k","kind":"UninitializedField","path":""},"released":[0,1]}
 "#;
 
-/// The shapes u32, Nums (a list with a default), Empty (a struct without fields, with a default),
-/// HasList and HasEmpty, before the root.
-const DEFAULTS: &str = r#"{"shapes":[
-    {"name":"u32","def":"u32"},
-    {"name":"Nums","def":{"list":0},"preset":{"l":[]}},
-    {"name":"Empty","def":{"unit":[]},"preset":[]},
-    {"name":"HasList","def":{"struct":[{"name":"l","shape":1}]}},
-    {"name":"HasEmpty","def":{"struct":[{"name":"e","shape":2},{"name":"k","shape":0}]}}
-],"#;
-
 const FILLED_AT_THE_END: &str = r#"
     # the end fills a list that has a default
     "root":3,"commands":[["begin_deferred"],["finish_deferred"]]}
@@ -119,14 +102,6 @@ const FILLED_AT_THE_END: &str = r#"
     = 0 {"ok":[[],1],"released":[]}
 "#;
 
-/// The shapes u32 (with the default 0), Dd (a field that is marked with 5) and Ss (two fields, with
-/// a default), before the root.
-const MARKED: &str = r#"{"shapes":[
-    {"name":"u32","def":"u32","preset":0},
-    {"name":"Dd","def":{"struct":[{"name":"a","shape":0,"default":{"custom":5}}]}},
-    {"name":"Ss","def":{"struct":[{"name":"x","shape":0},{"name":"y","shape":0}]},"preset":[1,2]}
-],"#;
-
 const MARKED_AT_THE_END: &str = r#"
     # a field that was entered takes no default at the end either
     "root":1,"commands":[["begin_deferred"],["begin_nth_field",0],["end"],["finish_deferred"]]}
@@ -138,13 +113,6 @@ const MARKED_AT_THE_END: &str = r#"
     "root":2,"commands":[["begin_deferred"],["begin_nth_field",0],["set",0,9],["end"],["finish_deferred"]]}
     = 1 {"error":{"command":4,"detail":"y","kind":"UninitializedField","path":""},"released":[]}
 "#;
-
-/// The shapes u32, A64 and A3 (arrays of so many), before the root.
-const ARRAYS: &str = r#"{"shapes":[
-    {"name":"u32","def":"u32"},
-    {"name":"A64","def":{"array":[0,64]}},
-    {"name":"A3","def":{"array":[0,3]}}
-],"#;
 
 const ELEMENTS: &str = r#"
     # an element that was only entered is set later
@@ -178,21 +146,7 @@ fn the_end_fills_by_its_own_rules(rt: HostRuntime) -> Result<(), Fail> {
 
 #[test]
 fn elements_come_backwards_in_deferred_mode(rt: HostRuntime) -> Result<(), Fail> {
-    let alloc = rt.alloc();
-    let mut document = String::from_str(alloc, ARRAYS)?;
-    let mut want = String::from_str(alloc, r#"{"ok":[0"#)?;
-    document.push_str(r#""root":1,"commands":[["begin_deferred"],"#)?;
-    for i in (0..64).rev() {
-        let element = format!(in alloc; "[\"begin_nth_field\",{i}],[\"set\",0,{i}],[\"end\"],")?;
-        document.push_str(element.as_str())?;
-    }
-    document.push_str(r#"["finish_deferred"]]}"#)?;
-    for i in 1..64 {
-        let element = format!(in alloc; ",{i}")?;
-        want.push_str(element.as_str())?;
-    }
-    want.push_str(r#"],"released":[]}"#)?;
-    check(&rt, "descending", document.as_bytes(), 0, want.as_str())
+    check_descending(&rt, r#"["begin_deferred"],"#, r#",["finish_deferred"]"#)
 }
 
 /// The settings of a program, as examples/groups.json has them: the lines of its groups come in

@@ -79,6 +79,9 @@ const CONVERTED: [(&str, &str, &str); 15] = [
     ("a text without a size", r#"["set",17,"hi"]"#, r#""hi""#),
 ];
 
+/// Why a value that has no dynamic one isn't taken.
+const NO_DYNAMIC: &str = "cannot convert this type to dynamic value";
+
 /// What is put at an Any, and why it isn't taken.
 const NOT_CONVERTED: [(&str, &str, &str); 14] = [
     (
@@ -94,63 +97,27 @@ const NOT_CONVERTED: [(&str, &str, &str); 14] = [
     (
         "a text that may be borrowed",
         r#"["set",18,"hi"]"#,
-        "cannot convert this type to dynamic value",
+        NO_DYNAMIC,
     ),
     (
         "another dynamic shape",
         r#"["set",3,{"d":null}]"#,
-        "cannot convert this type to dynamic value",
+        NO_DYNAMIC,
     ),
     (
         "bytes where none are taken",
         r#"["set",19,{"l":[1]}]"#,
-        "cannot convert this type to dynamic value",
+        NO_DYNAMIC,
     ),
-    (
-        "a struct",
-        r#"["set",22,[]]"#,
-        "cannot convert this type to dynamic value",
-    ),
-    (
-        "an enum",
-        r#"["set",23,{"v":[0,[]]}]"#,
-        "cannot convert this type to dynamic value",
-    ),
-    (
-        "an option",
-        r#"["set",24,null]"#,
-        "cannot convert this type to dynamic value",
-    ),
-    (
-        "a result",
-        r#"["set",25,{"ok":1}]"#,
-        "cannot convert this type to dynamic value",
-    ),
-    (
-        "a map",
-        r#"["set",26,{"m":[]}]"#,
-        "cannot convert this type to dynamic value",
-    ),
-    (
-        "a set of numbers",
-        r#"["set",27,{"e":[]}]"#,
-        "cannot convert this type to dynamic value",
-    ),
-    (
-        "an array of two",
-        r#"["set",28,[1,2]]"#,
-        "cannot convert this type to dynamic value",
-    ),
-    (
-        "a pointer",
-        r#"["set",29,{"p":1}]"#,
-        "cannot convert this type to dynamic value",
-    ),
-    (
-        "a slice",
-        r#"["set",30,{"l":[]}]"#,
-        "cannot convert this type to dynamic value",
-    ),
+    ("a struct", r#"["set",22,[]]"#, NO_DYNAMIC),
+    ("an enum", r#"["set",23,{"v":[0,[]]}]"#, NO_DYNAMIC),
+    ("an option", r#"["set",24,null]"#, NO_DYNAMIC),
+    ("a result", r#"["set",25,{"ok":1}]"#, NO_DYNAMIC),
+    ("a map", r#"["set",26,{"m":[]}]"#, NO_DYNAMIC),
+    ("a set of numbers", r#"["set",27,{"e":[]}]"#, NO_DYNAMIC),
+    ("an array of two", r#"["set",28,[1,2]]"#, NO_DYNAMIC),
+    ("a pointer", r#"["set",29,{"p":1}]"#, NO_DYNAMIC),
+    ("a slice", r#"["set",30,{"l":[]}]"#, NO_DYNAMIC),
 ];
 
 const BUILT: &str = r#"

@@ -118,14 +118,19 @@ fn a_script_is_at_most_1_000_deep(rt: HostRuntime) -> Result<(), Fail> {
     check_limit(
         &rt,
         (
-            r#"{"shapes":[{"name":"a","def":"u32"}],"root":0,"commands":["#,
-            r#"["begin_nth_field",0]"#,
+            r#"{"shapes":[
+                {"name":"u32","def":"u32"},
+                {"name":"Inner","def":{"struct":[{"name":"x","shape":0},{"name":"b","shape":0}]}},
+                {"name":"Outer","def":{"struct":[{"name":"x","shape":0},{"name":"inner","shape":1}]}}
+            ],"root":2,"commands":["#,
+            r#"["begin_nth_field",1]"#,
             r#"]}"#,
         ),
         1_000,
         (
             1,
-            r#"{"error":{"command":0,"detail":"cannot select a field from this type","kind":"OperationFailed","path":""},"released":[]}"#,
+            r#"{"error":{"command":2,"detail":"cannot select a field from this type",
+                "kind":"OperationFailed","path":"inner.b"},"released":[]}"#,
         ),
         r#"{"fault":"TooLarge","what":"depth"}"#,
     )

@@ -25,7 +25,7 @@ const NESTED: &str = r#"{"shapes":[
 const NESTED_REPORT: &str = "{\"ok\":[\"Hello, world!\",[42,43]],\"released\":[]}\n";
 
 /// The shapes u32, Res (opaque), Cell (a Res and a u32) and Pair (two Cells), before the root.
-const CELLS: &str = r#"{"shapes":[
+pub(crate) const CELLS: &str = r#"{"shapes":[
     {"name":"u32","def":"u32"},
     {"name":"Res","def":"opaque"},
     {"name":"Cell","def":{"struct":[{"name":"a","shape":1},{"name":"k","shape":0}]}},

@@ -1,6 +1,5 @@
 //! Each text that an error can have today, printed once.
-use crate::run_tests::check;
-use std::process::Abort;
+use crate::cases::check_each;
 use std::test::Fail;
 
 /// The shapes 0 u32, 1 String, 2 opaque, 3 an enum, 4 undefined, 5 a pointer, 6 an array of three,
@@ -25,233 +24,117 @@ const SHAPES: &str = r#"{"shapes":[
     {"name":"Marked","def":{"struct":[{"name":"a","shape":0,"default":"trait"}]}}
 ],"#;
 
-/// The root, the commands, and of the error the command, the kind, the detail and the path.
-const TEXTS: [(u32, &str, u32, &str, &str, &str); 30] = [
-    (
-        8,
-        r#"["begin_nth_field",2]"#,
-        0,
-        "OperationFailed",
-        "field index out of bounds",
-        "",
-    ),
-    (
-        3,
-        r#"["begin_nth_field",0]"#,
-        0,
-        "OperationFailed",
-        "must call select_variant before selecting enum fields",
-        "",
-    ),
-    (
-        8,
-        r#"["begin_nth_field",0],["begin_nth_field",3]"#,
-        1,
-        "OperationFailed",
-        "array index out of bounds",
-        "first",
-    ),
-    (
-        11,
-        r#"["begin_nth_field",0]"#,
-        0,
-        "OperationFailed",
-        "arrays larger than 4096 elements are not yet supported",
-        "",
-    ),
-    (
-        6,
-        r#"["set",6,[1,2,3]],["begin_nth_field",0]"#,
-        1,
-        "OperationFailed",
-        "unexpected tracker state: expected uninitialized Scalar or Array",
-        "",
-    ),
-    (
-        2,
-        r#"["begin_nth_field",0]"#,
-        0,
-        "OperationFailed",
-        "cannot select a field from an opaque type",
-        "",
-    ),
-    (
-        7,
-        r#"["begin_field","x"]"#,
-        0,
-        "OperationFailed",
-        "cannot select a field from this type",
-        "",
-    ),
-    (
-        3,
-        r#"["begin_field","x"]"#,
-        0,
-        "OperationFailed",
-        "must select variant before selecting enum fields",
-        "",
-    ),
-    (
-        4,
-        r#"["begin_field","x"]"#,
-        0,
-        "OperationFailed",
-        "shape type is undefined - shape was not properly configured",
-        "",
-    ),
-    (
-        8,
-        r#"["begin_field","second"],["begin_field","x"]"#,
-        1,
-        "OperationFailed",
-        "cannot select a field from a primitive type",
-        "second",
-    ),
-    (
-        6,
-        r#"["begin_field","x"]"#,
-        0,
-        "OperationFailed",
-        "cannot select a field from a sequence type",
-        "",
-    ),
-    (
-        2,
-        r#"["begin_field","x"]"#,
-        0,
-        "OperationFailed",
-        "opaque types cannot be reflected upon",
-        "",
-    ),
-    (
-        5,
-        r#"["begin_field","x"]"#,
-        0,
-        "OperationFailed",
-        "cannot select a field from a pointer type",
-        "",
-    ),
-    (
-        0,
-        r#"["set_default"]"#,
-        0,
-        "OperationFailed",
-        "type does not implement Default",
-        "",
-    ),
-    (
-        8,
-        r#"["begin_field","third"]"#,
-        0,
-        "FieldError",
-        "no such field",
-        "",
-    ),
-    (
-        8,
-        r#"["begin_nth_field",0],["begin_nth_field",1],["set",1,"x"]"#,
-        2,
-        "WrongShape",
-        "expected u32, got String",
-        "first[1]",
-    ),
-    (
-        8,
-        r#"["begin_nth_field",0],["set",6,[1,2,3]],["end"]"#,
-        3,
-        "UninitializedField",
-        "second",
-        "",
-    ),
-    (
-        8,
-        r#"["begin_nth_field",0],["begin_nth_field",1],["set",0,1],["end"],["end"]"#,
-        4,
-        "UninitializedValue",
-        "Three",
-        "first",
-    ),
-    (
-        0,
-        r#"["set",0,1],["end"]"#,
-        1,
-        "InvariantViolation",
-        "Partial::end() called with only one frame on the stack",
-        "",
-    ),
-    (
-        8,
-        r#"["begin_nth_field",1]"#,
-        1,
-        "InvariantViolation",
-        "build() called but more than one frame is on the stack",
-        "second",
-    ),
-    (
-        8,
-        r#"["begin_deferred"],["begin_deferred"]"#,
-        1,
-        "InvariantViolation",
-        "begin_deferred() called but already in deferred mode",
-        "",
-    ),
-    (
-        8,
-        r#"["begin_nth_field",1],["finish_deferred"]"#,
-        1,
-        "InvariantViolation",
-        "finish_deferred() called but deferred mode is not enabled",
-        "second",
-    ),
-    (
-        8,
-        r#"["begin_nth_field",1],["begin_deferred"],["end"]"#,
-        2,
-        "InvariantViolation",
-        "Partial::end() called but would pop below deferred start depth",
-        "second",
-    ),
-    (
-        8,
-        r#"["begin_nth_field",1],["begin_deferred"]"#,
-        2,
-        "InvariantViolation",
-        "build() called but deferred mode is enabled",
-        "second",
-    ),
-    (
-        12,
-        r#"["begin_deferred"],["finish_deferred"]"#,
-        1,
-        "DefaultAttrButNoDefaultImpl",
-        "u32",
-        "",
-    ),
-    (
-        9,
-        "",
-        0,
-        "Alloc",
-        "unsupported type for deserialization",
-        "",
-    ),
-    (10, "", 0, "Alloc", "type is not sized", ""),
-    (0, "", 0, "UninitializedValue", "u32", ""),
-    (7, "", 0, "UninitializedValue", "Maybe", ""),
-    (3, "", 0, "UninitializedValue", "Choice", ""),
-];
+const REFUSED: &str = r#"
+    # a field past the last
+    "root":8,"commands":[["begin_nth_field",2]]}
+    = 1 {"error":{"command":0,"detail":"field index out of bounds","kind":"OperationFailed","path":""},"released":[]}
+    # a field of an enum whose variant isn't selected, by its number
+    "root":3,"commands":[["begin_nth_field",0]]}
+    = 1 {"error":{"command":0,"detail":"must call select_variant before selecting enum fields",
+        "kind":"OperationFailed","path":""},"released":[]}
+    # an element past the last
+    "root":8,"commands":[["begin_nth_field",0],["begin_nth_field",3]]}
+    = 1 {"error":{"command":1,"detail":"array index out of bounds","kind":"OperationFailed","path":"first"},"released":[]}
+    # an element of a large array
+    "root":11,"commands":[["begin_nth_field",0]]}
+    = 1 {"error":{"command":0,"detail":"arrays larger than 4096 elements are not yet supported",
+        "kind":"OperationFailed","path":""},"released":[]}
+    # an element of a whole array
+    "root":6,"commands":[["set",6,[1,2,3]],["begin_nth_field",0]]}
+    = 1 {"error":{"command":1,"detail":"unexpected tracker state: expected uninitialized Scalar or Array",
+        "kind":"OperationFailed","path":""},"released":[]}
+    # a field of an opaque value, by its number
+    "root":2,"commands":[["begin_nth_field",0]]}
+    = 1 {"error":{"command":0,"detail":"cannot select a field from an opaque type",
+        "kind":"OperationFailed","path":""},"released":[]}
+    # a field of an option
+    "root":7,"commands":[["begin_field","x"]]}
+    = 1 {"error":{"command":0,"detail":"cannot select a field from this type",
+        "kind":"OperationFailed","path":""},"released":[]}
+    # a field of an enum whose variant isn't selected, by its name
+    "root":3,"commands":[["begin_field","x"]]}
+    = 1 {"error":{"command":0,"detail":"must select variant before selecting enum fields",
+        "kind":"OperationFailed","path":""},"released":[]}
+    # a field of an undefined type
+    "root":4,"commands":[["begin_field","x"]]}
+    = 1 {"error":{"command":0,"detail":"shape type is undefined - shape was not properly configured",
+        "kind":"OperationFailed","path":""},"released":[]}
+    # a field of a number
+    "root":8,"commands":[["begin_field","second"],["begin_field","x"]]}
+    = 1 {"error":{"command":1,"detail":"cannot select a field from a primitive type",
+        "kind":"OperationFailed","path":"second"},"released":[]}
+    # a field of an array
+    "root":6,"commands":[["begin_field","x"]]}
+    = 1 {"error":{"command":0,"detail":"cannot select a field from a sequence type",
+        "kind":"OperationFailed","path":""},"released":[]}
+    # a field of an opaque value, by its name
+    "root":2,"commands":[["begin_field","x"]]}
+    = 1 {"error":{"command":0,"detail":"opaque types cannot be reflected upon",
+        "kind":"OperationFailed","path":""},"released":[]}
+    # a field of a pointer
+    "root":5,"commands":[["begin_field","x"]]}
+    = 1 {"error":{"command":0,"detail":"cannot select a field from a pointer type",
+        "kind":"OperationFailed","path":""},"released":[]}
+    # a default that there isn't
+    "root":0,"commands":[["set_default"]]}
+    = 1 {"error":{"command":0,"detail":"type does not implement Default","kind":"OperationFailed","path":""},"released":[]}
+    # a name that no field has
+    "root":8,"commands":[["begin_field","third"]]}
+    = 1 {"error":{"command":0,"detail":"no such field","kind":"FieldError","path":""},"released":[]}
+    # a text where a number is
+    "root":8,"commands":[["begin_nth_field",0],["begin_nth_field",1],["set",1,"x"]]}
+    = 1 {"error":{"command":2,"detail":"expected u32, got String","kind":"WrongShape","path":"first[1]"},"released":[]}
+    # a struct that lacks a field
+    "root":8,"commands":[["begin_nth_field",0],["set",6,[1,2,3]],["end"]]}
+    = 1 {"error":{"command":3,"detail":"second","kind":"UninitializedField","path":""},"released":[]}
+    # an array that lacks elements
+    "root":8,"commands":[["begin_nth_field",0],["begin_nth_field",1],["set",0,1],["end"],["end"]]}
+    = 1 {"error":{"command":4,"detail":"Three","kind":"UninitializedValue","path":"first"},"released":[]}
+    # an end at the root
+    "root":0,"commands":[["set",0,1],["end"]]}
+    = 1 {"error":{"command":1,"detail":"Partial::end() called with only one frame on the stack",
+        "kind":"InvariantViolation","path":""},"released":[]}
+    # a build while a field is open
+    "root":8,"commands":[["begin_nth_field",1]]}
+    = 1 {"error":{"command":1,"detail":"build() called but more than one frame is on the stack",
+        "kind":"InvariantViolation","path":"second"},"released":[]}
+    # deferred mode that begins twice
+    "root":8,"commands":[["begin_deferred"],["begin_deferred"]]}
+    = 1 {"error":{"command":1,"detail":"begin_deferred() called but already in deferred mode",
+        "kind":"InvariantViolation","path":""},"released":[]}
+    # deferred mode that ends before it began
+    "root":8,"commands":[["begin_nth_field",1],["finish_deferred"]]}
+    = 1 {"error":{"command":1,"detail":"finish_deferred() called but deferred mode is not enabled",
+        "kind":"InvariantViolation","path":"second"},"released":[]}
+    # an end of the place at which deferred mode began
+    "root":8,"commands":[["begin_nth_field",1],["begin_deferred"],["end"]]}
+    = 1 {"error":{"command":2,"detail":"Partial::end() called but would pop below deferred start depth",
+        "kind":"InvariantViolation","path":"second"},"released":[]}
+    # a build in deferred mode
+    "root":8,"commands":[["begin_nth_field",1],["begin_deferred"]]}
+    = 1 {"error":{"command":2,"detail":"build() called but deferred mode is enabled",
+        "kind":"InvariantViolation","path":"second"},"released":[]}
+    # a mark without a default
+    "root":12,"commands":[["begin_deferred"],["finish_deferred"]]}
+    = 1 {"error":{"command":1,"detail":"u32","kind":"DefaultAttrButNoDefaultImpl","path":""},"released":[]}
+    # a shape that can't be planned
+    "root":9,"commands":[]}
+    = 1 {"error":{"command":0,"detail":"unsupported type for deserialization","kind":"Alloc","path":""},"released":[]}
+    # a shape without a size
+    "root":10,"commands":[]}
+    = 1 {"error":{"command":0,"detail":"type is not sized","kind":"Alloc","path":""},"released":[]}
+    # a number that isn't set
+    "root":0,"commands":[]}
+    = 1 {"error":{"command":0,"detail":"u32","kind":"UninitializedValue","path":""},"released":[]}
+    # an option that isn't set
+    "root":7,"commands":[]}
+    = 1 {"error":{"command":0,"detail":"Maybe","kind":"UninitializedValue","path":""},"released":[]}
+    # an enum that isn't set
+    "root":3,"commands":[]}
+    = 1 {"error":{"command":0,"detail":"Choice","kind":"UninitializedValue","path":""},"released":[]}
+"#;
 
 #[test]
 fn each_text_is_printed(rt: HostRuntime) -> Result<(), Fail> {
-    let alloc = rt.alloc();
-    let shapes = SHAPES;
-    for (root, commands, number, kind, detail, path) in &TEXTS {
-        let document = format!(in alloc; "{shapes}\"root\":{root},\"commands\":[{commands}]}}")?;
-        let place = format!(in alloc; "\"kind\":\"{kind}\",\"path\":\"{path}\"")?;
-        let want = format!(in alloc;
-            "{{\"error\":{{\"command\":{number},\"detail\":\"{detail}\",{place}}},\"released\":[]}}"
-        )?;
-        check(&rt, detail, document.as_bytes(), 1, want.as_str())?;
-    }
-    Ok(())
+    check_each(&rt, SHAPES, 30, REFUSED)
 }

@@ -1,6 +1,6 @@
 //! Tests of what the builder stands on, over public calls alone, as a user's crate makes them:
 //! arenas, paths, tables of shapes, Rust types in them, their lookups, rules and plans, the places of
-//! a value by themselves, forms, devices and the hooks of documents.
+//! a value by themselves, their slots, forms, devices and the hooks of documents.
 #![tactic(auto)]
 
 #[cfg(test)]
@@ -23,6 +23,8 @@ mod path_tests;
 mod place_tests;
 #[cfg(test)]
 mod plan_tests;
+#[cfg(test)]
+mod slot_tests;
 #[cfg(test)]
 mod table_tests;
 #[cfg(test)]

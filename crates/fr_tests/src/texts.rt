@@ -1,9 +1,10 @@
-//! Tables, their plans, and values that tests give as texts. A text that is none ends the test.
+//! Tables, their plans, and values that tests give as texts, and ledgers. A text that is none ends
+//! the test.
 ghost use Rattle.fr_shape.specs.Checked.{IsChecked};
 ghost use Rattle.fr_frame.specs.Completing.{IsPlanFor};
 
 use fr_plan::TypePlanCore;
-use fr_shape::{ShapeId, ShapeTable, Value};
+use fr_shape::{Ledger, ShapeId, ShapeTable, Value};
 use serde_json::Value as Json;
 use std::alloc::{AllocError, Global};
 use std::process::Abort;
@@ -42,6 +43,14 @@ pub fn value_of(rt: &impl Abort, alloc: Global, text: &str) -> Value {
     match fr_doc::value_of(alloc, &json) {
         Ok(Some(value)) => value,
         Ok(None) => panic!(rt; "no value"),
+        Err(_) => panic!(rt; "no memory"),
+    }
+}
+
+/// A ledger of so many tokens.
+pub fn ledger(rt: &impl Abort, alloc: Global, tokens: u32) -> Ledger {
+    match Ledger::new(alloc, tokens) {
+        Ok(ledger) => ledger,
         Err(_) => panic!(rt; "no memory"),
     }
 }

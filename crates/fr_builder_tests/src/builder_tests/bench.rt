@@ -34,6 +34,22 @@ pub type Answer<'t> = Result<Bench<'t>, Refused>;
 /// The same of a call that tells besides whether it entered a place.
 pub type Told<'t> = Result<(Bench<'t>, bool), Refused>;
 
+/// What a call of a bench's builder comes to, beside its ledger: `answer_to!(bench, end())`.
+macro_rules! answer_to {
+    ($bench:expr, $call:ident($($given:expr),*)) => {{
+        let Bench {
+            partial,
+            mut ledger,
+        } = $bench;
+        match partial.$call($($given,)* &mut ledger) {
+            Ok(partial) => Ok(Bench { partial, ledger }),
+            Err(error) => Err(Refused { error, ledger }),
+        }
+    }};
+}
+
+pub(super) use answer_to;
+
 /// The builder after a call that isn't refused.
 pub fn done<'t>(rt: &impl Abort, answer: Answer<'t>) -> Bench<'t> {
     match answer {

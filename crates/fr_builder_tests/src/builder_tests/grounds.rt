@@ -1,11 +1,7 @@
-//! The tables that the tests stand on, read from texts, and their plans.
-ghost use Rattle.fr_shape.specs.Checked.{IsChecked};
-ghost use Rattle.fr_frame.specs.Completing.{IsPlanFor};
-
+//! The tables that the tests stand on, read from texts.
 use super::own_hooks::OwnHooks;
 use fr_doc::shapes_of;
-use fr_plan::TypePlanCore;
-use fr_shape::{ShapeId, ShapeTable};
+use fr_shape::ShapeTable;
 use serde_json::Value as Json;
 use std::alloc::Global;
 use std::marker::Model;
@@ -67,31 +63,5 @@ pub fn ground_over(rt: &impl Abort, table: ShapeTable) -> Ground {
             hooks: OwnHooks,
         },
         Err(_) => panic!(rt; "a rule is broken"),
-    }
-}
-
-/// The table of these shapes, of whatever kind.
-pub fn table_of(rt: &impl Abort, alloc: Global, shapes: &str) -> ShapeTable {
-    let Ok(json) = Json::from_str(alloc, shapes) else {
-        panic!(rt; "no JSON");
-    };
-    match shapes_of(alloc, &json) {
-        Ok(shapes) => ShapeTable::new(alloc, shapes),
-        Err(_) => panic!(rt; "no shapes"),
-    }
-}
-
-/// The plan of the second shape.
-pub fn planned(rt: &impl Abort, alloc: Global, table: &ShapeTable) -> TypePlanCore
-    ensures checked { IsChecked table.now }
-    ensures plan { IsPlanFor table.now result }
-{
-    assert!(rt; table.len() <= u32::MAX as usize && 1 < table.len());
-    let Ok(()) = table.check() else {
-        panic!(rt; "a rule is broken");
-    };
-    match TypePlanCore::from_shape(alloc, table, ShapeId(1)) {
-        Ok(plan) => plan,
-        Err(_) => panic!(rt; "not planned"),
     }
 }

@@ -1,5 +1,7 @@
 //! What a builder tells of itself, at places of each kind and in both modes.
-use super::bench::{Answer, Bench, Refused, abandoned, check_counts, check_value, done, start};
+use super::bench::{
+    Answer, Bench, Refused, abandoned, answer_to, check_counts, check_value, done, start,
+};
 use super::grounds::{Ground, ground_of};
 use super::own_hooks::OwnHooks;
 use fr_partial::{Partial, PlaceView};
@@ -123,25 +125,11 @@ const ROW_COUNT: usize = 56;
 
 impl<'t> Bench<'t> {
     fn select_nth_variant(self, i: usize) -> Answer<'t> {
-        let Bench {
-            partial,
-            mut ledger,
-        } = self;
-        match partial.select_nth_variant(i, &mut ledger) {
-            Ok(partial) => Ok(Bench { partial, ledger }),
-            Err(error) => Err(Refused { error, ledger }),
-        }
+        answer_to!(self, select_nth_variant(i))
     }
 
     fn init_array(self) -> Answer<'t> {
-        let Bench {
-            partial,
-            mut ledger,
-        } = self;
-        match partial.init_array(&mut ledger) {
-            Ok(partial) => Ok(Bench { partial, ledger }),
-            Err(error) => Err(Refused { error, ledger }),
-        }
+        answer_to!(self, init_array())
     }
 
     /// The call of a word, if it is one of a builder's.

@@ -7,8 +7,8 @@ ghost use Rattle.fr_work.specs.Starting.{IsPlanFrom};
 ghost use Rattle.fr_partial.specs.Typed.{HasShape};
 
 use super::bench::{
-    Answer, Bench, Refused, built, check_counts, check_path, check_value, done, fresh, ledger,
-    refusal, shaped, start, with_ledger,
+    Answer, Bench, Refused, answer_to, built, check_counts, check_path, check_value, done, fresh,
+    ledger, refusal, shaped, start, with_ledger,
 };
 use super::grounds::{Ground, ground_of};
 use super::own_hooks::OwnHooks;
@@ -56,149 +56,72 @@ impl<'t> Bench<'t> {
     fn set<U: Facet>(self, rt: &impl Abort, value: U) -> Answer<'t>
         requires { (t : ℕ) → occurs (U.shown value) t ≡ 0 }
     {
-        let Bench {
-            partial,
-            mut ledger,
-        } = self;
-        check_shape::<U>(rt, partial.table());
-        match partial.set(value, &mut ledger) {
-            Ok(partial) => Ok(Bench { partial, ledger }),
-            Err(error) => Err(Refused { error, ledger }),
-        }
+        check_shape::<U>(rt, self.partial.table());
+        answer_to!(self, set(value))
     }
 
     fn set_nth_field<U: Facet>(self, rt: &impl Abort, idx: usize, value: U) -> Answer<'t>
         requires { (t : ℕ) → occurs (U.shown value) t ≡ 0 }
     {
-        let Bench {
-            partial,
-            mut ledger,
-        } = self;
-        check_shape::<U>(rt, partial.table());
-        match partial.set_nth_field(idx, value, &mut ledger) {
-            Ok(partial) => Ok(Bench { partial, ledger }),
-            Err(error) => Err(Refused { error, ledger }),
-        }
+        check_shape::<U>(rt, self.partial.table());
+        answer_to!(self, set_nth_field(idx, value))
     }
 
     fn set_field<U: Facet>(self, rt: &impl Abort, name: &str, value: U) -> Answer<'t>
         requires { (t : ℕ) → occurs (U.shown value) t ≡ 0 }
     {
-        let Bench {
-            partial,
-            mut ledger,
-        } = self;
-        check_shape::<U>(rt, partial.table());
-        match partial.set_field(name, value, &mut ledger) {
-            Ok(partial) => Ok(Bench { partial, ledger }),
-            Err(error) => Err(Refused { error, ledger }),
-        }
+        check_shape::<U>(rt, self.partial.table());
+        answer_to!(self, set_field(name, value))
     }
 
     fn set_key<U: Facet>(self, rt: &impl Abort, value: U) -> Answer<'t>
         requires { (t : ℕ) → occurs (U.shown value) t ≡ 0 }
     {
-        let Bench {
-            partial,
-            mut ledger,
-        } = self;
-        check_shape::<U>(rt, partial.table());
-        match partial.set_key(value, &mut ledger) {
-            Ok(partial) => Ok(Bench { partial, ledger }),
-            Err(error) => Err(Refused { error, ledger }),
-        }
+        check_shape::<U>(rt, self.partial.table());
+        answer_to!(self, set_key(value))
     }
 
     fn set_value<U: Facet>(self, rt: &impl Abort, value: U) -> Answer<'t>
         requires { (t : ℕ) → occurs (U.shown value) t ≡ 0 }
     {
-        let Bench {
-            partial,
-            mut ledger,
-        } = self;
-        check_shape::<U>(rt, partial.table());
-        match partial.set_value(value, &mut ledger) {
-            Ok(partial) => Ok(Bench { partial, ledger }),
-            Err(error) => Err(Refused { error, ledger }),
-        }
+        check_shape::<U>(rt, self.partial.table());
+        answer_to!(self, set_value(value))
     }
 
     fn push<U: Facet>(self, rt: &impl Abort, value: U) -> Answer<'t>
         requires { (t : ℕ) → occurs (U.shown value) t ≡ 0 }
     {
-        let Bench {
-            partial,
-            mut ledger,
-        } = self;
-        check_shape::<U>(rt, partial.table());
-        match partial.push(value, &mut ledger) {
-            Ok(partial) => Ok(Bench { partial, ledger }),
-            Err(error) => Err(Refused { error, ledger }),
-        }
+        check_shape::<U>(rt, self.partial.table());
+        answer_to!(self, push(value))
     }
 
     fn insert<U: Facet>(self, rt: &impl Abort, value: U) -> Answer<'t>
         requires { (t : ℕ) → occurs (U.shown value) t ≡ 0 }
     {
-        let Bench {
-            partial,
-            mut ledger,
-        } = self;
-        check_shape::<U>(rt, partial.table());
-        match partial.insert(value, &mut ledger) {
-            Ok(partial) => Ok(Bench { partial, ledger }),
-            Err(error) => Err(Refused { error, ledger }),
-        }
+        check_shape::<U>(rt, self.partial.table());
+        answer_to!(self, insert(value))
     }
 
     fn begin_set(self) -> Answer<'t> {
-        let Bench {
-            partial,
-            mut ledger,
-        } = self;
-        match partial.init_set(&mut ledger) {
-            Ok(partial) => Ok(Bench { partial, ledger }),
-            Err(error) => Err(Refused { error, ledger }),
-        }
+        answer_to!(self, init_set())
     }
 
     /// `set_from_peek` of a number, whose shape is the first.
     fn set_from_peek(self, rt: &impl Abort, n: u128) -> Answer<'t> {
-        let Bench {
-            partial,
-            mut ledger,
-        } = self;
-        let number = shaped(rt, &partial, 0, Value::Nat(n));
-        match partial.set_from_peek(number, &mut ledger) {
-            Ok(partial) => Ok(Bench { partial, ledger }),
-            Err(error) => Err(Refused { error, ledger }),
-        }
+        let number = shaped(rt, &self.partial, 0, Value::Nat(n));
+        answer_to!(self, set_from_peek(number))
     }
 
     /// `set_from_function`, of a function that returns a number.
     fn set_from_function(self, rt: &impl Abort, n: u128) -> Answer<'t> {
-        let Bench {
-            partial,
-            mut ledger,
-        } = self;
-        let number = shaped(rt, &partial, 0, Value::Nat(n));
-        match partial.set_from_function(move || Ok(number), &mut ledger) {
-            Ok(partial) => Ok(Bench { partial, ledger }),
-            Err(error) => Err(Refused { error, ledger }),
-        }
+        let number = shaped(rt, &self.partial, 0, Value::Nat(n));
+        answer_to!(self, set_from_function(move || Ok(number)))
     }
 
     /// The same of a function that refuses to.
     fn set_from_refusal(self) -> Answer<'t> {
-        let Bench {
-            partial,
-            mut ledger,
-        } = self;
         let refuse = || Err(ReflectErrorKind::UninitializedValue { shape: ShapeId(5) });
-        match partial.set_from_function(refuse, &mut ledger) {
-            Ok(partial) => Ok(Bench { partial, ledger }),
-            Err(error) => Err(Refused { error, ledger }),
-        }
+        answer_to!(self, set_from_function(refuse))
     }
 }
 

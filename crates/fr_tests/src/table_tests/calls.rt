@@ -1,6 +1,6 @@
 //! Each call that allocates, with ample memory, a text of each kind of refusal, and the hooks that
 //! do nothing.
-use crate::texts::table_of;
+use crate::texts::{ledger, table_of};
 use fr_shape::*;
 use std::alloc::Global;
 use std::process::Abort;
@@ -28,13 +28,6 @@ fn pushes(rt: HostRuntime) {
     let mut items = Items::new(rt.alloc());
     assert!(rt; items.push(7u32).is_ok());
     assert!(rt; items.get(0) == Some(&7) && items.get(1).is_none());
-}
-
-fn two_tokens(rt: &impl Abort, alloc: Global) -> Ledger {
-    match Ledger::new(alloc, 2) {
-        Ok(ledger) => ledger,
-        Err(_) => panic!(rt; "no memory"),
-    }
 }
 
 /// Whether the tokens of a ledger are two, and were released so often.
@@ -102,7 +95,7 @@ fn check_does_nothing<H: Hooks>(
 #[test]
 fn no_hooks_release(rt: HostRuntime) {
     let table = table_of(&rt, rt.alloc(), BYTE);
-    let mut ledger = two_tokens(&rt, rt.alloc());
+    let mut ledger = ledger(&rt, rt.alloc(), 2);
     check_does_nothing(&rt, &NoHooks, rt.alloc(), &table, &mut ledger);
     assert!(rt; has_counts(&ledger, 0, 1));
 }

@@ -1,5 +1,5 @@
-use Rattle.fr_builder_tests.proofs.TokenlessSlots.{room_at}
-use Rattle.fr_builder_tests.proofs.builder_tests.slots.release.Goals as goal
+use Rattle.fr_tests.proofs.TokenlessSlots.{room_at}
+use Rattle.fr_tests.proofs.slot_tests.release.Goals as goal
 
 pub release_frame-requires-clause-room : goal.release_frame-requires-clause-room
 release_frame-requires-clause-room g c =

@@ -11,8 +11,7 @@ ghost use Rattle.fr_frame.specs.Changes.{IfInUse, IsInUse};
 ghost use Rattle.fr_frame.specs.Heap.{body_of, heap_of, held_by, slots_occur};
 ghost use Rattle.fr_frame.specs.Outlines.{is_list_body};
 
-use super::bench::ledger;
-use super::grounds::{planned, table_of};
+use crate::texts::{ledger, planned, table_of};
 use fr_frame::{ChildWay, FrameOwner, ItemsKind, PartialValue, SlotId, Slots, Taker, Tracker};
 use fr_plan::{NodeId, TypePlanCore};
 use fr_shape::{Items, Ledger, ShapeTable, Value};

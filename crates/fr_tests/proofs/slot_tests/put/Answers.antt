@@ -2,8 +2,8 @@ use Rattle.std.proofs.Common.{ℕ, ◌+◌, arith}
 use Rattle.fr_shape.specs.Tokens.{occurs}
 use Rattle.fr_shape.specs.View.{view}
 use Rattle.fr_frame.specs.Heap.{heap_of, slots_occur}
-use Rattle.fr_builder_tests.proofs.TokenlessSlots.{none_after, room_at}
-use Rattle.fr_builder_tests.proofs.builder_tests.slots.put.Goals as goal
+use Rattle.fr_tests.proofs.TokenlessSlots.{none_after, room_at}
+use Rattle.fr_tests.proofs.slot_tests.put.Goals as goal
 
 pub put-requires-clause-room : goal.put-requires-clause-room
 put-requires-clause-room g c =

@@ -1,8 +1,8 @@
 use Rattle.std.specs.Prelude.{IsSome}
 use Rattle.fr_frame.specs.Bodies.{value_of}
 use Rattle.fr_frame.specs.Heap.{Node, heap_of}
-use Rattle.fr_builder_tests.proofs.TokenlessSlots.{is_there, room_at}
-use Rattle.fr_builder_tests.proofs.builder_tests.slots.hand_up.Goals as goal
+use Rattle.fr_tests.proofs.TokenlessSlots.{is_there, room_at}
+use Rattle.fr_tests.proofs.slot_tests.hand_up.Goals as goal
 
 pub hand_over-requires-clause-room : goal.hand_over-requires-clause-room
 hand_over-requires-clause-room g c =
