@@ -1,5 +1,5 @@
 -- The first shape that passes a test, by its number in the whole table and as an id can name it.
-use Rattle.std.proofs.Common.{◌≡◌, ℕ, ◌+◌, ◌^◌, suc, zero, min, Bool, true, false, cond, not, [], ◌∷◌, length, take, nat_lt, Some, None, ap, ◌∙◌, arith}
+use Rattle.std.proofs.Common.{◌≡◌, ℕ, ◌+◌, ◌^◌, suc, zero, min, Bool, true, false, cond, not, [], ◌∷◌, length, take, nat_lt, Some, None, arith}
 use Rattle.std.specs.List.{position, prefix_len}
 use Rattle.std.specs.Option.{option_and_then}
 use Rattle.std.proofs.lemmas.Bool.Decides.{nat_tests}

@@ -1,4 +1,5 @@
 mod FirstLaws
 mod ListLaws
+mod PassedOver
 mod StructParts
 mod StructsInStep

@@ -6,7 +6,7 @@ use Rattle.std.specs.Borrow.{Bor}
 use Rattle.std.specs.Option.{option_map}
 use Rattle.fr_shape.specs.declared.shape.Field.{Field}
 use Rattle.fr_shape.specs.declared.shape.ShapeId.{ShapeId}
-use Rattle.fr_facet.specs.Structs.{Names, are_fields, is_field, names_of}
+use Rattle.fr_facet.specs.Structs.{are_fields, is_field, names_of}
 
 abbrev Wanted : Type 0
 Wanted = Bor (List ℕ) × Option ShapeId
