@@ -2,4 +2,3 @@ pub mod ArrayRows
 pub mod DefaultRows
 pub mod LastChild
 pub mod OneTokenItems
-pub mod OwnPlans

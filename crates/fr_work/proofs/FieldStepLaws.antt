@@ -1,13 +1,13 @@
 -- Steps to fields: the place that a step leads to is a field just where the step says so.
-use Rattle.std.proofs.Common.{Bor, ◌≡◌, ℕ, zero, suc, ◌<◌, Bool, true, false, ◌||◌, List, [], ◌∷◌, length, Option, Some, None, is_some, slice_get, refl, sym, ◌∙◌, ap, subst, arith}
+use Rattle.std.proofs.Common.{Bor, ◌≡◌, ℕ, zero, suc, ◌<◌, Bool, true, false, ◌||◌, List, [], ◌∷◌, length, Option, Some, None, is_some, slice_get, refl, sym, ◌∙◌, ap, arith}
 use Rattle.std.specs.Option.{option_and_then, option_copied, option_or}
 use Rattle.std.specs.Prelude.{if◌then◌else◌, ◌↔◌, IsNone}
-use Rattle.fr_work.specs.Common.{ContentKind, Def, EntriesKind, Field, IsFullAs, ItemsKind, Leads, Mode, OffBut, PathStep, Place, Site, State, Suits, Table, Tracker, Tree, Trees, VariantDef, as_content, as_elements, as_entries, as_fields, as_items, begun, branch, child_as, child_tree, count_trees, def_of, entered, hole, no_trees, path_of, selected, shape_at, step_as, tree_nth, whole, cursor_tree, IsInOrder}
+use Rattle.fr_work.specs.Common.{ContentKind, Def, EntriesKind, Field, IsFullAs, ItemsKind, Leads, Mode, OffBut, PathStep, Place, Site, State, Suits, Table, Tracker, Tree, Trees, VariantDef, as_content, as_elements, as_entries, as_fields, as_items, begun, branch, child_as, count_trees, def_of, entered, hole, no_trees, path_of, selected, shape_at, step_as, tree_nth, whole, cursor_tree, IsInOrder}
 use Rattle.fr_shape.specs.Look.{field_in, field_of_variant, variants_of}
 use Rattle.fr_model.specs.Paths.{steps_in}
 use Rattle.fr_model.specs.Places.{is_key}
 use Rattle.fr_model.specs.Trackers.{Conversion, Through}
-use Rattle.fr_model.specs.Tree.{cursor_field, field_along, field_as, field_below, shape_below}
+use Rattle.fr_model.specs.Tree.{cursor_field, field_along, field_as}
 use Rattle.fr_model.specs.Well.{HasFields, HasFieldsOf}
 use Rattle.fr_work.specs.Readings.{ends_in_field, has_field_step, is_field_step, nearest_along, nearest_field, variant_here}
 use Rattle.fr_work.proofs.ContentLaws.{full_here}

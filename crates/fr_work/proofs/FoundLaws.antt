@@ -1,5 +1,5 @@
 -- A field that is found by its name in a plan, of the place of a definition.
-use Rattle.std.proofs.Common.{◌≡◌, ℕ, Bool, true, false, List, [], Option, Some, None, is_some, slice_get, refl, sym, ◌∙◌, ap, subst}
+use Rattle.std.proofs.Common.{◌≡◌, ℕ, false, List, [], Option, Some, None, is_some, slice_get, refl, sym, subst}
 use Rattle.std.specs.Option.{option_map_or}
 use Rattle.fr_shape.specs.declared.shape.Def.{Def}
 use Rattle.fr_shape.specs.declared.shape.Field.{Field}
@@ -9,7 +9,6 @@ use Rattle.fr_rules.specs.Entries.{entries_of, first_named}
 use Rattle.fr_rules.specs.FieldLookups.{IsLookupOf}
 use Rattle.fr_rules.specs.Pools.{Pool}
 use Rattle.fr_rules.specs.declared.field_lookups.FieldLookup.{FieldLookup}
-use Rattle.fr_plan.specs.Fields.{fields_in, own_fields}
 use Rattle.fr_work.specs.Readings.{field_number, is_struct}
 
 pub in_pool : (pool there : Pool) (lookup : FieldLookup) (fields : List Field) → pool ≡ there

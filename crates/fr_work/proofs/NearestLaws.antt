@@ -1,14 +1,14 @@
 -- The way up from the place at which a builder works, slot by slot.
-use Rattle.std.proofs.Common.{◌≡◌, ◌+◌, ◌-◌, ◌<◌, Bool, ℕ, zero, suc, length, false, List, [], ◌∷◌, ◌++◌, Option, Some, None, option_map, refl, sym, ◌∙◌, ap, subst, arith}
+use Rattle.std.proofs.Common.{◌≡◌, ◌+◌, ◌-◌, ◌<◌, Bool, ℕ, suc, length, false, List, [], ◌∷◌, ◌++◌, Option, Some, None, option_map, refl, sym, ◌∙◌, ap, subst, arith}
 use Rattle.std.specs.Option.{option_or}
 use Rattle.std.proofs.lemmas.List.{append-nil, append_assoc}
-use Rattle.fr_work.specs.Common.{Along, Body, Def, Field, FrameOwner, IsLast, IsOfShape, IsOpen, Kid, LookupPathsAgree, LookupsAgree, Node, NodeId, Place, Plan, Plot, ShapeId, Slot, Table, Tree, Trees, TypePlanNode, at, begun, begun_plot, body_in, body_of, child_tree, cursor_in, def_of, entered_plot, gone, heap_of, is_root, kid_shown, node_along, open_top, own_tree, shape_in, tree_at, tree_in, tree_of, whole_plot}
+use Rattle.fr_work.specs.Common.{Along, Body, Def, Field, FrameOwner, IsLast, IsOfShape, IsOpen, Kid, LookupPathsAgree, LookupsAgree, Node, NodeId, Place, Plan, Plot, ShapeId, Slot, Table, Tree, TypePlanNode, at, begun_plot, body_in, body_of, child_tree, cursor_in, def_of, entered_plot, gone, heap_of, is_root, kid_shown, node_along, open_top, own_tree, shape_in, tree_at, tree_in, tree_of, whole_plot}
 use Rattle.fr_frame.specs.declared.places.Place.{Place as Entry}
 use Rattle.fr_frame.specs.declared.places.SlotId.{SlotId}
 use Rattle.fr_frame.specs.Heap.{node_of}
 use Rattle.fr_frame.specs.Kids.{Holds, child_owner, there}
 use Rattle.fr_frame.specs.OutlineLaws.{found_outline, none_found as no_outline}
-use Rattle.fr_frame.specs.Outlines.{outline, outlined}
+use Rattle.fr_frame.specs.Outlines.{outlined}
 use Rattle.fr_model.specs.Tree.{field_below, shape_below}
 use Rattle.fr_plan.specs.Lookups.{node_at}
 use Rattle.fr_plan.specs.ReachLaws.{NodesAreReached, ReachedHaveNodes}

@@ -1,5 +1,5 @@
 -- The plan's node of the place at which a builder works: as its slots tell it, and as the tree does, by whichever plan of what is built.
-use Rattle.std.proofs.Common.{◌≡◌, ℕ, Bool, true, false, [], ◌∷◌, Option, Some, None, option_map, refl, sym, ◌∙◌, ap}
+use Rattle.std.proofs.Common.{◌≡◌, ℕ, Bool, true, false, [], ◌∷◌, Option, Some, None, option_map, refl, ◌∙◌, ap}
 use Rattle.std.specs.Option.{option_and_then}
 use Rattle.std.specs.Prelude.{unwrap_or}
 use Rattle.fr_work.specs.Common.{ContentKind, EntriesKind, IsChecked, IsIn, IsPlanOf, ItemsKind, Kid, LookupsAgree, NodeId, Place, Plan, ShapeId, Table, Tracker, Tree, as_content, as_elements, as_entries, as_fields, as_items, at, begun, begun_plot, child_node, entered_plot, gone, node_along, tree_of, whole_plot, State}

@@ -1,5 +1,5 @@
 -- Where the plans of the fields of a place lie.
-use Rattle.std.proofs.Common.{◌≡◌, ℕ, Bool, true, false, ◌||◌, Option, Some, None, is_some, option_map, slice_get, refl, sym, ◌∙◌, ap, subst}
+use Rattle.std.proofs.Common.{◌≡◌, ℕ, Bool, true, false, ◌||◌, Option, Some, None, is_some, option_map, slice_get, refl, ◌∙◌, subst}
 use Rattle.std.specs.Option.{option_and_then}
 use Rattle.fr_arena.specs.Ranges.{Range}
 use Rattle.fr_shape.specs.declared.shape.Def.{Def}

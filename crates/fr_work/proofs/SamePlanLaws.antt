@@ -1,5 +1,5 @@
 -- Two plans of one root over one checked table have their nodes under the same numbers.
-use Rattle.std.proofs.Common.{◌≡◌, ℕ, zero, suc, ◌<◌, arith, length, Bool, true, false, List, [], ◌∷◌, Option, Some, None, Ok, is_some, option_map, slice_get, unwrap_or, refl, sym, ◌∙◌, ap, subst}
+use Rattle.std.proofs.Common.{◌≡◌, ℕ, zero, suc, ◌<◌, arith, length, Bool, true, false, List, [], ◌∷◌, Option, Some, None, is_some, option_map, slice_get, unwrap_or, refl, sym, ◌∙◌, ap, subst}
 use Rattle.std.specs.List.{AllZip}
 use Rattle.std.specs.Option.{option_and_then}
 use Rattle.std.specs.Prelude.{if◌then◌else◌}
@@ -14,10 +14,10 @@ use Rattle.fr_shape.specs.Look.{IsIn, Table, variants_of}
 use Rattle.fr_rules.specs.Pools.{part_of}
 use Rattle.fr_plan.specs.Build.{Made, Placed, fields_from}
 use Rattle.fr_plan.specs.Fields.{own_fields}
-use Rattle.fr_plan.specs.LookupLaws.{BackReferencesResolve, LookupsAgree, Step, child_in, enum_variant_field_step, list_item_step, looked_up, map_key_step, map_value_step, option_inner_step, pointer_pointee_step, result_err_step, result_ok_step, set_item_step, shape_at, struct_field_step}
-use Rattle.fr_plan.specs.Lookups.{by_id, child_at, finished, list_item, map_key, map_value, option_inner, own_id, pointer_pointee, result_err, result_ok, set_item, enum_plan_at, enum_variant, enum_variant_field, field_in_range, node_at, resolved, resolved_id, resolved_id_by, struct_field, struct_plan_at}
+use Rattle.fr_plan.specs.LookupLaws.{BackReferencesResolve, LookupsAgree, Step, child_in, list_item_step, looked_up, map_key_step, map_value_step, option_inner_step, pointer_pointee_step, result_err_step, result_ok_step, set_item_step, shape_at}
+use Rattle.fr_plan.specs.Lookups.{by_id, child_at, finished, list_item, map_key, map_value, option_inner, own_id, pointer_pointee, result_err, result_ok, set_item, enum_variant_field, field_in_range, node_at, resolved, resolved_id, resolved_id_by, struct_field}
 use Rattle.fr_plan.specs.Nodes.{IsKindOf, IsNode, IsOwnKind, enum_plan_of, struct_plan_of}
-use Rattle.fr_plan.specs.Plans.{IsFieldPlan, IsVariantPlan, Names, NamesFields, PlacedVariant, nth_node, variants_from}
+use Rattle.fr_plan.specs.Plans.{IsFieldPlan, IsVariantPlan, NamesFields, PlacedVariant, nth_node, variants_from}
 use Rattle.fr_plan.specs.TypePlan.{IsPlanOf, Plan}
 use Rattle.fr_plan.specs.declared.nodes.NodeId.{NodeId}
 use Rattle.fr_plan.specs.declared.nodes.TypePlanNode.{TypePlanNode}

@@ -2,12 +2,12 @@
 use Rattle.std.proofs.Common.{◌≡◌, ℕ, suc, zero, ◌∷◌, Bool, true, false, List, [], length, Option, Some, None, not, option_map, is_some, refl, sym, ◌∙◌, ap, arith, slice_get}
 use Rattle.std.specs.Option.{option_and_then}
 use Rattle.std.specs.Prelude.{◌≤◌}
-use Rattle.fr_work.specs.Common.{Body, Cell, Field, IsLast, IsOpen, Kid, Node, NodeId, Plan, Plot, Slot, Table, Tracker, Tree, absent, as_content, as_elements, as_entries, as_fields, as_items, at, begun, begun_body, begun_plot, body_in, body_of, entered_body, entered_plot, given, gone, heap_of, hole, open_top, placed, Val, tree_here, tree_in, tree_nth, tree_of, trees_in, whole_body, whole_plot}
+use Rattle.fr_work.specs.Common.{Body, Cell, Field, IsLast, IsOpen, Node, NodeId, Plan, Plot, Slot, Table, Tracker, Tree, absent, as_content, as_elements, as_entries, as_fields, as_items, at, begun_body, begun_plot, body_in, body_of, entered_body, entered_plot, given, gone, heap_of, hole, open_top, placed, Val, tree_here, tree_in, tree_nth, trees_in, whole_body, whole_plot}
 use Rattle.fr_model.specs.Collections.{is_hole}
 use Rattle.fr_frame.specs.declared.places.Place.{Place as Entry}
 use Rattle.fr_frame.specs.Heap.{Heap}
 use Rattle.fr_frame.specs.Kids.{HoldsAll, HoldsIn, Kids, cells_in, kid, no_kids, there}
-use Rattle.fr_frame.specs.Outlines.{has_items, outline}
+use Rattle.fr_frame.specs.Outlines.{outline}
 use Rattle.fr_values.specs.Cells.{slot_in_cells, slot_of_cell, value_at, value_of_cell}
 use Rattle.fr_work.specs.PlaceTold.{AreFound, HasFound, Says, seen_child, seen_children, seen_tree}
 use Rattle.fr_work.specs.Readings.{field_set, is_set_at}

@@ -2,15 +2,15 @@
 use Rattle.std.proofs.Common.{◌≡◌, ℕ, zero, suc, ◌+◌, ◌<◌, arith, Bool, true, false, ◌&&◌, List, [], ◌∷◌, length, Option, Some, None, is_some, option_map, slice_get, drop, refl, sym, ◌∙◌, ap}
 use Rattle.std.specs.Option.{option_and_then}
 use Rattle.std.specs.Prelude.{if◌then◌else◌}
-use Rattle.fr_work.specs.Common.{Body, Cell, ContentKind, Kid, Node, Plot, Slot, Tracker, Tree, Val, absent, as_content, as_elements, as_entries, as_fields, as_items, at, begun, begun_body, begun_plot, body_in, body_of, entered, entered_body, entered_plot, given, gone, heap_of, hole, placed, tree_in, tree_of, trees_in, whole, whole_body, whole_plot}
+use Rattle.fr_work.specs.Common.{Body, Cell, Kid, Node, Plot, Slot, Tracker, Tree, Val, absent, as_content, as_elements, as_entries, as_fields, as_items, at, begun, begun_body, begun_plot, body_in, body_of, entered, entered_body, entered_plot, given, gone, heap_of, hole, placed, tree_in, tree_of, trees_in, whole, whole_body, whole_plot}
 use Rattle.fr_frame.specs.declared.places.Place.{Place as Entry}
 use Rattle.fr_frame.specs.Heap.{Heap, node_of}
 use Rattle.fr_frame.specs.Kids.{Kids, cell_of, cells_in, kid, no_kids, there}
 use Rattle.fr_frame.specs.OutlineLaws.{none_found}
-use Rattle.fr_frame.specs.Outlines.{has_items, outline, outlined}
+use Rattle.fr_frame.specs.Outlines.{outline, outlined}
 use Rattle.fr_values.specs.Cells.{slot_of_cell, value_of_cell}
 use Rattle.fr_work.specs.PlaceTold.{AreFound, HasFound, IsFound, Says}
-use Rattle.fr_work.specs.PlaceViews.{Initialized, all_valued, and_value, and_whole, child_value, child_values, has_parts, initialized, initialized_in, is_initialized, seen_begun, seen_in, whole_in, whole_of, whole_values}
+use Rattle.fr_work.specs.PlaceViews.{all_valued, and_value, and_whole, child_value, child_values, has_parts, initialized, initialized_in, is_initialized, seen_begun, seen_in, whole_in, whole_of, whole_values}
 
 -- The place in a slot.
 

@@ -1,5 +1,5 @@
 -- What a plan has of the place at which a builder works. Only the contracts inside this crate speak of it.
-use Rattle.std.specs.Prelude.{◌≡◌, ℕ, ◌+◌, ◌<◌, ◌≤◌, length, List, Option, Some, None, is_some, slice_get}
+use Rattle.std.specs.Prelude.{◌≡◌, ℕ, ◌+◌, ◌<◌, ◌≤◌, length, List, Some, None, is_some, slice_get}
 use Rattle.fr_arena.specs.Ranges.{Range}
 use Rattle.fr_rules.specs.Entries.{entries_of}
 use Rattle.fr_rules.specs.FieldLookups.{IsLookupOf}

@@ -1,5 +1,5 @@
 -- Which calls begin a conversion.
-use Rattle.std.specs.Prelude.{◌≡◌, ℕ, List, Bool, Option, None, Result, Ok, Err}
+use Rattle.std.specs.Prelude.{◌≡◌, ℕ, List, Option, None, Ok}
 use Rattle.fr_shape.specs.Hooks.{Meanings}
 use Rattle.fr_model.specs.Commands.{Call}
 use Rattle.fr_model.specs.Scripts.{value_brought}

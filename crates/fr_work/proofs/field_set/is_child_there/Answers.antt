@@ -1,4 +1,4 @@
-use Rattle.std.proofs.Common.{ap, is_some, sym, ◌∙◌, arith}
+use Rattle.std.proofs.Common.{ap, is_some, ◌∙◌, arith}
 use Rattle.fr_work.proofs.ToldLaws.{given_there, past_end, placed_there}
 use Rattle.fr_work.proofs.field_set.is_child_there.Goals as goal
 

@@ -1,4 +1,4 @@
-use Rattle.std.proofs.Common.{◌≡◌, ◌+◌, ◌∙◌, ℕ, List, ap, subst, sym}
+use Rattle.std.proofs.Common.{◌+◌, ◌∙◌, ℕ, List, ap, subst, sym}
 use Rattle.fr_shape.specs.Look.{Table}
 use Rattle.fr_shape.specs.Released.{Room, RoseBy}
 use Rattle.fr_shape.specs.TokenLaws.{Room_conserved}

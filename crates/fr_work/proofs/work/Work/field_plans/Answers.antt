@@ -1,7 +1,5 @@
-use Rattle.std.proofs.Common.{◌≡◌, ℕ, Option, ap, is_some, ◌||◌, ◌∙◌}
-use Rattle.fr_work.specs.Common.{def_of, shape_at}
-use Rattle.fr_work.specs.Readings.{field_range_at, is_struct}
-use Rattle.fr_moves.specs.Sites.{tree_at_site}
+use Rattle.std.proofs.Common.{ℕ, Option, ap, is_some, ◌∙◌}
+use Rattle.fr_work.specs.Readings.{field_range_at}
 use Rattle.fr_work.proofs.FieldStepLaws.{chosen_here}
 use Rattle.fr_work.proofs.RangeLaws.{range_there, range_within}
 use Rattle.fr_work.proofs.work.Work.field_plans.Goals as goal
