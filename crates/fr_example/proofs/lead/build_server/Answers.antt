@@ -68,16 +68,16 @@ before-build c =
 
 -- What the calls ask
 
-pub begin_field-requires-clause-room : goal.begin_field-requires-clause-room
-begin_field-requires-clause-room c =
+pub begin_field-requires : goal.begin_field-requires
+begin_field-requires c =
     let start = starts c.in_ok-partial.partial c.in_ok-table.table c.args.ledger.now c.in_ok-table.ensures.table c.in_ok-partial.ensures.shapes
     c.in_ok-partial.ensures.root c.in_ok-partial.ensures.state in
-    room (λ t. refl) start
+    record { room = room (λ t. refl) start }
 
-pub init_list-requires-clause-room : goal.init_list-requires-clause-room
-init_list-requires-clause-room c =
-    let at_list = entered (before-begin_field (goal.at.init_list-requires-clause-room c).After-begin_field) c.in_ok-begin_field.ensures.call in
-    room (λ t. refl) at_list
+pub init_list-requires : goal.init_list-requires
+init_list-requires c =
+    let at_list = entered (before-begin_field (goal.at.init_list-requires c).After-begin_field) c.in_ok-begin_field.ensures.call in
+    record { room = room (λ t. refl) at_list }
 
 pub push-requires-clause-shape : goal.push-requires-clause-shape
 push-requires-clause-shape c =
@@ -99,10 +99,10 @@ push-requires-2-clause-room c =
     let one = pushed c.args.ports.0 (before-push (goal.at.push-requires-2-clause-room c).After-push) c.in_ok-push.ensures.calls in
     room_with (λ t. refl) one (nat c.args.ports.1) (λ t. refl)
 
-pub end-requires-clause-room : goal.end-requires-clause-room
-end-requires-clause-room c =
-    let both = pushed_more c.args.ports.0 c.args.ports.1 (before-push-2 (goal.at.end-requires-clause-room c).After-push-2) c.in_ok-partial-3.ensures.calls in
-    room (λ t. refl) both
+pub end-requires : goal.end-requires
+end-requires c =
+    let both = pushed_more c.args.ports.0 c.args.ports.1 (before-push-2 (goal.at.end-requires c).After-push-2) c.in_ok-partial-3.ensures.calls in
+    record { room = room (λ t. refl) both }
 
 pub set_field-requires-clause-shape : goal.set_field-requires-clause-shape
 set_field-requires-clause-shape c =
@@ -114,14 +114,16 @@ set_field-requires-clause-room c =
     let listed = left_list c.args.ports.0 c.args.ports.1 (before-end (goal.at.set_field-requires-clause-room c).After-end) c.in_ok-partial-4.ensures.call in
     room_with (λ t. refl) listed (text (string_bytes c.in-Some.host)) (λ t. refl)
 
-pub build-requires-clause-room : goal.build-requires-clause-room
-build-requires-clause-room c =
-    let listed = left_list c.args.ports.0 c.args.ports.1 (before-end (goal.at.build-requires-clause-room c).After-end) c.in_ok-partial-4.ensures.call in
+pub build-requires : goal.build-requires
+build-requires c =
+    let listed = left_list c.args.ports.0 c.args.ports.1 (before-end (goal.at.build-requires c).After-end) c.in_ok-partial-4.ensures.call in
     elim c.match-host-8.branch [
-      | in-Some+in_ok-partial-5 w ↦ rw (w.partial-is, w.ledger-is)
-          (room (none_with_host (Some (string_bytes w.in-Some.host)) c.args.ports.0 c.args.ports.1)
-          (put_host (string_bytes w.in-Some.host) c.args.ports.0 c.args.ports.1 listed w.in_ok-partial-5.ensures.calls))
-      | in_default w ↦ rw (w.partial-is, w.ledger-is) (room (none_with_host None c.args.ports.0 c.args.ports.1) listed)
+      | in-Some+in_ok-partial-5 w ↦ record {
+        room = rw (w.partial-is, w.ledger-is)
+            (room (none_with_host (Some (string_bytes w.in-Some.host)) c.args.ports.0 c.args.ports.1)
+            (put_host (string_bytes w.in-Some.host) c.args.ports.0 c.args.ports.1 listed w.in_ok-partial-5.ensures.calls));
+      }
+      | in_default w ↦ record { room = rw (w.partial-is, w.ledger-is) (room (none_with_host None c.args.ports.0 c.args.ports.1) listed) }
     ]
 
 -- Where there is no plan, or a call is refused, only memory lacks
@@ -229,11 +231,11 @@ returns-in_err-built c =
 
 -- Where it is built, and read back
 
-pub materialize-requires-clause-room : goal.materialize-requires-clause-room
-materialize-requires-clause-room c =
-    let stands = before-build (goal.at.materialize-requires-clause-room c).After-build in
+pub materialize-requires : goal.materialize-requires
+materialize-requires c =
+    let stands = before-build (goal.at.materialize-requires c).After-build in
     let server = is_server c.args.ports.0 c.args.ports.1 (option_map string_bytes c.args.host) c.in_ok-built.built stands c.in_ok-built.ensures.build in
-    no_room _ _ (server_without_tokens (option_map string_bytes c.args.host) c.args.ports.0 c.args.ports.1 c.in_ok-built.built.value _ server c.into_value.ensures.value)
+    record { room = no_room _ _ (server_without_tokens (option_map string_bytes c.args.host) c.args.ports.0 c.args.ports.1 c.in_ok-built.built.value _ server c.into_value.ensures.value) }
 
 pub returns-in_err-materialize : goal.returns-in_err-materialize
 returns-in_err-materialize c =
