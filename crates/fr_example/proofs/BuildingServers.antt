@@ -1,6 +1,5 @@
 -- A builder of a server that stands for a known state, while nothing was released, and what it comes to.
-use Rattle.std.proofs.Common.{◌≡◌, ◌⊎◌, inl, inr, ℕ, ◌+◌, Bool, List, [], ◌∷◌, Option, Some, None, Result, Ok, Err, IsSome, IsNone, IfErr, IsOkUnless, refl, sym, ◌∙◌, ap, subst, arith}
-use Rattle.std.specs.Result.{IsErrAnd}
+use Rattle.std.proofs.Common.{◌≡◌, ℕ, ◌+◌, Bool, List, Result, Ok, Err, sym, ◌∙◌, ap, subst, arith}
 use Rattle.fr_shape.specs.Hooks.{Meanings}
 use Rattle.fr_shape.specs.Look.{Table}
 use Rattle.fr_shape.specs.Released.{Room}
@@ -13,7 +12,7 @@ use Rattle.fr_model.specs.Scripts.{brings, brought}
 use Rattle.fr_model.specs.Step.{step}
 use Rattle.fr_model.specs.Sequences.{AllLeadTo}
 use Rattle.fr_model.specs.Tree.{State, tree_occurs}
-use Rattle.fr_partial.specs.Builder.{Builder, IsCall, holds, left}
+use Rattle.fr_partial.specs.Builder.{Builder, IsCall, holds}
 use Rattle.fr_partial.specs.Several.{AreCalls, AreSteps}
 use Rattle.fr_partial.specs.Spots.{set_at}
 use Rattle.fr_partial.specs.Typed.{HasShape, own_number}

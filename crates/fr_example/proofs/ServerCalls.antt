@@ -1,5 +1,5 @@
 -- Each call by which a server is built: where it leads, or that memory ran out.
-use Rattle.std.proofs.Common.{◌≡◌, ℕ, ◌+◌, List, ◌∷◌, Result, Ok, Err, refl}
+use Rattle.std.proofs.Common.{ℕ, List, Result, refl}
 use Rattle.std.specs.Prelude.{codes}
 use Rattle.fr_shape.specs.Hooks.{Meanings}
 use Rattle.fr_shape.specs.Val.{nat, text}

@@ -1,5 +1,5 @@
 -- How a server is built: the state of its builder after each of its calls, and what is built in the end.
-use Rattle.std.proofs.Common.{◌≡◌, ℕ, List, [], ◌∷◌, Some, None, Ok, Err, refl}
+use Rattle.std.proofs.Common.{◌≡◌, ℕ, List, [], ◌∷◌, None, Ok, Err, refl}
 use Rattle.std.specs.Prelude.{codes}
 use Rattle.fr_shape.specs.declared.error.ReflectErrorKind.{ReflectErrorKind}
 use Rattle.fr_shape.specs.Hooks.{Meanings}
@@ -10,7 +10,7 @@ use Rattle.fr_model.specs.Run.{alloc_refusal}
 use Rattle.fr_model.specs.Sequences.{AllLeadTo}
 use Rattle.fr_model.specs.Step.{step, build}
 use Rattle.fr_model.specs.Trackers.{as_fields, as_items, ItemsKind}
-use Rattle.fr_model.specs.Tree.{State, Tree, Trees, hole, entered, whole, begun, no_trees, branch, strict, initial, tree_occurs}
+use Rattle.fr_model.specs.Tree.{State, Tree, hole, entered, whole, begun, no_trees, branch, strict, initial, tree_occurs}
 use Rattle.fr_partial.specs.Spots.{set_at}
 use Rattle.fr_example.specs.Servers.{server_table}
 use Rattle.fr_example.specs.Unbuilt.{host_field}

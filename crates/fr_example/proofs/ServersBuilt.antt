@@ -1,5 +1,5 @@
 -- What the builder of a server begins with and comes to, and what is told where it comes to no server.
-use Rattle.std.proofs.Common.{◌≡◌, ◌⊎◌, inl, inr, ℕ, ◌+◌, Bool, true, false, List, [], ◌∷◌, map, Option, Some, None, Result, Ok, Err, IsSome, IsNone, IfErr, IsOkUnless, refl, sym, ◌∙◌, ap, subst, arith}
+use Rattle.std.proofs.Common.{◌≡◌, ◌⊎◌, inl, inr, ℕ, Bool, true, false, List, [], ◌∷◌, Option, Some, None, Result, Ok, Err, IsSome, IsNone, IfErr, refl, sym, ◌∙◌, ap, arith}
 use Rattle.std.proofs.lemmas.List.{ext_get_or}
 use Rattle.std.proofs.lemmas.Result.{err_from_is_err_and}
 use Rattle.std.specs.Option.{option_map}
@@ -9,9 +9,7 @@ use Rattle.fr_shape.specs.Hooks.{Meanings}
 use Rattle.fr_shape.specs.Look.{Table}
 use Rattle.fr_shape.specs.Released.{RoseBy}
 use Rattle.fr_shape.specs.Tokens.{occurs}
-use Rattle.fr_shape.specs.Val.{Val, Vals, nat, text, product, list_of, first, no_vals}
-use Rattle.fr_shape.specs.View.{vals_of}
-use Rattle.fr_shape.specs.declared.error.AllocError.{AllocError}
+use Rattle.fr_shape.specs.Val.{Val, nat, text, product, list_of, first, no_vals}
 use Rattle.fr_shape.specs.declared.error.PlanError.{PlanError}
 use Rattle.fr_shape.specs.declared.error.ReflectErrorKind.{ReflectErrorKind}
 use Rattle.fr_shape.specs.declared.shape.ScalarKind.{ScalarKind}
@@ -22,7 +20,7 @@ use Rattle.fr_facet.specs.declared.facet.FacetFault.{FacetFault}
 use Rattle.fr_model.specs.Paths.{path_of}
 use Rattle.fr_model.specs.Run.{alloc_refusal}
 use Rattle.fr_model.specs.Step.{build}
-use Rattle.fr_model.specs.Tree.{State, initial, tree_occurs}
+use Rattle.fr_model.specs.Tree.{State, initial}
 use Rattle.fr_partial.specs.Builder.{Builder, IsBuild, meaning_of_build}
 use Rattle.fr_partial.specs.Typed.{own_number}
 use Rattle.fr_work.specs.BuiltValue.{BuiltValue}
@@ -34,7 +32,6 @@ use Rattle.fr_example.specs.declared.lead.Unbuilt.{Unbuilt}
 use Rattle.fr_example.proofs.BuildingServers.{HoldsNone, Stands, none_held}
 use Rattle.fr_example.proofs.ServerSteps.{ports_value, listed, hosted, planned, builds, misses_host}
 use Rattle.fr_example.proofs.ServerTable.{server_own, server_number}
-use Rattle.fr_example.proofs.StandingAt.{IsAt}
 use Rattle.fr_example.proofs.TextsWithoutTokens.{stays}
 
 -- The beginning

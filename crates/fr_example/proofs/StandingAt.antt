@@ -1,5 +1,5 @@
 -- A builder whose state is known, and what it is after calls that are admitted there.
-use Rattle.std.proofs.Common.{◌≡◌, ◌⊎◌, inl, inr, ℕ, ◌+◌, ◌++◌, List, [], ◌∷◌, Result, Ok, Err, refl, sym, ◌∙◌, ap, subst}
+use Rattle.std.proofs.Common.{◌≡◌, ◌⊎◌, inl, inr, ℕ, ◌++◌, List, [], ◌∷◌, Result, Ok, Err, sym, ◌∙◌, ap, subst}
 use Rattle.fr_shape.specs.Hooks.{Meanings}
 use Rattle.fr_shape.specs.Look.{Table}
 use Rattle.fr_shape.specs.declared.error.ReflectErrorKind.{ReflectErrorKind}
@@ -8,7 +8,7 @@ use Rattle.fr_model.specs.Step.{step}
 use Rattle.fr_model.specs.Sequences.{AllLeadTo, IsAdmittedThen}
 use Rattle.fr_model.specs.Tree.{State, tree_occurs}
 use Rattle.fr_partial.specs.Builder.{Builder, IsStep, holds}
-use Rattle.fr_partial.specs.Several.{AreSteps, StopsAtOne}
+use Rattle.fr_partial.specs.Several.{AreSteps}
 use Rattle.fr_work.specs.declared.reflect_error.ReflectError.{ReflectError}
 
 -- the builder stands for this state, at this root of this table

@@ -1,4 +1,4 @@
-use Rattle.std.proofs.Common.{Option, Some, None, string_bytes, refl, ◌∙◌}
+use Rattle.std.proofs.Common.{Some, None, string_bytes, refl, ◌∙◌}
 use Rattle.std.proofs.lemmas.Result.{err_from_is_err_and}
 use Rattle.std.specs.Option.{option_map}
 use Rattle.fr_shape.specs.Val.{nat, text}
