@@ -18,3 +18,8 @@ pub mod Sized
 pub mod Slots
 pub mod TextsWithoutTokens
 pub mod ToldOnce
+pub mod BuildingServers
+pub mod ServerCalls
+pub mod ServerSteps
+pub mod ServersBuilt
+pub mod StandingAt

@@ -1,5 +1,5 @@
 -- The table of a server is what a builder asks of one.
-use Rattle.std.proofs.Common.{◌≡◌, ◌<◌, ◌^◌, ℕ, zero, suc, Bool, true, List, [], ◌∷◌, Some, None, slice_get, codes, zip, IsSome, refl, sym, ap, ◌∙◌, subst, arith}
+use Rattle.std.proofs.Common.{◌≡◌, ◌<◌, ◌^◌, ℕ, zero, suc, Bool, true, List, [], ◌∷◌, Option, Some, None, unwrap_or, slice_get, codes, zip, IsSome, refl, sym, ap, ◌∙◌, subst, arith}
 use Rattle.fr_shape.specs.declared.shape.VariantDef.{VariantDef}
 use Rattle.fr_shape.specs.Checked.{IsChecked, EachKeeps, ids_in_range, name_is_new, parts_are_sized, variants_apart, validators_suit, templates_fit, conversion_suits, hooks_in_range, option_preset_is_none}
 use Rattle.fr_shape.specs.Numbered.{IsNumbered, field_count}
@@ -12,6 +12,7 @@ use Rattle.fr_facet.specs.Facets.{first_own}
 use Rattle.fr_facet.specs.Nameable.{nameable}
 use Rattle.fr_facet.specs.Own.{is_list_of, is_scalar_of}
 use Rattle.fr_facet.specs.Structs.{is_struct_of}
+use Rattle.fr_partial.specs.Typed.{HasShape, own_number}
 use Rattle.fr_example.specs.Servers.{server_fields, server_shape, server_table}
 
 some_is : {A : Type 0} {x y : A} → Some x ≡ Some y → x ≡ y
@@ -69,7 +70,7 @@ server_numbered = record {
 }
 
 -- a server's own definitions
-abbrev server_own : Table → Def → Bool
+abbrev pub server_own : Table → Def → Bool
 server_own table def =
     is_struct_of (zip server_fields
     (first_own (λ _ d. is_scalar_of ScalarKind.String d) table
@@ -81,3 +82,35 @@ there = refl
 
 pub server_found : (table : Table) → table ≡ server_table → IsSome (first_own server_own table)
 server_found table is = subst (λ (t : Table). IsSome (first_own server_own t)) (sym is) (rw there refl)
+
+-- Its shape is the last, that of its host the first, and that of its ports the second.
+
+pub server_number : own_number server_own server_table ≡ 3
+server_number = ap (λ (found : Option ℕ). unwrap_or found 0) there
+
+-- those of a text, and of a port
+abbrev pub text_own : Table → Def → Bool
+text_own table def = is_scalar_of ScalarKind.String def
+
+abbrev pub port_own : Table → Def → Bool
+port_own table def = is_scalar_of ScalarKind.U16 def
+
+text_there : first_own text_own server_table ≡ Some 0
+unfolding nameable
+text_there = refl
+
+port_there : first_own port_own server_table ≡ Some 1
+unfolding nameable
+port_there = refl
+
+pub text_number : own_number text_own server_table ≡ 0
+text_number = ap (λ (found : Option ℕ). unwrap_or found 0) text_there
+
+pub port_number : own_number port_own server_table ≡ 1
+port_number = ap (λ (found : Option ℕ). unwrap_or found 0) port_there
+
+pub text_found : HasShape text_own server_table
+text_found = rw text_there refl
+
+pub port_found : HasShape port_own server_table
+port_found = rw port_there refl

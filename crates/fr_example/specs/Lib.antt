@@ -6,3 +6,4 @@ pub mod Missing
 pub mod Outcomes
 pub mod Putting
 pub mod Servers
+pub mod Unbuilt

@@ -4,6 +4,7 @@
 #![tactic(auto)]
 
 mod form;
+mod lead;
 mod loader;
 mod missing;
 mod record;
@@ -11,6 +12,7 @@ mod server;
 mod words;
 
 pub use form::{BadField, FormError, submit};
+pub use lead::{Unbuilt, build_server};
 pub use loader::{LoadError, load};
 pub use missing::missing_keys;
 pub use record::{Pair, record_of};

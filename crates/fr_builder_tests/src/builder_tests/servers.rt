@@ -1,8 +1,10 @@
 //! A struct of the caller's own, by its type.
-use fr_example::{Server, server_table};
-use fr_partial::Facet;
+use super::bench::ledger;
+use fr_example::{Server, Unbuilt, build_server, server_table, write_kind};
+use fr_partial::{Facet, ReflectError};
 use fr_shape::{Items, OutOfMemory, ScalarKind, Shape, ShapeId, ShapeTable};
 use std::alloc::Global;
+use std::process::Abort;
 
 /// The table of a server, but for the order of its fields.
 fn turned_round(alloc: Global) -> Result<ShapeTable, OutOfMemory> {
@@ -23,4 +25,41 @@ fn a_server_has_its_fields_in_order(rt: HostRuntime) {
     };
     assert!(rt; Server::find(&own) == Some(ShapeId(3)));
     assert!(rt; Server::find(&other).is_none());
+}
+
+/// A server that listens at two ports, or why there is none.
+fn served(rt: &(impl Abort + AllocGlobal), host: Option<&str>) -> Result<Server, Unbuilt> {
+    let mut ledger = ledger(rt, rt.alloc(), 0);
+    let host = match host.map(|host| String::from_str(rt.alloc(), host)) {
+        Some(Ok(host)) => Some(host),
+        Some(Err(_)) => panic!(rt; "no memory"),
+        None => None,
+    };
+    build_server(rt.alloc(), host, (80, 8080), &mut ledger)
+}
+
+/// Ends the test where a user is told something else.
+fn check_told(rt: &(impl Abort + AllocGlobal), error: &ReflectError, want: &str) {
+    let Ok(table) = server_table(rt.alloc()) else {
+        panic!(rt; "no memory");
+    };
+    let mut words = String::new(rt.alloc());
+    match write_kind(&mut words, &table, &error.kind) {
+        Ok(()) => assert!(rt; words.as_str() == want, "{words}"),
+        Err(_) => panic!(rt; "no memory"),
+    }
+}
+
+#[test]
+fn a_server_is_built_by_its_type(rt: HostRuntime) {
+    let Ok(server) = served(&rt, Some("example.org")) else {
+        panic!(rt; "not built");
+    };
+    assert!(rt; server.host.as_str() == "example.org");
+    assert!(rt; server.ports.as_slice() == [80, 8080].as_slice());
+    let Err(Unbuilt::Refused(error)) = served(&rt, None) else {
+        panic!(rt; "not refused");
+    };
+    assert!(rt; error.path.is_empty());
+    check_told(&rt, &error, "host is missing");
 }
