@@ -15,13 +15,13 @@ pub enum Unbuilt {
     OutOfMemory,
     /// The builder refused a call.
     Refused(ReflectError),
-    /// The type doesn't suit its table: it has no plan there, or what was built isn't of it. It never
-    /// comes, but `?` has to have something to turn these errors into.
+    /// The type doesn't suit its table: it has no plan there, or what was built isn't of it. It
+    /// never comes: it is what `?` makes of these errors.
     Unsuited,
 }
 
-/// The server of this host, if there is one, that listens at these two ports. They are put first,
-/// and the host behind them, though it comes first in the struct.
+/// The server of this host, if one is given, that listens at these two ports. Fields are filled in
+/// any order: the struct has its host first, and here the ports come first.
 pub fn build_server(
     alloc: Global,
     host: Option<String>,

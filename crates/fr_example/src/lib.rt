@@ -1,6 +1,6 @@
-//! The builder called from own code: a struct of one's own that goes in and comes out by its type; a
-//! record of texts out of pairs of a field's name and a text; a loader of lines `key = value`; and a
-//! form whose fields are parsed, with every bad field named.
+//! The builder called from own code: a struct of one's own that typed calls fill, and that goes in
+//! and comes out by its type; a record of texts out of pairs of a field's name and a text; a loader
+//! of lines `key = value`; and a form whose fields are parsed, with every bad field named.
 #![tactic(auto)]
 
 mod form;

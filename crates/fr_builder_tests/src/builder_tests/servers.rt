@@ -1,5 +1,6 @@
 //! A struct of the caller's own, by its type.
 use super::bench::ledger;
+use super::typed::text;
 use fr_example::{Server, Unbuilt, build_server, server_table, write_kind};
 use fr_partial::{Facet, ReflectError};
 use fr_shape::{Items, OutOfMemory, ScalarKind, Shape, ShapeId, ShapeTable};
@@ -30,9 +31,8 @@ fn a_server_has_its_fields_in_order(rt: HostRuntime) {
 /// A server that listens at two ports, or why there is none.
 fn served(rt: &(impl Abort + AllocGlobal), host: Option<&str>) -> Result<Server, Unbuilt> {
     let mut ledger = ledger(rt, rt.alloc(), 0);
-    let host = match host.map(|host| String::from_str(rt.alloc(), host)) {
-        Some(Ok(host)) => Some(host),
-        Some(Err(_)) => panic!(rt; "no memory"),
+    let host = match host {
+        Some(host) => Some(text(rt, rt.alloc(), host)),
         None => None,
     };
     build_server(rt.alloc(), host, (80, 8080), &mut ledger)

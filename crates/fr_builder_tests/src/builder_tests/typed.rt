@@ -44,7 +44,7 @@ fn check_shape<U: Facet>(rt: &impl Abort, table: &ShapeTable)
 }
 
 /// A text of the program's own.
-fn text(rt: &impl Abort, alloc: Global, letters: &str) -> String {
+pub fn text(rt: &impl Abort, alloc: Global, letters: &str) -> String {
     match String::from_str(alloc, letters) {
         Ok(text) => text,
         Err(_) => panic!(rt; "no memory"),
