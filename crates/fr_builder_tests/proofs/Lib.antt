@@ -1,4 +1,2 @@
-pub mod ArrayRows
-pub mod DefaultRows
 pub mod LastChild
 pub mod OneTokenItems

@@ -1,24 +1,19 @@
 //! Each call of the builder with ample memory and hooks of the tests' own, whole builds, and where
-//! the token is after each refusal; then what it tells of itself, calls by Rust types, and the
-//! examples.
+//! the token is after each refusal; then what it tells of itself, and calls by Rust types.
 mod bench;
 mod calls;
 mod contents;
 mod conversions;
 mod deferring;
 mod dynamics;
-mod forms;
 mod grounds;
 mod hooked;
 mod in_code;
 mod lists;
-mod loader;
 mod own_hooks;
 mod paths;
 mod read_as;
 mod readings;
-mod records;
-mod servers;
 mod sets;
 mod structs;
 mod typed;

@@ -16,7 +16,7 @@ use Rattle.fr_model.specs.Tree.{State, initial, fresh, tree_occurs, whole, enter
 use Rattle.fr_partial.specs.Builder.{Builder}
 use Rattle.fr_work.specs.BuiltValue.{BuiltValue}
 use Rattle.fr_example.specs.declared.loader.LoadError.{LoadError}
-use Rattle.fr_example.specs.Loading.{says_nothing, has_equals_sign, is_equals_sign, names_of, value_of, calls_of_pair, calls_of_line, calls_of_lines, IsRunTold, IsLoaded}
+use Rattle.fr_example.specs.Loading.{says_nothing, has_equals_sign, is_equals_sign, names_of, value_of, calls_of_pair, calls_of_line, calls_of_lines, IsRunTold, IsToldUnless}
 use Rattle.fr_partial.specs.Several.{AreSteps}
 use Rattle.fr_example.proofs.LoadingCalls.{IsOver, same_calls}
 use Rattle.fr_example.proofs.LoadingEnds.{IsReading}
@@ -87,8 +87,8 @@ recounted hooks table root all count told now rest e = subst (λ (n : ℕ). IsRe
 
 -- each is one, and the run is told
 pub run_told : (found : Option ℕ) (meant : Result Val Refusal) (result : Result BuiltValue LoadError) → None ≡ found → IsRunTold meant result
-    → IsLoaded found meant result
-run_told found meant result e told = subst (λ (f : Option ℕ). IsLoaded f meant result) e told
+    → IsToldUnless found meant result
+run_told found meant result e told = subst (λ (f : Option ℕ). IsToldUnless f meant result) e told
 
 -- calls over what was given
 pub given_calls : {H : Type 0} (means : H → Meanings) (given : H) (table : Table) (root : ℕ) (before : Builder H) (calls : List Call) (after : State)

@@ -4,9 +4,11 @@ use Rattle.std.specs.List.{slice_split, before_first, after_first, list_any}
 use Rattle.std.specs.Option.{option_map}
 use Rattle.std.specs.Str.{trim}
 use Rattle.fr_shape.specs.declared.error.ReflectErrorKind.{ReflectErrorKind}
+use Rattle.fr_shape.specs.Hooks.{Meanings}
+use Rattle.fr_shape.specs.Look.{Table}
 use Rattle.fr_shape.specs.Val.{Val}
 use Rattle.fr_model.specs.Commands.{Call}
-use Rattle.fr_model.specs.Run.{Refusal}
+use Rattle.fr_model.specs.Run.{Refusal, full_run}
 use Rattle.fr_work.specs.BuiltValue.{BuiltValue}
 use Rattle.fr_example.specs.declared.loader.LoadError.{LoadError}
 use Rattle.fr_example.specs.Meant.{kind_of}
@@ -63,6 +65,10 @@ script_of lines = calls_of_lines lines ++ Call.FinishDeferred ∷ []
 
 -- Outcomes
 
+-- what the script of the lines comes to
+abbrev pub run_of : Meanings → Table → (root : ℕ) → (lines : List (List ℕ)) → Result Val Refusal
+run_of hooks table root lines = full_run hooks table root (script_of lines)
+
 -- That is what the run comes to. An error is that of a root without a plan, or of a line, or of the end.
 abbrev pub IsRunTold : (meant : Result Val Refusal) → Result BuiltValue LoadError → Type 0
 IsRunTold meant (Ok built) = IsOutcome meant (Ok built)
@@ -72,9 +78,12 @@ IsRunTold meant (Err (LoadError.AtLine number error)) = IsOutcome meant (Err err
 IsRunTold meant (Err (LoadError.Unfinished error)) = IsOutcome meant (Err error)
 
 -- A line that is neither passed over nor a pair is told before anything is built. Where there is none, that is what the run comes to.
-abbrev pub IsLoaded : (first_no_pair : Option ℕ) → (meant : Result Val Refusal) → Result BuiltValue LoadError → Type 0
-IsLoaded (Some number) meant result = result ≡ Err (LoadError.NotALine number)
-IsLoaded None meant result = IsRunTold meant result
+abbrev pub IsToldUnless : (bad_line : Option ℕ) → (meant : Result Val Refusal) → Result BuiltValue LoadError → Type 0
+IsToldUnless (Some number) meant result = result ≡ Err (LoadError.NotALine number)
+IsToldUnless None meant result = IsRunTold meant result
+
+abbrev pub IsLoaded : Meanings → Table → (root : ℕ) → (lines : List (List ℕ)) → Result BuiltValue LoadError → Type 0
+IsLoaded hooks table root lines result = IsToldUnless (first_no_pair lines) (run_of hooks table root lines) result
 
 -- how many calls there are up to the end of the first so many lines
 abbrev pub calls_up_to : List (List ℕ) → (count : ℕ) → ℕ

@@ -6,9 +6,8 @@ ghost use Rattle.fr_shape.specs.Checked.{IsChecked};
 ghost use Rattle.fr_shape.specs.Fits.{fits};
 ghost use Rattle.fr_shape.specs.Look.{IsIn};
 ghost use Rattle.fr_shape.specs.Numbered.{IsNumbered};
-ghost use Rattle.fr_model.specs.Run.{full_run};
 ghost use Rattle.fr_partial.specs.Builder.{holds};
-ghost use Rattle.fr_example.specs.Loading.{says_nothing, is_no_pair, first_no_pair, calls_of_pair, calls_of_line, script_of, IsLoaded, TellsLine};
+ghost use Rattle.fr_example.specs.Loading.{says_nothing, is_no_pair, first_no_pair, calls_of_pair, calls_of_line, run_of, IsLoaded, TellsLine};
 ghost use Rattle.fr_partial.specs.Several.{AreSteps};
 
 use crate::missing::missing_keys;
@@ -82,10 +81,9 @@ pub fn load<H: Hooks>(
     requires root { IsIn table.now root.0 }
     requires numbered { IsNumbered table.now }
     requires checked { IsChecked table.now }
-    ensures meant { IsLoaded (first_no_pair (lines text.now))
-        (full_run (H.means hooks.now) table.now root.0 (script_of (lines text.now))) result }
+    ensures meant { IsLoaded (H.means hooks.now) table.now root.0 (lines text.now) result }
     ensures line { IfErr result (TellsLine (lines text.now)
-        (full_run (H.means hooks.now) table.now root.0 (script_of (lines text.now)))) }
+        (run_of (H.means hooks.now) table.now root.0 (lines text.now))) }
     ensures fits { IfOk result (λ built. fits table.now root.0 built.value ≡ true) }
     ensures released { ledger.new ≡ ledger.old }
 {

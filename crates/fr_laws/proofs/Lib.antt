@@ -1,6 +1,8 @@
+pub mod ArrayRows
 pub mod Beside
 pub mod BesideStep
 pub mod Covering
+pub mod DefaultRows
 pub mod EnteringAgain
 pub mod Entries
 pub mod Excursions

@@ -44,17 +44,25 @@ fn give_up(rt: &impl Abort, bench: Bench<'_>) {
     check_counts(rt, &abandoned(bench), &[0]);
 }
 
+/// A field is read once it is set, as its own type alone.
+fn check_field(rt: &impl Abort, alloc: Global, root: Bench<'_>) {
+    let at_n = done(rt, root.begin_field("n"));
+    assert!(rt; read::<u32>(rt, alloc, &at_n.partial).is_none());
+    let set = done(rt, at_n.put_number(rt, 7));
+    assert!(rt; matches!(read::<u32>(rt, alloc, &set.partial), Some(7)));
+    assert!(rt; read::<u64>(rt, alloc, &set.partial).is_none());
+    let at_o = done(rt, done(rt, set.end()).begin_field("o"));
+    assert!(rt; read::<u32>(rt, alloc, &at_o.partial).is_none());
+    give_up(rt, at_o);
+}
+
 #[test]
 fn a_whole_place_is_read(rt: HostRuntime) {
     let ground = ground_of(&rt, SHAPES);
-    let at_n = done(&rt, start(&rt, rt.alloc(), &ground, 8).begin_field("n"));
-    assert!(rt; read::<u32>(&rt, rt.alloc(), &at_n.partial).is_none());
-    let set = done(&rt, at_n.put_number(&rt, 7));
-    assert!(rt; matches!(read::<u32>(&rt, rt.alloc(), &set.partial), Some(7)));
-    assert!(rt; read::<u64>(&rt, rt.alloc(), &set.partial).is_none());
-    let at_o = done(&rt, done(&rt, set.end()).begin_field("o"));
-    assert!(rt; read::<u32>(&rt, rt.alloc(), &at_o.partial).is_none());
-    give_up(&rt, at_o);
+    let root = start(&rt, rt.alloc(), &ground, 8);
+    check_field(&rt, rt.alloc(), root);
+    let deferred = done(&rt, start(&rt, rt.alloc(), &ground, 8).begin_deferred());
+    check_field(&rt, rt.alloc(), deferred);
     let list = start(&rt, rt.alloc(), &ground, 2);
     let list = done(&rt, list.put_bytes(&rt, rt.alloc()));
     match read::<Vec<u8>>(&rt, rt.alloc(), &list.partial) {

@@ -63,6 +63,7 @@ const SHAPES: &str = r#"{"shapes":[
 /// seen of the value: all of it, or the variant's number and the children.
 const ROWS: &str = r#"
     13 ; - - - - s 11 Struct n n fff - - ; -
+    13 bd ; - - - - s 11 Struct n n fff - - ; -
     13 p ; p p - - s 3 Struct n n fff 1 - ; -
     13 p 0 ; x x - - - - Scalar n n fff - - ; -
     13 p 0 def ; x x - - - - Scalar n n ttt - - ; whole 5
@@ -85,6 +86,7 @@ const ROWS: &str = r#"
     13 c v0 e ; - - - - s 11 Struct n n ftf - - ; -
     13 o ; o o - - - - Option n n fff - - ; -
     13 o some ; - o - - - - Scalar n n fff - - ; -
+    13 bd o some ; - o - - - - Scalar n n fff - - ; -
     13 o some num e ; o o - - - - Option n n tnn - - ; 0 7
     13 bd o some num e ; o o - - - - Option n n tnn - - ; 0 7
     13 bd o some e ; o o - - - - Option n n tnn - - ; -
@@ -121,7 +123,7 @@ const ROWS: &str = r#"
 "#;
 
 /// How many rows there are.
-const ROW_COUNT: usize = 56;
+const ROW_COUNT: usize = 58;
 
 impl<'t> Bench<'t> {
     fn select_nth_variant(self, i: usize) -> Answer<'t> {

@@ -44,7 +44,7 @@ fn check_shape<U: Facet>(rt: &impl Abort, table: &ShapeTable)
 }
 
 /// A text of the program's own.
-pub fn text(rt: &impl Abort, alloc: Global, letters: &str) -> String {
+fn text(rt: &impl Abort, alloc: Global, letters: &str) -> String {
     match String::from_str(alloc, letters) {
         Ok(text) => text,
         Err(_) => panic!(rt; "no memory"),
@@ -297,6 +297,17 @@ fn a_value_of_another_shape_is_refused(rt: HostRuntime) {
         (7, 0),
         "",
     );
+}
+
+#[test]
+fn a_value_is_set_by_its_type(rt: HostRuntime) {
+    let ground = ground_of(&rt, TYPED);
+    let number = start(&rt, rt.alloc(), &ground, 0);
+    let built_of_set = built(&rt, done(&rt, number.set(&rt, 7u32)));
+    check_value(&rt, rt.alloc(), built_of_set.value(), "7");
+    let number = start(&rt, rt.alloc(), &ground, 0);
+    let built_of_peek = built(&rt, done(&rt, number.set_from_peek(&rt, 8)));
+    check_value(&rt, rt.alloc(), built_of_peek.value(), "8");
 }
 
 #[test]

@@ -1,13 +1,15 @@
 //! The loader of lines, and what whoever wrote the lines is told.
-use super::bench::{check_value, ledger};
-use super::grounds::{Ground, ground_of};
+ghost use Rattle.fr_shape.specs.Checked.{IsChecked};
+ghost use Rattle.fr_shape.specs.Numbered.{IsNumbered};
+
+use super::texts::{check_text, check_value, no_tokens, table_of};
 use fr_example::{LoadError, load};
 use fr_partial::Built;
-use fr_shape::ShapeId;
+use fr_shape::{NoHooks, ShapeId, ShapeTable};
 use std::process::Abort;
 
 /// A service: a name, a database in a group, and a listener with a group for certificates.
-const SERVICE: &str = r#"{"shapes":[
+const SERVICE: &str = r#"[
     {"name":"String","def":"String"},
     {"name":"u16","def":"u16"},
     {"name":"bool","def":"bool"},
@@ -28,42 +30,38 @@ const SERVICE: &str = r#"{"shapes":[
         {"name":"db","shape":3},
         {"name":"listen","shape":5}
     ]}}
-],"root":6,"commands":[]}"#;
+]"#;
 
 fn loaded(
     rt: &(impl Abort + AllocGlobal),
-    ground: &Ground,
+    table: &ShapeTable,
     text: &str,
-) -> Result<Built, LoadError> {
-    let mut ledger = ledger(rt, rt.alloc(), 0);
-    assert!(rt; 6 < ground.table.len());
-    load(
-        rt.alloc(),
-        &ground.table,
-        ShapeId(6),
-        &ground.hooks,
-        text,
-        &mut ledger,
-    )
+) -> Result<Built, LoadError>
+    requires checked { IsChecked table.now }
+    requires numbered { IsNumbered table.now }
+{
+    let mut ledger = no_tokens(rt, rt.alloc());
+    assert!(rt; 6 < table.len());
+    load(rt.alloc(), table, ShapeId(6), &NoHooks, text, &mut ledger)
 }
 
 /// Ends the test where the service of these lines is printed otherwise.
 fn check_service(rt: &(impl Abort + AllocGlobal), text: &str, want: &str) {
-    let ground = ground_of(rt, SERVICE);
-    match loaded(rt, &ground, text) {
-        Ok(built) => check_value(rt, rt.alloc(), built.value(), want),
+    let table = table_of(rt, SERVICE);
+    match loaded(rt, &table, text) {
+        Ok(built) => check_value(rt, built.value(), want),
         Err(_) => panic!(rt; "refused"),
     }
 }
 
 /// Ends the test where these lines make a service, or the error is told in other words.
 fn check_words(rt: &(impl Abort + AllocGlobal), text: &str, want: &str) {
-    let ground = ground_of(rt, SERVICE);
-    let Err(error) = loaded(rt, &ground, text) else {
+    let table = table_of(rt, SERVICE);
+    let Err(error) = loaded(rt, &table, text) else {
         panic!(rt; "loaded");
     };
-    match error.in_words(rt.alloc(), &ground.table, ShapeId(6), text) {
-        Ok(words) => assert!(rt; words.as_str() == want, "{words}"),
+    match error.in_words(rt.alloc(), &table, ShapeId(6), text) {
+        Ok(words) => check_text(rt, words.as_str(), want),
         Err(_) => panic!(rt; "no memory"),
     }
 }

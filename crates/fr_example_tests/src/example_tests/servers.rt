@@ -1,6 +1,5 @@
 //! A struct of the caller's own, by its type.
-use super::bench::ledger;
-use super::typed::text;
+use super::texts::{check_text, no_tokens};
 use fr_example::{Server, Unbuilt, build_server, server_table, write_kind};
 use fr_partial::{Facet, ReflectError};
 use fr_shape::{Items, OutOfMemory, ScalarKind, Shape, ShapeId, ShapeTable};
@@ -28,9 +27,17 @@ fn a_server_has_its_fields_in_order(rt: HostRuntime) {
     assert!(rt; Server::find(&other).is_none());
 }
 
+/// A text of the program's own.
+fn text(rt: &impl Abort, alloc: Global, letters: &str) -> String {
+    match String::from_str(alloc, letters) {
+        Ok(text) => text,
+        Err(_) => panic!(rt; "no memory"),
+    }
+}
+
 /// A server that listens at two ports, or why there is none.
 fn served(rt: &(impl Abort + AllocGlobal), host: Option<&str>) -> Result<Server, Unbuilt> {
-    let mut ledger = ledger(rt, rt.alloc(), 0);
+    let mut ledger = no_tokens(rt, rt.alloc());
     let host = match host {
         Some(host) => Some(text(rt, rt.alloc(), host)),
         None => None,
@@ -45,7 +52,7 @@ fn check_told(rt: &(impl Abort + AllocGlobal), error: &ReflectError, want: &str)
     };
     let mut words = String::new(rt.alloc());
     match write_kind(&mut words, &table, &error.kind) {
-        Ok(()) => assert!(rt; words.as_str() == want, "{words}"),
+        Ok(()) => check_text(rt, words.as_str(), want),
         Err(_) => panic!(rt; "no memory"),
     }
 }

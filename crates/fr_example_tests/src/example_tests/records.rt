@@ -6,15 +6,16 @@ ghost use Rattle.fr_shape.specs.declared.shape.ScalarKind.{ScalarKind};
 ghost use Rattle.fr_shape.specs.Look.{def_of};
 ghost use Rattle.fr_example.specs.Meant.{is_struct};
 
-use super::bench::{check_value, ledger, message_of};
-use super::grounds::ground_of;
+use super::texts::{check_text, check_value, no_tokens, table_of};
 use fr_example::{Pair, record_of};
 use fr_partial::{Built, ReflectError};
-use fr_shape::{Def, FieldRef, Items, ReflectErrorKind, ScalarKind, ShapeId, ShapeTable, Text};
+use fr_shape::{
+    Def, FieldRef, Items, NoHooks, ReflectErrorKind, ScalarKind, ShapeId, ShapeTable, Text,
+};
 use std::alloc::Global;
 use std::process::Abort;
 
-const PERSON: &str = r#"{"shapes":[
+const PERSON: &str = r#"[
     {"name":"String","def":"String"},
     {"name":"u8","def":"u8"},
     {"name":"Person","def":{"struct":[
@@ -22,7 +23,7 @@ const PERSON: &str = r#"{"shapes":[
         {"name":"email","shape":0,"validators":[{"contains":"@"}]},
         {"name":"age","shape":1,"default":{"custom":30}}
     ]}}
-],"root":2,"commands":[]}"#;
+]"#;
 
 /// Whether a shape is that of texts.
 fn is_string(table: &ShapeTable, id: ShapeId) -> bool
@@ -46,15 +47,15 @@ fn has_fields(table: &ShapeTable, id: ShapeId) -> bool
 
 /// The person of these pairs.
 fn person(rt: &(impl Abort + AllocGlobal), pairs: Items<Pair>) -> Result<Built, ReflectError> {
-    let ground = ground_of(rt, PERSON);
-    let mut ledger = ledger(rt, rt.alloc(), 0);
-    assert!(rt; has_fields(&ground.table, ShapeId(2)) && is_string(&ground.table, ShapeId(0)));
+    let table = table_of(rt, PERSON);
+    let mut ledger = no_tokens(rt, rt.alloc());
+    assert!(rt; has_fields(&table, ShapeId(2)) && is_string(&table, ShapeId(0)));
     record_of(
         rt.alloc(),
-        &ground.table,
+        &table,
         ShapeId(2),
         ShapeId(0),
-        &ground.hooks,
+        &NoHooks,
         pairs,
         &mut ledger,
     )
@@ -83,7 +84,7 @@ pub fn pairs_of(rt: &impl Abort, alloc: Global, pairs: &[(&str, &str)]) -> Items
 /// Ends the test where the person of these pairs is printed otherwise.
 fn check_person(rt: &(impl Abort + AllocGlobal), pairs: &[(&str, &str)], want: &str) {
     match person(rt, pairs_of(rt, rt.alloc(), pairs)) {
-        Ok(built) => check_value(rt, rt.alloc(), built.value(), want),
+        Ok(built) => check_value(rt, built.value(), want),
         Err(_) => panic!(rt; "refused"),
     }
 }
@@ -145,6 +146,10 @@ fn refuses(rt: HostRuntime) {
             }
         )
     );
-    let kind = refusal_of(&rt, &[("email", "ana"), ("name", "Ana")]);
-    assert!(rt; message_of(&kind) == "'ana' does not contain '@'");
+    match refusal_of(&rt, &[("email", "ana"), ("name", "Ana")]) {
+        ReflectErrorKind::ValidationFailed { message, .. } => {
+            check_text(&rt, message.as_str(), "'ana' does not contain '@'")
+        }
+        _ => panic!(rt; "another refusal"),
+    }
 }

@@ -1,13 +1,12 @@
 //! The example's form: a server with a host, a port that isn't a reserved one, and a number of
 //! workers that has a default.
-use super::bench::{check_value, ledger};
-use super::grounds::ground_of;
 use super::records::pairs_of;
+use super::texts::{check_text, check_value, no_tokens, table_of};
 use fr_example::submit;
-use fr_shape::ShapeId;
+use fr_shape::{NoHooks, ShapeId};
 use std::process::Abort;
 
-const SERVER: &str = r#"{"shapes":[
+const SERVER: &str = r#"[
     {"name":"String","def":"String"},
     {"name":"u16","def":"u16"},
     {"name":"u8","def":"u8"},
@@ -16,26 +15,26 @@ const SERVER: &str = r#"{"shapes":[
         {"name":"port","shape":1,"validators":[{"min":1024}]},
         {"name":"workers","shape":2,"default":{"custom":4}}
     ]}}
-],"root":3,"commands":[]}"#;
+]"#;
 
 /// Ends the test where a user of the form sees something else.
 fn check_form(rt: &(impl Abort + AllocGlobal), fields: &[(&str, &str)], want: &str) {
-    let ground = ground_of(rt, SERVER);
-    let mut ledger = ledger(rt, rt.alloc(), 0);
+    let table = table_of(rt, SERVER);
+    let mut ledger = no_tokens(rt, rt.alloc());
     let fields = pairs_of(rt, rt.alloc(), fields);
-    assert!(rt; ground.table.len() > 3);
+    assert!(rt; table.len() > 3);
     let submitted = submit(
         rt.alloc(),
-        &ground.table,
+        &table,
         ShapeId(3),
-        &ground.hooks,
+        &NoHooks,
         fields.as_slice(),
         &mut ledger,
     );
     match submitted {
-        Ok(built) => check_value(rt, rt.alloc(), built.value(), want),
-        Err(error) => match error.in_words(rt.alloc(), &ground.table) {
-            Ok(words) => assert!(rt; words.as_str() == want, "{words}"),
+        Ok(built) => check_value(rt, built.value(), want),
+        Err(error) => match error.in_words(rt.alloc(), &table) {
+            Ok(words) => check_text(rt, words.as_str(), want),
             Err(_) => panic!(rt; "no memory"),
         },
     }
