@@ -1,2 +1,1 @@
-pub mod LastChild
 pub mod OneTokenItems

@@ -10,7 +10,6 @@ mod grounds;
 mod hooked;
 mod in_code;
 mod lists;
-mod own_hooks;
 mod paths;
 mod read_as;
 mod readings;

@@ -7,8 +7,8 @@ ghost use Rattle.fr_shape.specs.View.{view};
 ghost use Rattle.fr_partial.specs.Builder.{holds};
 
 use super::grounds::Ground;
-use super::own_hooks::OwnHooks;
 use fr_doc::json_of;
+use fr_own_hooks::OwnHooks;
 use fr_partial::{Built, Partial, ReflectError};
 use fr_path::Path;
 use fr_shape::{Ledger, ReflectErrorKind, ShapeId, Shaped, Value, fits};

@@ -5,8 +5,8 @@ ghost use Rattle.fr_partial.specs.Builder.{holds};
 
 use super::bench::{abandoned, built, check_counts, check_value, done, fresh, with_ledger};
 use super::grounds::ground_of;
-use super::own_hooks::OwnHooks;
 use super::structs::{STRUCT, begun};
+use fr_own_hooks::OwnHooks;
 use fr_partial::Partial;
 
 #[test]

@@ -1,6 +1,6 @@
 //! The tables that the tests stand on, read from texts.
-use super::own_hooks::OwnHooks;
 use fr_doc::shapes_of;
+use fr_own_hooks::OwnHooks;
 use fr_shape::ShapeTable;
 use serde_json::Value as Json;
 use std::alloc::Global;

@@ -8,7 +8,7 @@ use super::bench::{
     start, unbuilt, with_ledger, with_token,
 };
 use super::grounds::{Ground, ground_of};
-use super::own_hooks::OwnHooks;
+use fr_own_hooks::OwnHooks;
 use fr_partial::Partial;
 use fr_plan::TypePlanCore;
 use fr_shape::{Invariant, ReflectErrorKind, ShapeId};

@@ -3,7 +3,7 @@ use super::bench::{
     Answer, Bench, abandoned, check_counts, done, fresh, ledger, named, start, with_token,
 };
 use super::grounds::{Ground, ground_of};
-use super::own_hooks::OwnHooks;
+use fr_own_hooks::OwnHooks;
 use fr_partial::{Facet, Opaque, Partial};
 use fr_shape::Ledger;
 use std::alloc::Global;

@@ -3,7 +3,7 @@ use super::bench::{
     Answer, Bench, Refused, abandoned, answer_to, check_counts, check_value, done, start,
 };
 use super::grounds::{Ground, ground_of};
-use super::own_hooks::OwnHooks;
+use fr_own_hooks::OwnHooks;
 use fr_partial::{Partial, PlaceView};
 use fr_plan::DeserStrategy;
 use fr_shape::{Field, Reason, ReflectErrorKind};

@@ -7,7 +7,7 @@ ghost use Rattle.fr_partial.specs.Builder.{holds};
 
 use super::bench::{check_counts, fresh, ledger, shaped};
 use super::grounds::ground_of;
-use super::own_hooks::OwnHooks;
+use fr_own_hooks::OwnHooks;
 use fr_partial::{Partial, ReflectError};
 use fr_shape::{Items, Ledger, Value};
 use std::alloc::Global;

@@ -11,7 +11,7 @@ use super::bench::{
     ledger, refusal, shaped, start, with_ledger,
 };
 use super::grounds::{Ground, ground_of};
-use super::own_hooks::OwnHooks;
+use fr_own_hooks::OwnHooks;
 use fr_partial::{Facet, FacetFault, Opaque, Partial, TypePlan, materialize};
 use fr_shape::{Items, Ledger, ReflectErrorKind, ShapeId, ShapeTable, Value};
 use std::alloc::Global;

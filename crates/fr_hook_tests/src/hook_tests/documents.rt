@@ -7,7 +7,7 @@ use std::process::Abort;
 const PIECE: usize = 4096;
 
 /// A document of shapes and the rest.
-fn joined(rt: &impl Abort, alloc: Global, shapes: &str, rest: &str) -> String {
+pub fn joined(rt: &impl Abort, alloc: Global, shapes: &str, rest: &str) -> String {
     let Ok(mut document) = String::from_str(alloc, shapes) else {
         panic!(rt; "no memory");
     };

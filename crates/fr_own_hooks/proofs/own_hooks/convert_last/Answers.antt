@@ -5,8 +5,8 @@ use Rattle.fr_shape.specs.Released.{Room, RoseBy}
 use Rattle.fr_shape.specs.Tokens.{occurs}
 use Rattle.fr_shape.specs.Val.{product}
 use Rattle.fr_shape.specs.View.{view, vals_view}
-use Rattle.fr_builder_tests.proofs.LastChild.{all_rose, last_has_room, last_is_left, meant_elsewhere, meant_where_it_fits, others_have_room}
-use Rattle.fr_builder_tests.proofs.builder_tests.own_hooks.convert_last.Goals as goal
+use Rattle.fr_own_hooks.proofs.LastChild.{all_rose, last_has_room, last_is_left, meant_elsewhere, meant_where_it_fits, others_have_room}
+use Rattle.fr_own_hooks.proofs.own_hooks.convert_last.Goals as goal
 
 pub release-requires-2 : goal.release-requires-2
 release-requires-2 c =

@@ -1,4 +1,4 @@
--- What the hooks mean that the tests bring themselves, by their numbers.
+-- What the hooks mean, by their numbers.
 use Rattle.std.specs.Prelude.{ℕ, nat_eq, nat_le, Bool, true, false, [], Option, Some, None, if◌then◌else◌}
 use Rattle.std.specs.Option.{option_or}
 use Rattle.fr_shape.specs.Val.{Val, Vals, nat, product, none, no_vals, first}
@@ -48,7 +48,7 @@ abbrev pub own_parsed : Table → (hook target : ℕ) → Meaning
 own_parsed table hook target =
     if nat_eq hook 0 then empty_if_it_fits table target else if nat_eq hook 1 then refuses [] else unsupported
 
--- the hooks that the tests bring themselves
+-- what all of them mean
 abbrev pub own_hooks : Meanings
 own_hooks = record {
   check = own_check;

@@ -10,7 +10,7 @@ use Rattle.fr_shape.specs.TokenLaws.{both, Room_fewer, Room_risen, Room_same}
 use Rattle.fr_shape.specs.Tokens.{occurs, vals_occur}
 use Rattle.fr_shape.specs.Val.{Val, product}
 use Rattle.fr_shape.specs.View.{view, vals_view}
-use Rattle.fr_builder_tests.specs.OwnHooks.{child_if_it_fits, last_child, last_in}
+use Rattle.fr_own_hooks.specs.OwnHooks.{child_if_it_fits, last_child, last_in}
 
 -- the last of some children is the one behind the others
 last_behind : (others : List Value) (last : Value) → last_in (vals_view (others ++ last ∷ [])) ≡ Some (view last)

@@ -1,12 +1,11 @@
-//! Hooks of the tests' own, with which every builder of the tests is made. A table asks for what
-//! they do by number.
+//! The hooks. A table asks for what they do by number.
 ghost use Rattle.std.specs.Prelude.{IfOk, OnErr};
 ghost use Rattle.fr_shape.specs.Hooks.{Answers};
 ghost use Rattle.fr_shape.specs.Released.{Conserved, Room, RoseBy};
 ghost use Rattle.fr_shape.specs.Tokens.{occurs};
 ghost use Rattle.fr_shape.specs.View.{view};
-ghost use Rattle.fr_builder_tests.specs.OwnHooks.{last_child, own_hooks, own_parsed};
-ghost use Rattle.fr_builder_tests.specs.OwnHookLaws.{own_hooks_are_lawful};
+ghost use Rattle.fr_own_hooks.specs.OwnHooks.{last_child, own_hooks, own_parsed};
+ghost use Rattle.fr_own_hooks.specs.OwnHookLaws.{own_hooks_are_lawful};
 
 use fr_shape::{
     HookFault, HookId, Hooks, Items, Ledger, ShapeId, ShapeTable, Text, Value, fits, release,

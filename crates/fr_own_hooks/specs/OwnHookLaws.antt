@@ -1,4 +1,4 @@
--- The hooks that the tests bring themselves are lawful.
+-- The hooks are lawful: what they give fits, and they make up no token.
 use Rattle.std.specs.Option.{option_or}
 use Rattle.std.specs.Prelude.{⊤}
 use Rattle.std.proofs.Common.{◌≡◌, ℕ, ◌+◌, ◌≤◌, nat_eq, Bool, true, false, [], Option, Some, None, if◌then◌else◌, refl, arith}
@@ -7,7 +7,7 @@ use Rattle.fr_shape.specs.Look.{Table}
 use Rattle.fr_shape.specs.Fits.{fits}
 use Rattle.fr_shape.specs.Hooks.{Meaning, FitsTarget, HoldsNoToken, HoldsTokensOf, IfGives, IsLawful, gives, refuses, unsupported}
 use Rattle.fr_shape.specs.Tokens.{occurs, vals_occur}
-use Rattle.fr_builder_tests.specs.OwnHooks.{child_if_it_fits, empty_if_it_fits, last_child, last_in, last_child_in, own_converted, own_hooks, own_parsed}
+use Rattle.fr_own_hooks.specs.OwnHooks.{child_if_it_fits, empty_if_it_fits, last_child, last_in, last_child_in, own_converted, own_hooks, own_parsed}
 
 -- what holds of the one meaning where the test is true, and of the other, holds of what the test picks
 either : (test : Bool) (here otherwise : Meaning) (So : Val → Type 0) → (test ≡ true → IfGives here So) → IfGives otherwise So → IfGives (if test then here else otherwise) So

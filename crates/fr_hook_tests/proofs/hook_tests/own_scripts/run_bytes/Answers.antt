@@ -1,5 +1,5 @@
 use Rattle.fr_script.specs.Reading.{document_view}
-use Rattle.fr_builder_tests.proofs.builder_tests.hooked.run_bytes.Goals as goal
+use Rattle.fr_hook_tests.proofs.hook_tests.own_scripts.run_bytes.Goals as goal
 
 pub run-requires : goal.run-requires
 run-requires g c =

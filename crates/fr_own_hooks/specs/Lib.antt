@@ -1,0 +1,2 @@
+pub mod OwnHookLaws
+pub mod OwnHooks
