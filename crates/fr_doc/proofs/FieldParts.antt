@@ -120,16 +120,16 @@ parts_end found = rw (
 -- the field that these parts make
 abbrev pub field_of : FieldParts → Option Field
 field_of parts = do
-  name ← parts.name >>= as_str
   shape ← parts.shape >>= id_form
-  rename ← given as_str parts.rename
-  alias ← given as_str parts.alias
-  default ← given default_form parts.default
   skip ← flag_form false parts.skip
   flatten ← flag_form false parts.flatten
   proxy ← given proxy_form parts.proxy
+  name ← parts.name >>= as_str
+  rename ← given as_str parts.rename
+  alias ← given as_str parts.alias
   format_proxies ← format_proxies_form parts.format_proxies
   validators ← validators_form parts.validators
+  default ← given default_form parts.default
   Some (record {
     name = name;
     rename = rename;

@@ -40,16 +40,16 @@ field_object d = object_of field_keys d
 unfoldable pub field_form : Data → Option Field
 field_form d = do
   field ← field_object d
-  name ← required (codes "name") as_str field
   shape ← required (codes "shape") id_form field
-  rename ← optional (codes "rename") as_str field
-  alias ← optional (codes "alias") as_str field
-  default ← optional (codes "default") default_form field
   skip ← flag (codes "skip") false field
   flatten ← flag (codes "flatten") false field
   proxy ← optional (codes "proxy") proxy_form field
+  name ← required (codes "name") as_str field
+  rename ← optional (codes "rename") as_str field
+  alias ← optional (codes "alias") as_str field
   format_proxies ← format_proxies_form (get (codes "format_proxies") field)
   validators ← validators_form (get (codes "validators") field)
+  default ← optional (codes "default") default_form field
   Some (record {
     name = name;
     rename = rename;

@@ -30,9 +30,9 @@ proxy_form d = do
 unfoldable pub format_proxy_form : Data → Option FormatProxy
 format_proxy_form d = do
   proxy ← object_of (codes "format" ∷ codes "source" ∷ codes "convert" ∷ []) d
-  format ← required (codes "format") as_str proxy
   source ← required (codes "source") id_form proxy
   convert ← required (codes "convert") hook_form proxy
+  format ← required (codes "format") as_str proxy
   Some (record { format = format; proxy = record { source = source; convert = convert } })
 
 -- an array of them; none where nothing is given

@@ -54,15 +54,15 @@ hooks_form shape = do
 unfoldable pub shape_form : Data → Option Shape
 shape_form d = do
   shape ← shape_object d
-  name ← required (codes "name") as_str shape
-  def ← required (codes "def") def_form shape
-  preset ← optional (codes "preset") value_form shape
   flags ← flags_form shape
   inner ← optional (codes "inner") id_form shape
   builder ← optional (codes "builder") id_form shape
   hooks ← hooks_form shape
   proxy ← optional (codes "proxy") proxy_form shape
+  name ← required (codes "name") as_str shape
   format_proxies ← format_proxies_form (get (codes "format_proxies") shape)
+  def ← required (codes "def") def_form shape
+  preset ← optional (codes "preset") value_form shape
   Some (record {
     name = name;
     def = def;

@@ -29,12 +29,12 @@ variant_object d = object_of variant_keys d
 unfoldable pub described_variant_form : Data → Option VariantDef
 described_variant_form d = do
   variant ← variant_object d
-  name ← required (codes "name") as_str variant
-  fields ← required (codes "fields") fields_form variant
-  rename ← optional (codes "rename") as_str variant
   kind ← kind_form (get (codes "kind") variant)
   discriminant ← optional (codes "discriminant") small_int_form variant
   other ← flag (codes "other") false variant
+  name ← required (codes "name") as_str variant
+  rename ← optional (codes "rename") as_str variant
+  fields ← required (codes "fields") fields_form variant
   Some (record {
     name = name;
     rename = rename;

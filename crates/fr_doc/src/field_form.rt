@@ -71,24 +71,28 @@ fn read_given_default(
     }
 }
 
+/// A default comes last, so that it isn't let go where another part is broken: it may be a value of any
+/// form.
 #[tactic(auto, using(crate::proofs::FieldParts::field_from_parts))]
 fn read_field(alloc: Global, json: &Json) -> Result<Field, FormError>
     ensures { Reads (λ field. field) (field_form (data_of json.now)) result }
 {
     let members = field_members_of(json)?;
-    let name = read_text(alloc, members.name.ok_or(Broken)?)?;
     let shape = id_of(members.shape.ok_or(Broken)?).ok_or(Broken)?;
+    let skip = read_flag(members.skip, false)?;
+    let flatten = read_flag(members.flatten, false)?;
+    let proxy = read_given_proxy(members.proxy)?;
     Ok(Field {
-        name,
+        name: read_text(alloc, members.name.ok_or(Broken)?)?,
         rename: read_given_text(alloc, members.rename)?,
         alias: read_given_text(alloc, members.alias)?,
         shape,
-        default: read_given_default(alloc, members.default)?,
-        skip: read_flag(members.skip, false)?,
-        flatten: read_flag(members.flatten, false)?,
-        proxy: read_given_proxy(members.proxy)?,
+        skip,
+        flatten,
+        proxy,
         format_proxies: read_format_proxies(alloc, members.format_proxies)?,
         validators: read_validators(alloc, members.validators)?,
+        default: read_given_default(alloc, members.default)?,
     })
 }
 

@@ -44,12 +44,11 @@ fn read_format_proxy(alloc: Global, json: &Json) -> Result<FormatProxy, FormErro
     ensures { Reads (λ proxy. proxy) (format_proxy_form (data_of json.now)) result }
 {
     let proxy = object_of(json, &["format", "source", "convert"])?;
+    let source = id_of(required(proxy, "source")?).ok_or(Broken)?;
+    let convert = hook_of(required(proxy, "convert")?).ok_or(Broken)?;
     Ok(FormatProxy {
         format: read_text(alloc, required(proxy, "format")?)?,
-        proxy: ProxyDef {
-            source: id_of(required(proxy, "source")?).ok_or(Broken)?,
-            convert: hook_of(required(proxy, "convert")?).ok_or(Broken)?,
-        },
+        proxy: ProxyDef { source, convert },
     })
 }
 

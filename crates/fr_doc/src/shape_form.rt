@@ -122,13 +122,15 @@ fn read_shape(alloc: Global, json: &Json) -> Result<Shape, FormError>
     ensures { Reads (λ shape. shape) (shape_form (data_of json.now)) result }
 {
     let shape = shape_object(json)?;
-    let name = read_text(alloc, required(shape, "name")?)?;
-    let def = read_def(alloc, required(shape, "def")?)?;
-    let preset = read_given_template(alloc, shape.get("preset"))?;
     let flags = read_flags(shape)?;
     let inner = read_given_id(shape.get("inner"))?;
     let builder = read_given_id(shape.get("builder"))?;
     let hooks = read_hooks(shape)?;
+    let proxy = read_given_proxy(shape.get("proxy"))?;
+    let name = read_text(alloc, required(shape, "name")?)?;
+    let format_proxies = read_format_proxies(alloc, shape.get("format_proxies"))?;
+    let def = read_def(alloc, required(shape, "def")?)?;
+    let preset = read_given_template(alloc, shape.get("preset"))?;
     Ok(Shape {
         name,
         def,
@@ -139,8 +141,8 @@ fn read_shape(alloc: Global, json: &Json) -> Result<Shape, FormError>
         convert: hooks.convert,
         parse: hooks.parse,
         parse_bytes: hooks.parse_bytes,
-        proxy: read_given_proxy(shape.get("proxy"))?,
-        format_proxies: read_format_proxies(alloc, shape.get("format_proxies"))?,
+        proxy,
+        format_proxies,
         invariant: hooks.invariant,
         metadata: flags.metadata,
         deny_unknown: flags.deny_unknown,

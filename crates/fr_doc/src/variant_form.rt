@@ -44,15 +44,19 @@ fn read_variant(alloc: Global, json: &Json) -> Result<VariantDef, FormError>
     ensures { Reads (λ variant. variant) (described_variant_form (data_of json.now)) result }
 {
     let variant = variant_object(json)?;
+    let kind = read_kind(variant.get("kind"))?;
+    let discriminant = read_given_int(variant.get("discriminant"))?;
+    let other = read_flag(variant.get("other"), false)?;
     let name = read_text(alloc, required(variant, "name")?)?;
+    let rename = read_given_text(alloc, variant.get("rename"))?;
     let fields = read_fields(alloc, required(variant, "fields")?)?;
     Ok(VariantDef {
         name,
-        rename: read_given_text(alloc, variant.get("rename"))?,
-        kind: read_kind(variant.get("kind"))?,
+        rename,
+        kind,
         fields,
-        discriminant: read_given_int(variant.get("discriminant"))?,
-        other: read_flag(variant.get("other"), false)?,
+        discriminant,
+        other,
     })
 }
 
