@@ -5,7 +5,7 @@ ghost use Rattle.fr_shape.specs.Val.{list_of, set_of};
 ghost use Rattle.fr_model.specs.Complete.{value_as};
 ghost use Rattle.fr_frame.specs.Bodies.{around_as, boxed_as, boxes, gathers, is_around};
 
-use crate::partial_values::release_partial;
+use crate::partial_values::{put_first, release_partial};
 use crate::places::{ContentKind, EntriesKind, ItemsKind, PartialValue, Tracker};
 use fr_shape::{Items, Ledger, OutOfMemory, Value};
 use fr_values::{Base, ChildValues, Children, array_of, distinct_items, merge_entries, object_of};
@@ -199,7 +199,7 @@ fn value_made(tracker: &Tracker, children: Children, mut held: Box<Value>) -> Va
     requires there { IsSome (value_of (begun_body (as_tracker tracker.now) children)) }
     ensures { value_of (begun_body (as_tracker tracker.now) children) ≡ Some (view result) }
 {
-    *held = value_in_box(tracker, children.into_values());
+    drop(std::mem::replace(&mut *held, value_in_box(tracker, children.into_values())));
     value_of_box(tracker, held)
 }
 
@@ -311,11 +311,11 @@ pub(crate) fn make_whole(
     let before = std::mem::replace(partial, PartialValue::Entered);
     match value_or_back(alloc, before, ledger) {
         Ok(value) => {
-            *partial = PartialValue::Whole(value);
+            put_first(partial, PartialValue::Whole(value));
             Ok(())
         }
         Err(back) => {
-            *partial = back;
+            put_first(partial, back);
             Err(OutOfMemory)
         }
     }

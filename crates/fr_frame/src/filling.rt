@@ -3,6 +3,7 @@ ghost use Rattle.std.specs.Prelude.{◌<◌, ◌≡◌};
 ghost use Rattle.fr_frame.specs.Common.{AreUnplaced, IfOk, IsChecked, IsClosed, IsFull, IsFullAs, IsNamed, IsPlanFor, None, OnErr, OnOk, as_fields, body_occurs, body_of, cells_occur, column_of, def_of, defaulted, defaulted_cells, defaulted_nth, defaulted_struct, entered_body, field_fill, length, shape_of, takes_template, true, values_of, ℕ};
 
 use crate::field_plans::{FillColumn, copy_fill, plans_of_fields};
+use crate::partial_values::put_first;
 use crate::places::{PartialValue, Tracker};
 use fr_plan::{FieldPlan, NodeId, TypePlanCore};
 use fr_shape::{Def, OutOfMemory, ShapeTable, Value, clone_template};
@@ -150,7 +151,8 @@ pub(crate) fn fill(
 {
     match partial {
         PartialValue::Entered => {
-            *partial = fill_entered(alloc, table, plan, node, column)?;
+            let filled = fill_entered(alloc, table, plan, node, column)?;
+            put_first(partial, filled);
             Ok(())
         }
         PartialValue::Whole(_) => Ok(()),

@@ -153,11 +153,12 @@ fn put_value(slot: &mut Slot, partial: PartialValue, list: SlotId, number: u32)
     let PartialValue::Whole(value) = partial else {
         unreachable!()
     };
-    *slot = Slot::Item(Item {
+    let item = Slot::Item(Item {
         value,
         list,
         number,
     });
+    drop(std::mem::replace(slot, item));
 }
 
 /// Takes what was put at a whole place out of it.

@@ -3,6 +3,7 @@ ghost use Rattle.std.specs.Prelude.{◌++◌, ◌∷◌, ◌≡◌};
 ghost use Rattle.fr_frame.specs.Common.{None, OnErr, OnOk, [], absent, body_occurs, body_of, entry_found, keys_apart, keys_in, true, with_entry_for, ℕ};
 ghost use Rattle.fr_frame.specs.Bodies.{IsObjectBody};
 
+use crate::partial_values::put_first;
 use crate::places::{EntriesKind, PartialValue, Tracker};
 use fr_shape::{OutOfMemory, Text};
 use fr_values::{Children, Keys};
@@ -60,10 +61,8 @@ pub(crate) fn add_entry_for(
         PartialValue::Begun(tracker, mut children) => match tracker {
             Tracker::Entries(EntriesKind::Object(mut keys)) => {
                 let added = push_entry(alloc, &mut keys, &mut children, key);
-                *partial = PartialValue::Begun(
-                    Tracker::Entries(EntriesKind::Object(keys)),
-                    children,
-                );
+                let object = Tracker::Entries(EntriesKind::Object(keys));
+                put_first(partial, PartialValue::Begun(object, children));
                 added
             }
             Tracker::Entries(EntriesKind::Map(_)) | Tracker::Items(_) => unreachable!(),

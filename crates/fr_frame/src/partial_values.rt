@@ -6,6 +6,7 @@ ghost use Rattle.fr_model.specs.Trackers.{Tracker as TreeTracker};
 ghost use Rattle.fr_frame.specs.Bodies.{fresh_body, IsMapBody, MayOpen};
 ghost use Rattle.fr_values.specs.Cells.{held_value};
 ghost use Rattle.fr_frame.specs.Growing.{grown, MayGrow};
+ghost use Rattle.fr_frame.specs.declared.places.PartialValue.{PartialValue as Held};
 ghost use Rattle.fr_frame.specs.declared.places.SlotId.{SlotId as Number};
 
 use crate::object_entries::add_entry_for;
@@ -137,6 +138,14 @@ fn product_of(values: Vec<Value>) -> Value
     Value::Product(Items::from_vec(values))
 }
 
+/// Puts something at a place that was only entered, where there is nothing to let go.
+pub(crate) fn put_first(partial: &mut PartialValue, first: PartialValue)
+    requires { partial.old ≡ Held.Entered }
+    ensures { partial.new ≡ first }
+{
+    std::mem::forget(std::mem::replace(partial, first));
+}
+
 /// Begins the place in its stead, with so many children. It stays as it was where there is no
 /// memory for them.
 pub(crate) fn open(
@@ -155,12 +164,12 @@ pub(crate) fn open(
     match partial {
         PartialValue::Entered => {
             let children = Children::none_yet(alloc, count)?;
-            *partial = PartialValue::Begun(tracker, children);
+            put_first(partial, PartialValue::Begun(tracker, children));
             Ok(())
         }
         PartialValue::Whole(value) => {
             let (over, children) = children_of(alloc, tracker, value)?;
-            *partial = PartialValue::Begun(over, children);
+            drop(std::mem::replace(partial, PartialValue::Begun(over, children)));
             Ok(())
         }
         PartialValue::Begun(..) => Ok(()),
@@ -270,8 +279,10 @@ pub(crate) fn reform(partial: &mut PartialValue, tracker: Tracker)
         body_occurs (body_of partial.new) t ≡ body_occurs (body_of partial.old) t }
 {
     match std::mem::replace(partial, PartialValue::Entered) {
-        PartialValue::Begun(_, children) => *partial = PartialValue::Begun(tracker, children),
-        PartialValue::Whole(value) => *partial = PartialValue::Whole(value),
+        PartialValue::Begun(_, children) => {
+            put_first(partial, PartialValue::Begun(tracker, children));
+        }
+        PartialValue::Whole(value) => put_first(partial, PartialValue::Whole(value)),
         PartialValue::Entered => {}
     }
 }

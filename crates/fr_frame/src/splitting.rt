@@ -1,6 +1,7 @@
 //! Taking a value apart into those of the children that it has at a place that is begun.
 ghost use Rattle.std.specs.Prelude.{◌+◌, ◌≡◌};
 ghost use Rattle.fr_frame.specs.Common.{HoldsNothingTwice, IfOk, IfSome, IsSome, OnErr, Some, as_content, as_entries, as_tracker, cells_of_vals, entries_of, entries_view, dynamic_in, length, map_of, member_vals, option_map, parts_of, set_items_of, view};
+ghost use Rattle.fr_shape.specs.declared.value.Value.{Value as Taken};
 ghost use Rattle.fr_model.specs.Contents.{content_of};
 ghost use Rattle.fr_model.specs.Dynamics.{members_of_object, object_keys};
 ghost use Rattle.fr_model.specs.Places.{base_in, items_of};
@@ -12,6 +13,14 @@ use crate::places::{ContentKind, EntriesKind, ItemsKind, Tracker};
 use fr_shape::{Items, OutOfMemory, Value};
 use fr_values::{Base, Children, elements_of, members_of};
 use std::alloc::Global;
+
+/// Puts a value back from which all was taken, so there is nothing to let go.
+fn put_back(value: &mut Value, back: Value)
+    requires { value.old ≡ Taken.Unit }
+    ensures { value.new ≡ back }
+{
+    std::mem::forget(std::mem::replace(value, back));
+}
 
 /// Takes the parts out of a product. It stays as it was where there is no memory for them.
 fn children_of_product(alloc: Global, value: &mut Value) -> Result<Children, OutOfMemory>
@@ -26,7 +35,7 @@ fn children_of_product(alloc: Global, value: &mut Value) -> Result<Children, Out
     match Children::all_there(alloc, items.into_vec(), Base::none()) {
         Ok(children) => Ok(children),
         Err(values) => {
-            *value = Value::Product(Items::from_vec(values));
+            put_back(value, Value::Product(Items::from_vec(values)));
             Err(OutOfMemory)
         }
     }
@@ -45,7 +54,7 @@ fn children_of_list(alloc: Global, value: &mut Value) -> Result<Children, OutOfM
     match Children::all_there(alloc, items.into_vec(), Base::none()) {
         Ok(children) => Ok(children),
         Err(values) => {
-            *value = Value::List(Items::from_vec(values));
+            put_back(value, Value::List(Items::from_vec(values)));
             Err(OutOfMemory)
         }
     }
@@ -66,7 +75,7 @@ fn children_of_set(alloc: Global, value: &mut Value) -> Result<Children, OutOfMe
     match Children::all_there(alloc, items.into_vec(), base) {
         Ok(children) => Ok(children),
         Err(values) => {
-            *value = Value::Set(Items::from_vec(values));
+            put_back(value, Value::Set(Items::from_vec(values)));
             Err(OutOfMemory)
         }
     }
@@ -113,7 +122,7 @@ fn children_of_map(alloc: Global, value: &mut Value) -> Result<(Tracker, Childre
     match Children::of_entries(alloc, entries, base) {
         Ok(children) => Ok((Tracker::Entries(EntriesKind::Map(base)), children)),
         Err(back) => {
-            *value = Value::Map(Items::from_vec(back));
+            put_back(value, Value::Map(Items::from_vec(back)));
             Err(OutOfMemory)
         }
     }
