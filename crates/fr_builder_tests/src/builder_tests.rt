@@ -1,4 +1,4 @@
-//! Each call of the builder with ample memory and hooks of the tests' own, whole builds, and where
+//! Each call of the builder with ample memory and hooks of one's own, whole builds, and where
 //! the token is after each refusal; then what it tells of itself, and calls by Rust types.
 mod bench;
 mod calls;

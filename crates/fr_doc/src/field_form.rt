@@ -71,8 +71,8 @@ fn read_given_default(
     }
 }
 
-/// A default comes last, so that it isn't let go where another part is broken: it may be a value of any
-/// form.
+/// A default comes last, so that it isn't let go where another part is broken: it may be a value of
+/// any form.
 #[tactic(auto, using(crate::proofs::FieldParts::field_from_parts))]
 fn read_field(alloc: Global, json: &Json) -> Result<Field, FormError>
     ensures { Reads (λ field. field) (field_form (data_of json.now)) result }

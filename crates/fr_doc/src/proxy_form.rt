@@ -38,7 +38,7 @@ pub fn read_given_proxy(found: Option<&Json>) -> Result<Option<ProxyDef>, FormEr
     }
 }
 
-/// The same with the name of a format.
+/// The same with the name of a format, which has to be let go and so comes last.
 #[tactic(auto, unfolding(crate::specs::ProxyForms::format_proxy_form))]
 fn read_format_proxy(alloc: Global, json: &Json) -> Result<FormatProxy, FormError>
     ensures { Reads (λ proxy. proxy) (format_proxy_form (data_of json.now)) result }

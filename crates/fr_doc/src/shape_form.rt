@@ -117,6 +117,7 @@ fn read_hooks(shape: &Json) -> Result<ShapeHooks, FormError>
     })
 }
 
+/// What has to be let go comes last, so that it isn't where another part is broken.
 #[tactic(auto, unfolding(crate::specs::ShapeForms::shape_form))]
 fn read_shape(alloc: Global, json: &Json) -> Result<Shape, FormError>
     ensures { Reads (λ shape. shape) (shape_form (data_of json.now)) result }

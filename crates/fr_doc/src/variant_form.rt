@@ -39,6 +39,7 @@ fn variant_object(json: &Json) -> Result<&Json, FormError>
     )
 }
 
+/// What has to be let go comes last, so that it isn't where another part is broken.
 #[tactic(auto, unfolding(crate::specs::VariantForms::described_variant_form))]
 fn read_variant(alloc: Global, json: &Json) -> Result<VariantDef, FormError>
     ensures { Reads (λ variant. variant) (described_variant_form (data_of json.now)) result }

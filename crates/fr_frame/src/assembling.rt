@@ -199,6 +199,7 @@ fn value_made(tracker: &Tracker, children: Children, mut held: Box<Value>) -> Va
     requires there { IsSome (value_of (begun_body (as_tracker tracker.now) children)) }
     ensures { value_of (begun_body (as_tracker tracker.now) children) ≡ Some (view result) }
 {
+    // A call lets go what was there: assigned over, its drop would stand here, variant by variant.
     drop(std::mem::replace(&mut *held, value_in_box(tracker, children.into_values())));
     value_of_box(tracker, held)
 }

@@ -158,6 +158,7 @@ fn put_value(slot: &mut Slot, partial: PartialValue, list: SlotId, number: u32)
         list,
         number,
     });
+    // A call lets go what was there: assigned over, its drop would stand here, variant by variant.
     drop(std::mem::replace(slot, item));
 }
 

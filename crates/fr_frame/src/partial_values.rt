@@ -169,6 +169,7 @@ pub(crate) fn open(
         }
         PartialValue::Whole(value) => {
             let (over, children) = children_of(alloc, tracker, value)?;
+            // A call lets go what was there: assigned over, its drop would stand here.
             drop(std::mem::replace(partial, PartialValue::Begun(over, children)));
             Ok(())
         }

@@ -1,4 +1,4 @@
--- The open places of a builder, as its state, and what is true of them. Only contracts here and inside `fr_partial` speak of them.
+-- The open places of a builder, as its state, and what is true of them. Only contracts here and inside `fr_work` speak of them.
 use Rattle.std.specs.Prelude.{◌≡◌, ℕ, List, []}
 use Rattle.fr_shape.specs.declared.shape.ShapeId.{ShapeId}
 use Rattle.fr_shape.specs.Checked.{IsChecked}

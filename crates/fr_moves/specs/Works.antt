@@ -1,4 +1,4 @@
--- What a builder works with, as contracts see it, and what is true of it. Only contracts here and inside `fr_partial` speak of it.
+-- What a builder works with, as contracts see it, and what is true of it. Only contracts here and inside `fr_work` speak of it.
 use Rattle.std.specs.Prelude.{◌≡◌}
 use Rattle.fr_shape.specs.Numbered.{IsNumbered}
 use Rattle.fr_model.specs.Paths.{path_of}

@@ -7,7 +7,7 @@ use std::alloc::Global;
 use std::marker::Model;
 use std::process::Abort;
 
-/// A table that the builder takes, and the tests' own hooks.
+/// A table that the builder takes, and hooks of one's own.
 #[derive(Drop)]
 pub struct Ground {
     pub table: ShapeTable,
@@ -54,7 +54,7 @@ pub fn ground_of(rt: &(impl Abort + AllocGlobal), document: &str) -> Ground {
     }
 }
 
-/// A table that keeps the rules, with the tests' hooks.
+/// A table that keeps the rules, with these hooks.
 pub fn ground_over(rt: &impl Abort, table: ShapeTable) -> Ground {
     assert!(rt; table.is_numbered());
     match table.check() {

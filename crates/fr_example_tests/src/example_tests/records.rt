@@ -68,6 +68,7 @@ fn text(rt: &impl Abort, alloc: Global, s: &str) -> Text {
     }
 }
 
+/// These pairs of a field's name and a text.
 pub fn pairs_of(rt: &impl Abort, alloc: Global, pairs: &[(&str, &str)]) -> Items<Pair> {
     let mut items = Items::new(alloc);
     for (name, said) in pairs {
