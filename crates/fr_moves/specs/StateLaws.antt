@@ -122,8 +122,12 @@ module _ {parts : Parts} (sound : IsSound parts) where
         → meant ≡ Ok (state_then parts place tree)
         → IsMade parts (record parts { frames = frames; path = path; calls = calls }) meant (Ok done)
     made_moved done path is =
-        let now = site_moved path in
-        (is ∙ ap (λ (s : Site). Ok s.state) (sym now), ap (λ (s : Site). s.shapes) now, ap (λ (s : Site). s.root) now)
+        let now = site_moved path in (
+          is ∙ ap (λ (s : Site). Ok s.state) (sym now),
+          ap (λ (s : Site). s.shapes) now,
+          ap (λ (s : Site). s.root) now,
+          ap (λ (s : Site). s.plan) now,
+        )
 
 -- The open places became so, and then so: all in all they became what they are now.
 pub became_through : {plan : Plan} {place other : Place} {tree next : Tree} {before between after : Frames}

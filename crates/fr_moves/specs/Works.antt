@@ -9,11 +9,12 @@ use Rattle.fr_refusals.specs.Modes.{mode_of}
 use Rattle.fr_moves.specs.Sites.{Site}
 use Rattle.fr_moves.specs.Underway.{state_of, IsAtWork}
 
--- the parts as contracts see them: the table, the root's shape and the state
+-- the parts as contracts see them: the table, the root's shape, the plan and the state
 abbrev pub site : Parts → Site
 site parts = record {
   shapes = parts.frames.table.now;
   root = parts.frames.root.0;
+  plan = plan_in parts.plan;
   state = state_of parts.frames.slots parts.frames.stack (mode_of parts.frames.mode) parts.calls;
 }
 

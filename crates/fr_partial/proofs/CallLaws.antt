@@ -36,7 +36,7 @@ decides_by hooks site call (Err kind) (inl refused) = inl (refused.0, refused.1 
 decides_by hooks site call (Err kind) (inr wanted) = inr (wanted.0, inl (wanted.1 hooks))
 
 module _ {H : Type 0} {h : H} {before : Builder H} {work : Site}
-    (is : ◌≡◌ {A = Builder H} (record { shapes = work.shapes; hooks = h; root = work.root; state = work.state }) before)
+    (is : ◌≡◌ {A = Builder H} (record { shapes = work.shapes; hooks = h; root = work.root; plan = work.plan; state = work.state }) before)
     (call : Call) (decided : Result Move ReflectErrorKind) (told : Decides work call decided) where
   -- what was decided by what a builder works with was decided of the builder
   decided_here : Decides (site_of before) call decided

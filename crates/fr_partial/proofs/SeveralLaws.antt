@@ -92,7 +92,7 @@ module _ {H : Type 0} (hooks : Meanings) (before : Builder H) (call : Call) (cal
 
   steps_on : (result : Result (Builder H) ReflectError) → AreSteps hooks (record before { state = at }) calls result
       → AreSteps hooks before (call ∷ calls) result
-  steps_on (Ok after) (led, shapes, root, same) = (led_on after.state led, shapes, root, same)
+  steps_on (Ok after) (led, shapes, root, hooks, plan) = (led_on after.state led, shapes, root, hooks, plan)
   steps_on (Err error) stops = stops_later error stops
 
   all_removed : (t : ℕ) → removed_by_all hooks before.shapes before.root before.state (call ∷ calls) t
@@ -131,12 +131,13 @@ module _ {H : Type 0} (hooks : Meanings) (before : Builder H) (call : Call) (cal
       removed = removed_on result are.tokens are.removed;
     }
 
--- a builder over the same table, root and hooks is the same but for its state
+-- a builder over the same table, root, hooks and plan is the same but for its state
 same_but_state : {H : Type 0} (before next : Builder H) → next.shapes ≡ before.shapes → next.root ≡ before.root → next.hooks ≡ before.hooks
-    → ◌≡◌ {A = Builder H} next (record before { state = next.state })
-same_but_state {H} before next shapes root hooks =
+    → next.plan ≡ before.plan → ◌≡◌ {A = Builder H} next (record before { state = next.state })
+same_but_state {H} before next shapes root hooks plan =
     ap (λ (s : _). record next { shapes = s }) shapes ∙ ap (λ (r : ℕ). record next { shapes = before.shapes; root = r }) root
     ∙ ap (λ (h : H). record next { shapes = before.shapes; root = before.root; hooks = h }) hooks
+    ∙ ap (λ (p : _). record next { shapes = before.shapes; root = before.root; hooks = before.hooks; plan = p }) plan
 
 -- the first is admitted, and then the others are made
 pub then : {H : Type 0} (means : H → Meanings) (before next : Builder H) (call : Call) (calls : List Call) (result : Result (Builder H) ReflectError)
@@ -145,13 +146,13 @@ pub then : {H : Type 0} (means : H → Meanings) (before next : Builder H) (call
 then {H} means before next call calls result old mid new is are =
     on (means before.hooks) before call calls next.state is.step.0 old mid new is.tokens is.removed result
     (subst (λ (b : Builder H). AreCalls (means b.hooks) b calls result mid new)
-    (same_but_state before next is.step.1 is.step.2 is.step.3) are)
+    (same_but_state before next is.step.1 is.step.2 is.step.3 is.step.4) are)
 
 -- the last one
 pub last : {H : Type 0} (hooks : Meanings) (before : Builder H) (call : Call) (result : Result (Builder H) ReflectError) (old new : List ℕ)
     → IsCall hooks before call result old new → AreCalls hooks before (call ∷ []) result old new
 last hooks before call (Ok after) old new is = record {
-  steps = (led_on hooks before call [] after.state is.step.0 after.state refl, is.step.1, is.step.2, is.step.3);
+  steps = (led_on hooks before call [] after.state is.step.0 after.state refl, is.step.1, is.step.2, is.step.3, is.step.4);
   tokens = record {
     same_length = is.tokens.same_length;
     kept_or_released = λ t. omega (arith, is.tokens.kept_or_released t);

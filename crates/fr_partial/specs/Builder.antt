@@ -1,7 +1,6 @@
 -- What contracts see of a builder, and what its calls owe.
 use Rattle.std.specs.Prelude.{◌≡◌, ◌≢◌, ◌⊎◌, ℕ, ◌+◌, List, Result, Ok, Err, IsErr, IfErr, IfOk, Bool, true, false, refl}
-use Rattle.std.specs.Coded.{Coded, code_by, coded×, coded_ℕ}
-use Rattle.fr_shape.specs.TableCode.{table_code}
+use Rattle.std.specs.Coded.{Coded, code_by, coded×}
 use Rattle.fr_shape.specs.Fits.{fits}
 use Rattle.fr_shape.specs.Hooks.{Meanings}
 use Rattle.fr_shape.specs.Look.{Table}
@@ -15,31 +14,31 @@ use Rattle.fr_model.specs.Removed.{removed, removed_at_build}
 use Rattle.fr_model.specs.Scripts.{brings}
 use Rattle.fr_model.specs.Step.{step, build, violates}
 use Rattle.fr_model.specs.Tree.{State, cursor_shape, tree_occurs}
-use Rattle.fr_model.specs.StateCode.{state_code}
+use Rattle.fr_plan.specs.TypePlan.{Plan}
 use Rattle.fr_work.specs.Building.{left_built}
 use Rattle.fr_work.specs.BuiltValue.{BuiltValue}
 use Rattle.fr_moves.specs.CompletedPlaces.{completes_late, PassesValidators}
 use Rattle.fr_work.specs.Making.{IsNotOutOfMemory}
 use Rattle.fr_work.specs.ParseHooks.{parses_by_hook}
-use Rattle.fr_moves.specs.Sites.{Site}
+use Rattle.fr_moves.specs.Sites.{Site, site_code}
 use Rattle.fr_work.specs.declared.reflect_error.ReflectError.{ReflectError}
 
--- the table that its shapes come from, the hooks, the root's shape, and the state
+-- the table that its shapes come from, the hooks, the root's shape, the plan of that, and the state
 pub record Builder (H : Type 0) : Type 0 where
   pub shapes : Table
   pub hooks : H
   pub root : ℕ
+  pub plan : Plan
   pub state : State
-
-abbrev pub builder_code : {H : Type 0} → Coded H → Coded (Builder H)
-builder_code {H} hooks_code =
-    code_by (Table × (H × (ℕ × State))) (coded× table_code (coded× hooks_code (coded× coded_ℕ state_code)))
-    (λ b. (b.shapes, (b.hooks, (b.root, b.state))))
-    (λ p. record { shapes = p.0; hooks = p.1.0; root = p.1.1.0; state = p.1.1.1 }) (λ b. refl)
 
 -- what it works with
 abbrev pub site_of : {H : Type 0} → Builder H → Site
-site_of builder = record { shapes = builder.shapes; root = builder.root; state = builder.state }
+site_of builder = record { shapes = builder.shapes; root = builder.root; plan = builder.plan; state = builder.state }
+
+abbrev pub builder_code : {H : Type 0} → Coded H → Coded (Builder H)
+builder_code {H} hooks_code =
+    code_by (H × Site) (coded× hooks_code site_code) (λ b. (b.hooks, site_of b))
+    (λ p. record { shapes = p.1.shapes; hooks = p.0; root = p.1.root; plan = p.1.plan; state = p.1.state }) (λ b. refl)
 
 -- the shape of the place at which it works
 abbrev pub here : {H : Type 0} → Builder H → ℕ
@@ -55,11 +54,12 @@ holds builder t = tree_occurs builder.state.tree t
 abbrev pub meaning : {H : Type 0} → Meanings → Builder H → Call → Result State ReflectErrorKind
 meaning hooks builder call = step hooks builder.shapes builder.root builder.state call
 
--- What is meant came about: where it is a state, the builder stands for it, over the same table, root and hooks; where it
--- is a refusal, that is the error's kind; or memory ran out.
+-- What is meant came about: where it is a state, the builder stands for it, over the same table, root, hooks and plan;
+-- where it is a refusal, that is the error's kind; or memory ran out.
 abbrev pub IsStepTo : {H : Type 0} → Builder H → (meant : Result State ReflectErrorKind) → Result (Builder H) ReflectError → Type 0
 IsStepTo before meant (Ok after) =
     (meant ≡ Ok after.state) × (after.shapes ≡ before.shapes) × (after.root ≡ before.root) × (after.hooks ≡ before.hooks)
+    × (after.plan ≡ before.plan)
 IsStepTo before meant (Err error) = (error.kind ≡ ReflectErrorKind.OutOfMemory) ⊎ (meant ≡ Err error.kind)
 
 -- the call did exactly what it means, or was out of memory

@@ -1,7 +1,6 @@
 pub mod Builder
 pub mod Common
 pub mod Given
-pub mod ItsPlan
 pub mod ReadAs
 pub mod Several
 pub mod Spots

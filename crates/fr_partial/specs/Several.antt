@@ -24,11 +24,11 @@ pub record StopsAtOne {H : Type 0} (hooks : Meanings) (before : Builder H) (call
   pub refused : (error.kind ≡ ReflectErrorKind.OutOfMemory) ⊎ (step hooks before.shapes before.root at stopped ≡ Err error.kind)
   pub path : error.path ≡ path_of at
 
--- The calls are all admitted, and the builder stands for the last state, over the same table, root and hooks; or it stopped at one of them.
+-- The calls are all admitted, and the builder stands for the last state, over the same table, root, hooks and plan; or it stopped at one of them.
 abbrev pub AreSteps : {H : Type 0} → Meanings → Builder H → List Call → Result (Builder H) ReflectError → Type 0
 AreSteps hooks before calls (Ok after) =
     AllLeadTo hooks before.shapes before.root before.state calls after.state
-    × (after.shapes ≡ before.shapes) × (after.root ≡ before.root) × (after.hooks ≡ before.hooks)
+    × (after.shapes ≡ before.shapes) × (after.root ≡ before.root) × (after.hooks ≡ before.hooks) × (after.plan ≡ before.plan)
 AreSteps hooks before calls (Err error) = StopsAtOne hooks before calls error
 
 -- how often the calls drop a token, all together: as often as each removes it; where they stopped, as often as the builder held it before

@@ -56,6 +56,7 @@ impl<'t, H: Hooks> Partial<'t, H> {
         ensures shapes { result.shapes ≡ self.entry.shapes }
         ensures root { result.root ≡ self.entry.root }
         ensures hooks { result.hooks ≡ self.entry.hooks }
+        ensures plan { result.plan ≡ self.entry.plan }
     {
         let Partial { hooks, work } = self;
         let work = work.defer();

@@ -1,6 +1,6 @@
 //! The builder.
 ghost use Rattle.std.specs.Prelude.{◌+◌, ◌≡◌};
-ghost use Rattle.fr_partial.specs.Common.{Call, ConversionsSuit, IfOk, IsCall, IsChecked, IsInOrder, IsMeant, IsNotOutOfMemory, IsNumbered, List, NeedsNone, None, RestsAround, Room, RoseBy, cursor_tree, holds, path_of, ℕ};
+ghost use Rattle.fr_partial.specs.Common.{Call, ConversionsSuit, IfOk, IsCall, IsChecked, IsInOrder, IsMeant, IsNotOutOfMemory, IsNumbered, IsPlanOf, List, NeedsNone, None, RestsAround, Room, RoseBy, cursor_tree, holds, path_of, ℕ};
 ghost use Rattle.fr_partial.specs.Builder.{meaning, site_of};
 ghost use Rattle.fr_moves.specs.CompletedPlaces.{PassesValidators};
 ghost use Rattle.fr_work.specs.Deciding.{carries, DecidesBy, NeedsMessageAlone, WasDecided};
@@ -31,6 +31,7 @@ impl<'t, H> Model for Partial<'t, H> {
       shapes = p.work.shapes;
       hooks = p.hooks.now;
       root = p.work.root;
+      plan = p.work.plan;
       state = p.work.state;
     } };
 }
@@ -42,6 +43,7 @@ impl<'t, H: Hooks> Partial<'t, H> {
     pub fn law_in_order(&self)
         ensures numbered { IsNumbered self.now.shapes }
         ensures checked { IsChecked self.now.shapes }
+        ensures plan { IsPlanOf self.now.shapes (record { 0 = self.now.root }) self.now.plan }
         ensures in_order { IsInOrder self.now.shapes self.now.root self.now.state }
         ensures rests { RestsAround self.now.state.cursor self.now.state.tree }
         ensures conversions { ConversionsSuit self.now.shapes self.now.root None

@@ -76,6 +76,7 @@ impl<'t, H: Hooks> Partial<'t, H> {
         ensures hooks { IfOk result (λ p. p.hooks ≡ hooks.now) }
         ensures root { IfOk result (λ p.
             (from : IsPlanFrom table.now plan.now) → p.root ≡ from.root.0) }
+        ensures plan { IfOk result (λ p. p.plan ≡ plan.now) }
         ensures state { IfOk result (λ p.
             (from : IsPlanFrom table.now plan.now) → p.state ≡ initial table.now from.root.0) }
         ensures refused { (from : IsPlanFrom table.now plan.now)
@@ -101,6 +102,7 @@ impl<'t, H: Hooks> Partial<'t, H> {
         ensures hooks { IfOk result (λ p. p.hooks ≡ hooks.now) }
         ensures root { IfOk result (λ p.
             (from : IsPlanFrom table.now plan.now) → p.root ≡ from.root.0) }
+        ensures plan { IfOk result (λ p. p.plan ≡ plan.now) }
         ensures state { IfOk result (λ p.
             (from : IsPlanFrom table.now plan.now) → p.state ≡ initial table.now from.root.0) }
         ensures refused { (from : IsPlanFrom table.now plan.now)
@@ -124,6 +126,7 @@ impl<'t, H: Hooks> Partial<'t, H> {
         ensures shapes { IfOk result (λ p. p.shapes ≡ table.now) }
         ensures hooks { IfOk result (λ p. p.hooks ≡ hooks.now) }
         ensures root { IfOk result (λ p. p.root ≡ root.0) }
+        ensures plan { IfOk result (λ p. p.plan ≡ plan_in plan.entry) }
         ensures state { IfOk result (λ p. p.state ≡ initial table.now root.0) }
         ensures refused { RefusedWith (unsized_refusal table.now root.0) result }
     {

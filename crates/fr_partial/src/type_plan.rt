@@ -98,6 +98,7 @@ impl<T: Facet> TypePlan<T> {
         ensures hooks { IfOk result (λ p. p.hooks ≡ hooks.now) }
         ensures root { IfOk result (λ p.
             (from : IsPlanFrom table.now self.now) → p.root ≡ from.root.0) }
+        ensures plan { IfOk result (λ p. p.plan ≡ self.now) }
         ensures state { IfOk result (λ p.
             (from : IsPlanFrom table.now self.now) → p.state ≡ initial table.now from.root.0) }
         ensures refused { (from : IsPlanFrom table.now self.now)
@@ -120,6 +121,7 @@ impl<T: Facet> TypePlan<T> {
         ensures hooks { IfOk result (λ p. p.hooks ≡ hooks.now) }
         ensures root { IfOk result (λ p.
             (from : IsPlanFrom table.now self.now) → p.root ≡ from.root.0) }
+        ensures plan { IfOk result (λ p. p.plan ≡ self.now) }
         ensures state { IfOk result (λ p.
             (from : IsPlanFrom table.now self.now) → p.state ≡ initial table.now from.root.0) }
         ensures refused { (from : IsPlanFrom table.now self.now)

@@ -13,7 +13,6 @@ pub mod InnerLaws
 pub mod KeptLaws
 pub mod NearestLaws
 pub mod NewItemLaws
-pub mod NodeLaws
 pub mod OpeningLaws
 pub mod OwnerLaws
 pub mod ParseLaws
@@ -23,7 +22,6 @@ pub mod PutLaws
 pub mod RangeLaws
 pub mod ReachedShapes
 pub mod ReadLaws
-pub mod SamePlanLaws
 pub mod SeenLaws
 pub mod SettingDefaults
 pub mod ToldLaws

@@ -1,23 +1,36 @@
--- What the plan has of the place at which a builder works.
-use Rattle.std.proofs.Common.{◌≡◌, sym, ◌∙◌, ap, subst}
-use Rattle.fr_work.specs.Common.{IsAtWork, IsOfShape, IsPlanOf, IsSound, LookupPathsAgree, LookupsAgree, NodeId, Parts, Plan, Site, cursor_in, def_of, heap_of, kid_shown, node_here, plan_in, shape_at, site}
+-- The plan's node of the place at which a builder works: as its slots tell it, and as the tree does; and what the plan has of it.
+use Rattle.std.proofs.Common.{◌≡◌, [], ◌∷◌, refl, ◌∙◌, ap, sym, subst}
+use Rattle.fr_work.specs.Common.{IsAtWork, IsOfShape, IsSound, Kid, LookupPathsAgree, LookupsAgree, NodeId, Parts, Place, Plan, Site, at, begun_plot, child_node, cursor_in, def_of, entered_plot, gone, heap_of, kid_shown, node_along, node_here, plan_in, shape_at, site, tree_of, whole_plot}
+use Rattle.fr_frame.specs.Kids.{there}
 use Rattle.fr_plan.specs.LookupLaws.{BackReferencesResolve}
 use Rattle.fr_plan.specs.ReachLaws.{NodesAreReached, ReachedHaveNodes}
+use Rattle.fr_store.specs.Ways.{kid_nth}
+use Rattle.fr_store.specs.WayLaws.{tree_of_nth}
 use Rattle.fr_work.specs.PlanParts.{HasParts}
-use Rattle.fr_work.specs.Readings.{cursor_node}
+use Rattle.fr_work.specs.Readings.{cursor_node, node_down}
 use Rattle.fr_moves.specs.Underway.{shape_here}
 use Rattle.fr_moves.specs.FitLaws.{is_there}
-use Rattle.fr_work.proofs.NodeLaws.{along_down}
 use Rattle.fr_moves.specs.PlaceLaws.{here_along}
 use Rattle.fr_work.proofs.PlanPartLaws.{own_of, parts_by}
 
+-- along a place, by the slots and by the tree
+along_down : (plan : Plan) (node : NodeId) (place : Place) (k : Kid) → node_along plan node place k ≡ node_down plan node place (tree_of k)
+along_down plan node [] k = refl
+along_down plan node (i ∷ place) gone = along_down plan node place gone
+along_down plan node (i ∷ place) (there v) = along_down plan node place gone
+along_down plan node (i ∷ place) (at slot stored entered_plot) = along_down plan node place gone
+along_down plan node (i ∷ place) (at slot stored (whole_plot v)) = along_down plan node place gone
+along_down plan node (i ∷ place) (at slot stored (begun_plot tracker kids)) =
+    along_down plan (child_node plan node tracker i) place (kid_nth i kids)
+    ∙ ap (node_down plan (child_node plan node tracker i) place) (tree_of_nth i kids)
+
 module _ {parts : Parts} (sound : IsSound parts) {seen : Site} (view_is : site parts ≡ seen) (plan : Plan)
     (plan_is : plan ≡ plan_in parts.plan) where
-  pub at_work : IsAtWork plan parts.frames
+  at_work : IsAtWork plan parts.frames
   at_work = subst (λ (p : Plan). IsAtWork p parts.frames) (sym plan_is) sound.at_work
 
-  pub planned_so : IsPlanOf seen.shapes (record { 0 = seen.root }) plan
-  planned_so = subst (λ (s : Site). IsPlanOf s.shapes (record { 0 = s.root }) plan) view_is at_work.ready.planned
+  pub plan_so : plan ≡ seen.plan
+  plan_so = plan_is ∙ ap (λ (s : Site). s.plan) view_is
 
   module _ (id : NodeId) (id_is : id ≡ node_here plan parts.frames.slots parts.frames.stack) where
     pub node_so : id ≡ cursor_node plan seen.state

@@ -5,10 +5,11 @@ use Rattle.fr_model.specs.Tree.{State}
 use Rattle.fr_work.specs.declared.reflect_error.ReflectError.{ReflectError}
 use Rattle.fr_moves.specs.Sites.{Site, held_at}
 
--- What was meant came about: where it is a state, that is the state then, over the same table and root; where it is a refusal, that is the
--- error's kind; or memory ran out.
+-- What was meant came about: where it is a state, that is the state then, over the same table, root and plan; where it is a refusal, that is
+-- the error's kind; or memory ran out.
 abbrev pub IsMoved : Site → (meant : Result State ReflectErrorKind) → Result Site ReflectError → Type 0
-IsMoved before meant (Ok after) = (meant ≡ Ok after.state) × (after.shapes ≡ before.shapes) × (after.root ≡ before.root)
+IsMoved before meant (Ok after) =
+    (meant ≡ Ok after.state) × (after.shapes ≡ before.shapes) × (after.root ≡ before.root) × (after.plan ≡ before.plan)
 IsMoved before meant (Err error) = (error.kind ≡ ReflectErrorKind.OutOfMemory) ⊎ (meant ≡ Err error.kind)
 
 -- how often a token is held then: not at all where the move was refused

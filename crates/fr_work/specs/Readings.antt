@@ -18,7 +18,7 @@ use Rattle.fr_model.specs.Trackers.{Tracker, as_fields, as_elements, as_content,
 use Rattle.fr_model.specs.Tree.{Tree, hole, entered, whole, begun, Trees, State, tree_nth, child_tree, shape_below, field_below, selected}
 use Rattle.fr_plan.specs.Fields.{fields_in}
 use Rattle.fr_plan.specs.Lookups.{by_id, enum_variant, node_at, resolved, struct_plan_at}
-use Rattle.fr_plan.specs.TypePlan.{IsPlanOf, Plan}
+use Rattle.fr_plan.specs.TypePlan.{Plan}
 use Rattle.fr_plan.specs.declared.nodes.DeserStrategy.{DeserStrategy}
 use Rattle.fr_plan.specs.declared.nodes.NodeId.{NodeId}
 use Rattle.fr_plan.specs.declared.nodes.TypePlanNode.{TypePlanNode}
@@ -145,10 +145,6 @@ node_down plan node (i ∷ place) t = node_down plan (node_of_child plan node i 
 -- the plan's node of the place at the cursor
 abbrev pub cursor_node : Plan → State → NodeId
 cursor_node plan state = node_down plan plan.root state.cursor state.tree
-
--- so it is by a plan of this root
-abbrev pub ByPlanOf : Table → (root : ℕ) → (Plan → Type 0) → Type 0
-ByPlanOf table root So = (plan : Plan) × IsPlanOf table (record { 0 = root }) plan × So plan
 
 -- What a plan says of it
 

@@ -60,7 +60,7 @@ impl<'t> Work<'t> {
     /// Whether the place at which the builder works is an item of a set.
     pub fn is_set_item(&self) -> bool
         requires below { is_root self.now.state.cursor ≡ false }
-        ensures { result ≡ is_set_item self.now.state }
+        ensures in_set { result ≡ is_set_item self.now.state }
     {
         match self.place_above().1 {
             PartialValue::Begun(tracker, _) => is_set(tracker),
@@ -71,7 +71,7 @@ impl<'t> Work<'t> {
     /// Whether it is an element or an entry of a dynamic value.
     pub fn is_dynamic_part(&self) -> bool
         requires below { is_root self.now.state.cursor ≡ false }
-        ensures { result ≡ is_dynamic_part self.now.state }
+        ensures part { result ≡ is_dynamic_part self.now.state }
     {
         match self.place_above().1 {
             PartialValue::Begun(tracker, _) => is_dynamic(tracker),
@@ -82,7 +82,7 @@ impl<'t> Work<'t> {
     /// Whether it is the source of a conversion.
     pub fn is_source(&self) -> bool
         requires below { is_root self.now.state.cursor ≡ false }
-        ensures { result ≡ is_source_place self.now.state }
+        ensures source { result ≡ is_source_place self.now.state }
     {
         is_conversion(self.place_above().1)
     }

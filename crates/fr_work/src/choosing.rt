@@ -17,7 +17,7 @@ pub fn select<'k>(
     found: Option<u32>,
     unknown: Operation,
 ) -> Result<Move<'k>, ReflectErrorKind>
-    ensures { (site : Site) (seen : Tree) → Sees site table.now shape seen
+    ensures decides { (site : Site) (seen : Tree) → Sees site table.now shape seen
         → (call : Call) (find : List Variant → Option ℕ) → Selects site call find unknown
         → found ≡ find (variants_of (def_of site.shapes (shape_at site)))
         → Decides site call result }
@@ -37,7 +37,7 @@ impl<'t> Work<'t> {
     /// variant that is selected, at the place of this shape at which the builder works.
     pub fn field_named(&self, shape: ShapeId, variant: Option<u32>, name: &str) -> Option<usize>
         requires { shape.0 ≡ shape_at self.now }
-        ensures { result
+        ensures number { result
             ≡ field_found name.now (def_of self.now.shapes (shape_at self.now)) variant }
     {
         law_plan_complete();
@@ -54,7 +54,7 @@ impl<'t> Work<'t> {
     /// which the builder works.
     pub fn variant_named(&self, shape: ShapeId, name: &str) -> Option<u32>
         requires { shape.0 ≡ shape_at self.now }
-        ensures { result
+        ensures number { result
             ≡ variant_named name.now (variants_of (def_of self.now.shapes (shape_at self.now))) }
     {
         law_plan_complete();
@@ -68,7 +68,7 @@ impl<'t> Work<'t> {
     /// works.
     pub fn variant_told_by(&self, shape: ShapeId, discriminant: i64) -> Option<u32>
         requires { shape.0 ≡ shape_at self.now }
-        ensures { result ≡ variant_told_by discriminant
+        ensures number { result ≡ variant_told_by discriminant
             (variants_of (def_of self.now.shapes (shape_at self.now))) }
     {
         law_plan_complete();

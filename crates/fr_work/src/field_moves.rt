@@ -12,7 +12,7 @@ impl<'t> Work<'t> {
     /// On to the first field that is declared under this name.
     #[inline(always)]
     pub fn begin_field_move<'k>(&self, name: &str) -> Result<Move<'k>, ReflectErrorKind>
-        ensures { Decides self.now (Call.BeginField name.now) result }
+        ensures decides { Decides self.now (Call.BeginField name.now) result }
     {
         let (table, shape, partial) = self.place();
         if let Some(operation) = named_refusal(table, shape, partial) {
@@ -30,7 +30,7 @@ impl<'t> Work<'t> {
     /// On to the field or element of this number.
     #[inline(always)]
     pub fn begin_nth_field_move<'k>(&self, idx: usize) -> Result<Move<'k>, ReflectErrorKind>
-        ensures { Decides self.now (Call.BeginNthField idx) result }
+        ensures decides { Decides self.now (Call.BeginNthField idx) result }
     {
         let (table, shape, partial) = self.place();
         match nth_opening(table, shape, partial, idx) {
@@ -44,7 +44,7 @@ impl<'t> Work<'t> {
         &self,
         idx: usize,
     ) -> Result<Move<'k>, ReflectErrorKind>
-        ensures { Decides self.now (Call.SetNthFieldToDefault idx) result }
+        ensures decides { Decides self.now (Call.SetNthFieldToDefault idx) result }
     {
         self.law_sound();
         let (table, shape, partial) = self.place();

@@ -79,6 +79,7 @@ impl<'t> Work<'t> {
         requires checked { IsChecked table.now }
         ensures shapes { IfOk result (λ work. work.shapes ≡ table.now) }
         ensures root { IfOk result (λ work. work.root ≡ root.0) }
+        ensures plan { IfOk result (λ work. work.plan ≡ plan_in plan.entry) }
         ensures state { IfOk result (λ work. work.state ≡ initial table.now root.0) }
         ensures refused { RefusedWith (unsized_refusal table.now root.0) result }
     {

@@ -10,7 +10,7 @@ use fr_shape::{Operation, ReflectErrorKind};
 impl<'t> Work<'t> {
     /// On to what a wrapper wraps or is built from.
     pub fn begin_inner_move<'k>(&self) -> Result<Move<'k>, ReflectErrorKind>
-        ensures { Decides self.now Call.BeginInner result }
+        ensures decides { Decides self.now Call.BeginInner result }
     {
         self.law_sound();
         let (table, shape, partial) = self.place();

@@ -32,7 +32,7 @@ impl<'t> Work<'t> {
     /// On to a new item of a list, a slice or a dynamic array.
     #[inline(always)]
     pub fn begin_list_item_move<'k>(&self) -> Result<Move<'k>, ReflectErrorKind>
-        ensures { Decides self.now Call.BeginListItem result }
+        ensures decides { Decides self.now Call.BeginListItem result }
     {
         let (table, shape, partial) = self.place();
         match item_opening(table, shape, partial) {

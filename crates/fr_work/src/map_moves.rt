@@ -32,7 +32,7 @@ impl<'t> Work<'t> {
     /// On to the key of a new entry.
     #[inline(always)]
     pub fn begin_key_move<'k>(&self) -> Result<Move<'k>, ReflectErrorKind>
-        ensures { Decides self.now Call.BeginKey result }
+        ensures decides { Decides self.now Call.BeginKey result }
     {
         let (_, shape, partial) = self.place();
         match key_opening(partial) {
@@ -44,7 +44,7 @@ impl<'t> Work<'t> {
     /// On to the value that the last entry lacks.
     #[inline(always)]
     pub fn begin_value_move<'k>(&self) -> Result<Move<'k>, ReflectErrorKind>
-        ensures { Decides self.now Call.BeginValue result }
+        ensures decides { Decides self.now Call.BeginValue result }
     {
         let (_, shape, partial) = self.place();
         match value_opening(partial) {

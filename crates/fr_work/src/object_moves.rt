@@ -9,7 +9,7 @@ use fr_shape::ReflectErrorKind;
 impl<'t> Work<'t> {
     /// On to the entry of this key of a dynamic object.
     pub fn begin_object_entry_move<'k>(&self, key: &'k str) -> Result<Move<'k>, ReflectErrorKind>
-        ensures { Decides self.now (Call.BeginObjectEntry key.now) result }
+        ensures decides { Decides self.now (Call.BeginObjectEntry key.now) result }
     {
         let (table, shape, partial) = self.place();
         match entry_refusal(table, shape, partial) {

@@ -10,7 +10,7 @@ use fr_shape::{Expected, ReflectErrorKind};
 impl<'t> Work<'t> {
     /// On to the content of an option.
     pub fn begin_some_move<'k>(&self) -> Result<Move<'k>, ReflectErrorKind>
-        ensures { Decides self.now Call.BeginSome result }
+        ensures decides { Decides self.now Call.BeginSome result }
     {
         self.law_sound();
         let (table, shape, partial) = self.place();

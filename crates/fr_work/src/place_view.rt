@@ -114,7 +114,7 @@ pub fn view_of<'a>(
     shape: ShapeId,
     partial: &'a PartialValue,
 ) -> Option<PlaceView<'a>>
-    ensures { result ≡ initialized_in shape.0 (heap_of slots.now) (body_of partial.now) }
+    ensures view { result ≡ initialized_in shape.0 (heap_of slots.now) (body_of partial.now) }
 {
     if !is_initialized(slots, partial) {
         return None;

@@ -3,9 +3,9 @@ ghost use Rattle.std.specs.Option.{option_copied, option_map};
 ghost use Rattle.std.specs.Prelude.{IfSome, IsSome, None, Some, is_some, ◌<◌, ◌≡◌, ◌||◌};
 ghost use Rattle.fr_model.specs.Variants.{is_enum};
 ghost use Rattle.fr_plan.specs.Lookups.{by_id, enum_plan_at, node_at, struct_plan_at};
-ghost use Rattle.fr_work.specs.Common.{IsChecked, IsIn, IsOfShape, IsPlanOf, Plan, TypePlanNode as Node, def_of, length, selected};
+ghost use Rattle.fr_work.specs.Common.{IsOfShape, TypePlanNode as Node, def_of, length, selected};
 ghost use Rattle.fr_work.specs.PlanParts.{HasParts};
-ghost use Rattle.fr_work.specs.Readings.{ByPlanOf, cursor_node, field_number, field_plans_at, field_range_at, is_struct, serving, serving_at, variant_plan_at};
+ghost use Rattle.fr_work.specs.Readings.{cursor_node, field_number, field_plans_at, field_range_at, is_struct, serving, serving_at, variant_plan_at};
 ghost use Rattle.fr_moves.specs.Sites.{shape_at, tree_at_site};
 ghost use Rattle.fr_shape.specs.declared.shape.Def.{Def as TheDef};
 
@@ -73,9 +73,7 @@ fn found_in_struct(plan: &TypePlanCore, id: NodeId, name: &str) -> Option<usize>
 impl<'t> Work<'t> {
     /// The plan, and the number of its node of the place at which the builder works.
     pub fn place_in_plan(&self) -> (&TypePlanCore, NodeId)
-        ensures checked { IsChecked self.now.shapes }
-        ensures inside { IsIn self.now.shapes self.now.root }
-        ensures planned { IsPlanOf self.now.shapes (record { 0 = self.now.root }) result.0.now }
+        ensures plan { result.0.now ≡ self.now.plan }
         ensures node { result.1 ≡ cursor_node result.0.now self.now.state }
         ensures shape { IsOfShape result.0.now result.1 (shape_at self.now) }
         ensures parts { HasParts result.0.now result.1
@@ -90,8 +88,8 @@ impl<'t> Work<'t> {
 
     /// The plan's node of the place, which there always is.
     pub fn plan_node(&self) -> Option<&TypePlanNode>
-        ensures node { ByPlanOf self.now.shapes self.now.root (λ plan. option_copied result
-            ≡ node_at plan (cursor_node plan self.now.state)) }
+        ensures node { option_copied result
+            ≡ node_at self.now.plan (cursor_node self.now.plan self.now.state) }
         ensures shape { IfSome result (λ node. node.now.shape.0 ≡ shape_at self.now) }
         ensures some { IsSome result }
     {
@@ -101,22 +99,18 @@ impl<'t> Work<'t> {
 
     /// The number of that node.
     pub fn plan_node_id(&self) -> Option<NodeId>
-        ensures node { (plan : Plan) → IsPlanOf self.now.shapes (record { 0 = self.now.root }) plan
-            → result ≡ Some (cursor_node plan self.now.state) }
-        ensures inside { (plan : Plan)
-            → IsPlanOf self.now.shapes (record { 0 = self.now.root }) plan
-            → IfSome result (λ id. id.0 < length plan.nodes) }
+        ensures node { result ≡ Some (cursor_node self.now.plan self.now.state) }
+        ensures inside { IfSome result (λ id. id.0 < length self.now.plan.nodes) }
     {
-        law_plan_lookups();
         let (_, id) = self.place_in_plan();
         Some(id)
     }
 
     /// The strategy of the node that serves there.
     pub fn deser_strategy(&self) -> Option<&DeserStrategy>
-        ensures strategy { ByPlanOf self.now.shapes self.now.root (λ plan. option_copied result
+        ensures strategy { option_copied result
             ≡ option_map (λ (node : Node). node.strategy)
-            (serving_at plan (cursor_node plan self.now.state))) }
+            (serving_at self.now.plan (cursor_node self.now.plan self.now.state)) }
         ensures some { IsSome result }
     {
         let (plan, id) = self.place_in_plan();
@@ -125,9 +119,9 @@ impl<'t> Work<'t> {
 
     /// Its proxies.
     pub fn proxy_nodes(&self) -> Option<&ProxyNodes>
-        ensures proxies { ByPlanOf self.now.shapes self.now.root (λ plan. option_copied result
+        ensures proxies { option_copied result
             ≡ option_map (λ (node : Node). node.proxies)
-            (serving_at plan (cursor_node plan self.now.state))) }
+            (serving_at self.now.plan (cursor_node self.now.plan self.now.state)) }
         ensures some { IsSome result }
     {
         let (plan, id) = self.place_in_plan();
@@ -136,8 +130,9 @@ impl<'t> Work<'t> {
 
     /// The plan of the struct at which the builder works.
     pub fn struct_plan(&self) -> Option<&StructPlan>
-        ensures plan { ByPlanOf self.now.shapes self.now.root (λ plan. option_copied result
-            ≡ by_id plan (struct_plan_at plan) (cursor_node plan self.now.state)) }
+        ensures plan { option_copied result
+            ≡ by_id self.now.plan (struct_plan_at self.now.plan)
+            (cursor_node self.now.plan self.now.state) }
         ensures structs { is_some result ≡ is_struct (def_of self.now.shapes (shape_at self.now)) }
     {
         let (plan, id) = self.place_in_plan();
@@ -146,8 +141,9 @@ impl<'t> Work<'t> {
 
     /// The plan of the enum at which the builder works.
     pub fn enum_plan(&self) -> Option<&EnumPlan>
-        ensures plan { ByPlanOf self.now.shapes self.now.root (λ plan. option_copied result
-            ≡ by_id plan (enum_plan_at plan) (cursor_node plan self.now.state)) }
+        ensures plan { option_copied result
+            ≡ by_id self.now.plan (enum_plan_at self.now.plan)
+            (cursor_node self.now.plan self.now.state) }
         ensures enums { is_some result ≡ is_enum (def_of self.now.shapes (shape_at self.now)) }
     {
         let (plan, id) = self.place_in_plan();
@@ -156,9 +152,9 @@ impl<'t> Work<'t> {
 
     /// The plan of the variant as which the enum is begun at which the builder works.
     pub fn selected_variant_plan(&self) -> Option<&VariantPlanMeta>
-        ensures plan { ByPlanOf self.now.shapes self.now.root (λ plan. option_copied result
-            ≡ variant_plan_at plan (selected (tree_at_site self.now))
-            (cursor_node plan self.now.state)) }
+        ensures plan { option_copied result
+            ≡ variant_plan_at self.now.plan (selected (tree_at_site self.now))
+            (cursor_node self.now.plan self.now.state) }
         ensures begun { is_some result ≡ is_some (selected (tree_at_site self.now)) }
     {
         self.law_sound();
@@ -171,9 +167,9 @@ impl<'t> Work<'t> {
 
     /// The plans of the fields of the struct, or of the selected variant, at which it works.
     pub fn field_plans(&self) -> Option<&[FieldPlan]>
-        ensures plans { ByPlanOf self.now.shapes self.now.root (λ plan. option_copied result
-            ≡ field_plans_at plan (selected (tree_at_site self.now))
-            (cursor_node plan self.now.state)) }
+        ensures plans { option_copied result
+            ≡ field_plans_at self.now.plan (selected (tree_at_site self.now))
+            (cursor_node self.now.plan self.now.state) }
         ensures fields { is_some result ≡ (is_struct (def_of self.now.shapes (shape_at self.now))
             || is_some (selected (tree_at_site self.now))) }
     {

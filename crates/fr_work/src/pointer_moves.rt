@@ -20,7 +20,7 @@ fn empty_slice(alloc: Global) -> Result<Value, OutOfMemory>
 impl<'t> Work<'t> {
     /// On to what a pointer points to, or the pointer is open for the items of a slice.
     pub fn begin_smart_ptr_move<'k>(&self) -> Result<Move<'k>, ReflectErrorKind>
-        ensures { Decides self.now Call.BeginSmartPtr result }
+        ensures decides { Decides self.now Call.BeginSmartPtr result }
     {
         self.law_sound();
         let (table, shape, partial) = self.place();
@@ -40,7 +40,7 @@ impl<'t> Work<'t> {
 
     /// A pointer to no items takes the place.
     pub fn set_empty_shared_slice_move<'k>(&self) -> Result<Move<'k>, ReflectErrorKind>
-        ensures { Decides self.now Call.SetEmptySharedSlice result }
+        ensures decides { Decides self.now Call.SetEmptySharedSlice result }
     {
         let (table, shape, _) = self.place();
         if let Some(operation) = shared_slice_refusal(table, shape) {

@@ -12,7 +12,7 @@ impl<'t> Work<'t> {
     /// On to this side of a result.
     pub fn begin_side_move<'k>(&self, side: Tracker) -> Result<Move<'k>, ReflectErrorKind>
         requires { IsSide (as_tracker side) }
-        ensures { Decides self.now (side_call (as_tracker side)) result }
+        ensures decides { Decides self.now (side_call (as_tracker side)) result }
     {
         self.law_sound();
         let (table, actual, partial) = self.place();

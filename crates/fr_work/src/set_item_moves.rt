@@ -29,7 +29,7 @@ impl<'t> Work<'t> {
     /// On to a new item of a set.
     #[inline(always)]
     pub fn begin_set_item_move<'k>(&self) -> Result<Move<'k>, ReflectErrorKind>
-        ensures { Decides self.now Call.BeginSetItem result }
+        ensures decides { Decides self.now Call.BeginSetItem result }
     {
         let (table, shape, partial) = self.place();
         match set_item_opening(table, shape, partial) {

@@ -64,7 +64,7 @@ impl<'t> Work<'t> {
 
     /// A copy of the default of the place's shape takes the place.
     pub fn set_default_move<'k>(&self) -> Result<Move<'k>, ReflectErrorKind>
-        ensures { Decides self.now Call.SetDefault result }
+        ensures decides { Decides self.now Call.SetDefault result }
     {
         self.law_sound();
         let (table, shape, _) = self.place();

@@ -10,7 +10,7 @@ use fr_shape::{Operation, ReflectErrorKind};
 impl<'t> Work<'t> {
     /// The variant of this number is selected.
     pub fn select_nth_variant_move<'k>(&self, index: usize) -> Result<Move<'k>, ReflectErrorKind>
-        ensures { Decides self.now (Call.SelectNthVariant index) result }
+        ensures decides { Decides self.now (Call.SelectNthVariant index) result }
     {
         self.law_sound();
         let (table, shape, _) = self.place();
@@ -20,7 +20,7 @@ impl<'t> Work<'t> {
 
     /// The variant of this name is selected.
     pub fn select_variant_named_move<'k>(&self, name: &str) -> Result<Move<'k>, ReflectErrorKind>
-        ensures { Decides self.now (Call.SelectVariantNamed name.now) result }
+        ensures decides { Decides self.now (Call.SelectVariantNamed name.now) result }
     {
         let (table, shape, _) = self.place();
         let found = self.variant_named(shape, name);
@@ -29,7 +29,7 @@ impl<'t> Work<'t> {
 
     /// The first variant that has this discriminant is selected.
     pub fn select_variant_move<'k>(&self, discriminant: i64) -> Result<Move<'k>, ReflectErrorKind>
-        ensures { Decides self.now (Call.SelectVariant discriminant) result }
+        ensures decides { Decides self.now (Call.SelectVariant discriminant) result }
     {
         let (table, shape, _) = self.place();
         let found = self.variant_told_by(shape, discriminant);

@@ -1,7 +1,7 @@
 //! What a builder works with, and its moves as a whole: what is decided is made, or all is
 //! released.
 ghost use Rattle.std.specs.Prelude.{◌+◌, ◌≡◌};
-ghost use Rattle.fr_work.specs.Common.{Conserved, ConversionsSuit, IfErr, IsChecked, IsErr, IsInOrder, IsMeant, IsNotOutOfMemory, IsNumbered, None, RestsAround, Room, RoseBy, Sees, body_of, carried, false, held_at, held_in, is_map, lacks_last, lacks_value, length, meant_by, mode_of, own_tree, path_of, strict, true};
+ghost use Rattle.fr_work.specs.Common.{Conserved, ConversionsSuit, IfErr, IsChecked, IsErr, IsInOrder, IsMeant, IsNotOutOfMemory, IsNumbered, IsPlanOf, None, RestsAround, Room, RoseBy, Sees, body_of, carried, false, held_at, held_in, is_map, lacks_last, lacks_value, length, meant_by, mode_of, own_tree, path_of, strict, true};
 ghost use Rattle.fr_model.specs.Step.{begin_deferred};
 ghost use Rattle.fr_work.specs.Making.{left_at, IsMoved};
 ghost use Rattle.fr_moves.specs.CompletedPlaces.{PassesValidators};
@@ -19,7 +19,7 @@ use std::alloc::Global;
 use std::marker::Model;
 
 /// What a builder works with, on the heap, so that a call moves no more than where it is. Contracts
-/// see the table, the root's shape and the state.
+/// see the table, the root's shape, the plan and the state.
 #[derive(Drop)]
 pub struct Work<'t> {
     pub(crate) parts: Box<Parts<'t>>,
@@ -64,6 +64,7 @@ impl<'t> Work<'t> {
     pub fn law_sound(&self)
         ensures numbered { IsNumbered self.now.shapes }
         ensures checked { IsChecked self.now.shapes }
+        ensures plan { IsPlanOf self.now.shapes (record { 0 = self.now.root }) self.now.plan }
         ensures in_order { IsInOrder self.now.shapes self.now.root self.now.state }
         ensures rests { RestsAround self.now.state.cursor self.now.state.tree }
         ensures conversions { ConversionsSuit self.now.shapes self.now.root None
@@ -138,6 +139,7 @@ impl<'t> Work<'t> {
         ensures state { begin_deferred self.entry.state ≡ Ok result.state }
         ensures shapes { result.shapes ≡ self.entry.shapes }
         ensures root { result.root ≡ self.entry.root }
+        ensures plan { result.plan ≡ self.entry.plan }
     {
         match defer(&mut *self.parts) {
             Ok(()) => self,

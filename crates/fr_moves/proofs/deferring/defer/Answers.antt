@@ -36,4 +36,5 @@ returns-clause-moved c = (
   ap (λ (s : State). Ok s) (sym (state_is (goal.at.returns-clause-moved c).After-saturating_add-parts)),
   refl,
   refl,
+  refl,
 )

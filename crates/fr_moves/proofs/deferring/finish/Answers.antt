@@ -35,6 +35,7 @@ returns-in-Ok-clause-moved g c =
           c.in-Ok.ensures.finished c.saturating_add-parts.ensures)),
       refl,
       refl,
+      refl,
     )
 
 pub returns-in-Err-clause-moved : goal.returns-in-Err-clause-moved

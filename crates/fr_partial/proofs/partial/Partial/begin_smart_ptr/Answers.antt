@@ -4,7 +4,7 @@ use Rattle.fr_partial.proofs.CallLaws.{called, meant_of}
 use Rattle.fr_partial.proofs.partial.Partial.begin_smart_ptr.Goals as goal
 
 pub run-requires-clause-meant : goal.run-requires-clause-meant
-run-requires-clause-meant g c = meant_of c.self.view_is Call.BeginSmartPtr _ c.begin_smart_ptr_move-decided.ensures
+run-requires-clause-meant g c = meant_of c.self.view_is Call.BeginSmartPtr _ c.begin_smart_ptr_move-decided.ensures.decides
 
 pub returns : goal.returns
-returns g c = record { call = called c.self.view_is Call.BeginSmartPtr _ c.begin_smart_ptr_move-decided.ensures _ (λ t. refl) _ c.run.ensures.call }
+returns g c = record { call = called c.self.view_is Call.BeginSmartPtr _ c.begin_smart_ptr_move-decided.ensures.decides _ (λ t. refl) _ c.run.ensures.call }

@@ -11,7 +11,7 @@ told : (g : Over) (c : After-select_variant_move-decided g)
     → Decides c.self.inside.work (Call.SelectVariant c.args.discriminant) c.select_variant_move-decided.result
 told g c =
     subst (λ (d : ℤ). Decides c.self.inside.work (Call.SelectVariant d) c.select_variant_move-decided.result)
-    (to_z-of_z w64 c.args.discriminant c.ranges.discriminant) c.select_variant_move-decided.ensures
+    (to_z-of_z w64 c.args.discriminant c.ranges.discriminant) c.select_variant_move-decided.ensures.decides
 
 pub run-requires-clause-meant : goal.run-requires-clause-meant
 run-requires-clause-meant g c =

@@ -5,13 +5,17 @@ use Rattle.fr_work.proofs.SeenLaws.{items_seen, set_item_seen}
 use Rattle.fr_work.proofs.work.Work.begin_set_item_move.Goals as goal
 
 pub returns-in-Ok : goal.returns-in-Ok
-returns-in-Ok c =
-    let at = c.place.ensures.seen in
-    let may = c.in-Ok.ensures.refused ∙ set_item_seen at in
-    goes_unless c.args.self.now Call.BeginSetItem (Way.Item c.in-Ok.opening) refl (λ hooks. refl) may
-    (items_seen at (as_tracker c.in-Ok.opening.tracker) c.in-Ok.opening.count c.in-Ok.ensures.items, c.in-Ok.ensures.grows, inr (sym may))
+returns-in-Ok c = record {
+  decides =
+      let at = c.place.ensures.seen in
+      let may = c.in-Ok.ensures.refused ∙ set_item_seen at in
+      goes_unless c.args.self.now Call.BeginSetItem (Way.Item c.in-Ok.opening) refl (λ hooks. refl) may
+      (items_seen at (as_tracker c.in-Ok.opening.tracker) c.in-Ok.opening.count c.in-Ok.ensures.items, c.in-Ok.ensures.grows, inr (sym may));
+}
 
 pub returns-in-Err : goal.returns-in-Err
-returns-in-Err c =
-    let at = c.place.ensures.seen in
-    cannot at Call.BeginSetItem _ c.in-Err.operation (λ hooks. refl) (c.in-Err.ensures.refused ∙ set_item_seen at)
+returns-in-Err c = record {
+  decides =
+      let at = c.place.ensures.seen in
+      cannot at Call.BeginSetItem _ c.in-Err.operation (λ hooks. refl) (c.in-Err.ensures.refused ∙ set_item_seen at);
+}

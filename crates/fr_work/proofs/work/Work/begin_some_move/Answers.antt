@@ -10,24 +10,28 @@ use Rattle.fr_work.proofs.SeenLaws.{def_seen}
 use Rattle.fr_work.proofs.work.Work.begin_some_move.Goals as goal
 
 pub returns : goal.returns
-returns c =
-    let site = c.args.self.now in
-    let at = c.place.ensures.seen in
-    let def = def_of site.shapes (shape_at site) in
-    let content = def_of site.shapes (content_shape def) in
-    let option : is_option def ≡ true = ap is_option (sym (def_seen at)) ∙ c.in-Some.ensures.some in
-    content_goes site Call.BeginSome (Tracker.Content Begun.Some) c.beginning_of_some-beginning.result
-    (beginning_of_some site.state.mode content (cursor_tree site.state)) (option_kept site.shapes (shape_at site) site.state) refl
-    refl (option_full def option)
-    (some_wanted at (mode_of c.mode.result) c.beginning_of_some-beginning.result c.mode.ensures.mode c.in-Some.content.0
-    c.in-Some.ensures.content c.beginning_of_some-beginning.ensures.kept)
-    (may_begin_some site.state.mode content def (cursor_tree site.state) (full_here site c.law_sound.ensures.in_order))
-    (kept_some_is site.state.mode content (cursor_tree site.state)) (λ hooks. rw option refl)
+returns c = record {
+  decides =
+      let site = c.args.self.now in
+      let at = c.place.ensures.seen in
+      let def = def_of site.shapes (shape_at site) in
+      let content = def_of site.shapes (content_shape def) in
+      let option : is_option def ≡ true = ap is_option (sym (def_seen at)) ∙ c.in-Some.ensures.some in
+      content_goes site Call.BeginSome (Tracker.Content Begun.Some) c.beginning_of_some-beginning.result
+      (beginning_of_some site.state.mode content (cursor_tree site.state)) (option_kept site.shapes (shape_at site) site.state) refl
+      refl (option_full def option)
+      (some_wanted at (mode_of c.mode.result) c.beginning_of_some-beginning.result c.mode.ensures.mode c.in-Some.content.0
+      c.in-Some.ensures.content c.beginning_of_some-beginning.ensures.kept)
+      (may_begin_some site.state.mode content def (cursor_tree site.state) (full_here site c.law_sound.ensures.in_order))
+      (kept_some_is site.state.mode content (cursor_tree site.state)) (λ hooks. rw option refl);
+}
 
 pub returns-in_default : goal.returns-in_default
-returns-in_default c =
-    let site = c.args.self.now in
-    let at = c.place.ensures.seen in
-    let other : is_option (def_of site.shapes (shape_at site)) ≡ false
-    = ap is_option (sym (def_seen at)) ∙ c.in_default.ensures.none in
-    is_not at Call.BeginSome Expected.Option (λ hooks. rw other refl)
+returns-in_default c = record {
+  decides =
+      let site = c.args.self.now in
+      let at = c.place.ensures.seen in
+      let other : is_option (def_of site.shapes (shape_at site)) ≡ false
+      = ap is_option (sym (def_seen at)) ∙ c.in_default.ensures.none in
+      is_not at Call.BeginSome Expected.Option (λ hooks. rw other refl);
+}

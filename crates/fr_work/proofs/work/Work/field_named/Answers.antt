@@ -15,7 +15,13 @@ told c =
     ∙ declared_is c.args.name.now _ c.args.variant
 
 pub returns-in-Some : goal.returns-in-Some
-returns-in-Some c = sym c.in-Some.is ∙ told (goal.at.returns-in-Some c).After-declared_field
+returns-in-Some c = record {
+  number =
+      sym c.in-Some.is ∙ told (goal.at.returns-in-Some c).After-declared_field;
+}
 
 pub returns-in-None : goal.returns-in-None
-returns-in-None c = sym c.in-None.is ∙ told (goal.at.returns-in-None c).After-declared_field
+returns-in-None c = record {
+  number =
+      sym c.in-None.is ∙ told (goal.at.returns-in-None c).After-declared_field;
+}

@@ -14,7 +14,7 @@ returns c =
     let at = (goal.at.returns c).After-deref-parts in
     record {
       view =
-          c.view_of.ensures
+          c.view_of.ensures.view
           ∙ seen_told _ c.deref-parts.result.now.frames.slots (body_of c.told_here.result.1.now)
           (top_tree c.deref-parts.result.now.frames) c.told_here.ensures.says
           ∙ ap (λ (s : Site). initialized c.place.result.1.0 (tree_at_site s)) (seen at)

@@ -1,6 +1,6 @@
 use Rattle.std.proofs.Common.{◌≡◌, sym, ◌∙◌, ap, subst}
 use Rattle.fr_work.specs.Common.{IsSound, site}
-use Rattle.fr_work.proofs.ReadLaws.{node_so, parts_so, shaped_so}
+use Rattle.fr_work.proofs.ReadLaws.{node_so, parts_so, plan_so, shaped_so}
 use Rattle.fr_work.proofs.work.Work.place_in_plan.Goals as goal
 use Rattle.fr_work.proofs.work.Work.place_in_plan.Goals.{After-deref-parts}
 
@@ -9,6 +9,11 @@ sound c = subst IsSound (sym c.deref-parts.ensures) c.self.invariant
 
 seen : (c : After-deref-parts) → site c.deref-parts.result.now ≡ c.args.self.now
 seen c = ap site c.deref-parts.ensures ∙ c.self.view_is
+
+pub returns-clause-plan : goal.returns-clause-plan
+returns-clause-plan c =
+    let at = (goal.at.returns-clause-plan c).After-deref-parts in
+    plan_so (sound at) (seen at) _ c.core-plan.ensures.plan
 
 pub returns-clause-node : goal.returns-clause-node
 returns-clause-node c =

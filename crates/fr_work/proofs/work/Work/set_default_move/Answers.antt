@@ -8,12 +8,20 @@ copy_template-requires c = record {
 }
 
 pub returns-in_default : goal.returns-in_default
-returns-in_default c = default_missing c.place.ensures.seen c.in_default.ensures.template
+returns-in_default c = record {
+  decides =
+      default_missing c.place.ensures.seen c.in_default.ensures.template;
+}
 
 pub returns-in-Ok : goal.returns-in-Ok
-returns-in-Ok c =
-    default_copied c.place.ensures.seen c.law_sound.ensures.checked c.in-Some.template.now c.in-Some.ensures.template c.in-Ok.value
-    c.in-Ok.ensures.copy
+returns-in-Ok c = record {
+  decides =
+      default_copied c.place.ensures.seen c.law_sound.ensures.checked c.in-Some.template.now c.in-Some.ensures.template c.in-Ok.value
+      c.in-Ok.ensures.copy;
+}
 
 pub returns-in-Err : goal.returns-in-Err
-returns-in-Err c = copy_wanted c.place.ensures.seen c.law_sound.ensures.checked c.in-Some.template.now c.in-Some.ensures.template
+returns-in-Err c = record {
+  decides =
+      copy_wanted c.place.ensures.seen c.law_sound.ensures.checked c.in-Some.template.now c.in-Some.ensures.template;
+}

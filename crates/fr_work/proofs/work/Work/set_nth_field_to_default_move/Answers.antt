@@ -16,14 +16,21 @@ copy_template-requires c = record {
 }
 
 pub returns-in-Err : goal.returns-in-Err
-returns-in-Err c = default_refused c.place.ensures.seen c.args.idx c.in-Err.kind c.in-Err.ensures.refused
+returns-in-Err c = record {
+  decides =
+      default_refused c.place.ensures.seen c.args.idx c.in-Err.kind c.in-Err.ensures.refused;
+}
 
 pub returns-in-Ok-copy_template : goal.returns-in-Ok-copy_template
-returns-in-Ok-copy_template c =
-    default_put c.place.ensures.seen c.args.idx c.law_sound.ensures.checked c.in-Ok.template.now
-    c.in-Ok.ensures.told c.opening_at-opening.result c.opening_at-opening.ensures.opening c.in-Ok-copy_template.value
-    c.in-Ok-copy_template.ensures.copy
+returns-in-Ok-copy_template c = record {
+  decides =
+      default_put c.place.ensures.seen c.args.idx c.law_sound.ensures.checked c.in-Ok.template.now
+      c.in-Ok.ensures.told c.opening_at-opening.result c.opening_at-opening.ensures.opening c.in-Ok-copy_template.value
+      c.in-Ok-copy_template.ensures.copy;
+}
 
 pub returns-in-Err-copy_template : goal.returns-in-Err-copy_template
-returns-in-Err-copy_template c =
-    default_wanted c.place.ensures.seen c.args.idx c.law_sound.ensures.checked c.in-Ok.template.now c.in-Ok.ensures.told
+returns-in-Err-copy_template c = record {
+  decides =
+      default_wanted c.place.ensures.seen c.args.idx c.law_sound.ensures.checked c.in-Ok.template.now c.in-Ok.ensures.told;
+}
