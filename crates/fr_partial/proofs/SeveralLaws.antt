@@ -9,7 +9,6 @@ use Rattle.fr_model.specs.Commands.{Call}
 use Rattle.fr_model.specs.Paths.{path_of}
 use Rattle.fr_model.specs.Removed.{removed}
 use Rattle.fr_model.specs.Scripts.{brings, brought}
-use Rattle.fr_model.specs.Step.{step}
 use Rattle.fr_model.specs.Sequences.{AllLeadTo, IsAdmittedThen, dropped_then, removed_by_all}
 use Rattle.fr_model.specs.Tree.{State, tree_occurs}
 use Rattle.fr_partial.specs.Builder.{Builder, IsCall, holds, left, meaning}

@@ -1,5 +1,5 @@
 -- What is kept of a place where it is begun, and how it may be begun.
-use Rattle.std.proofs.Common.{◌≡◌, ℕ, Bool, true, false, Option, Some, None, option_map, Result, Ok, Err, is_some, if◌then◌else◌, refl, sym, ◌∙◌, ap, subst, arith}
+use Rattle.std.proofs.Common.{◌≡◌, ℕ, Bool, true, false, Option, Some, None, option_map, is_some, if◌then◌else◌, refl, sym, ◌∙◌, ap, subst, arith}
 use Rattle.fr_work.specs.Common.{Beginning, ContentKind, Def, HasChild, HoldsNothingTwice, IsFullAs, Mode, Table, Tracker, Tree, Trees, Val, as_content, beginning_in, beginning_of_some, beginning_so, begun, count_trees, def_of, deferred, entered, hole, is_around, kept_so, strict, whole, State, beginning_of_inner, content_shape, cursor_tree}
 use Rattle.fr_model.specs.Contents.{content_of, is_entered_in_place, kept_in, kept_option}
 use Rattle.fr_model.specs.Trackers.{same_tracker}

@@ -1,5 +1,5 @@
 -- The way up from the place at which a builder works, slot by slot.
-use Rattle.std.proofs.Common.{◌≡◌, ◌+◌, ◌-◌, ◌<◌, Bool, ℕ, suc, length, false, List, [], ◌∷◌, ◌++◌, Option, Some, None, option_map, refl, sym, ◌∙◌, ap, subst, arith}
+use Rattle.std.proofs.Common.{◌≡◌, ◌+◌, ◌<◌, Bool, ℕ, suc, length, false, List, [], ◌∷◌, ◌++◌, Option, Some, None, option_map, refl, sym, ◌∙◌, ap, subst, arith}
 use Rattle.std.specs.Option.{option_or}
 use Rattle.std.proofs.lemmas.List.{append-nil, append_assoc}
 use Rattle.fr_work.specs.Common.{Along, Body, Def, Field, FrameOwner, IsLast, IsOfShape, IsOpen, Kid, LookupPathsAgree, LookupsAgree, Node, NodeId, Place, Plan, Plot, ShapeId, Slot, Table, Tree, TypePlanNode, at, begun_plot, body_in, body_of, child_tree, cursor_in, def_of, entered_plot, gone, heap_of, is_root, kid_shown, node_along, open_top, own_tree, shape_in, tree_at, tree_in, tree_of, whole_plot}

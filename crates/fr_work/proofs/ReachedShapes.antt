@@ -6,7 +6,6 @@ use Rattle.fr_shape.specs.Plannable.{Reached}
 use Rattle.fr_plan.specs.declared.outlines.Outline.{Outline}
 use Rattle.fr_plan.specs.Nodes.{IsNode}
 use Rattle.fr_plan.specs.PlanLaws.{PlansAreComplete}
-use Rattle.fr_frame.specs.Kids.{there}
 
 -- what stands beside the element of this number
 pub record Beside {A B : Type 0} (R : A → B → Type 0) (xs : List A) (i : ℕ) (y : B) : Type 0 where
