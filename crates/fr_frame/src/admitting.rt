@@ -24,7 +24,7 @@ pub const MOST_ELEMENTS: u32 = 4096;
 
 /// The variant as which the place is begun, if it is begun as one.
 pub fn selected(partial: &PartialValue) -> Option<u32>
-    ensures { result ≡ selected (own_tree (body_of partial.now)) }
+    ensures selected { result ≡ selected (own_tree (body_of partial.now)) }
 {
     match partial {
         PartialValue::Begun(Tracker::Fields(Some(k)), _) => Some(*k),
@@ -121,7 +121,8 @@ pub fn named_refusal(
     shape: ShapeId,
     partial: &PartialValue,
 ) -> Option<Operation>
-    ensures { result ≡ named_refusal (def_of table.now shape.0) (own_tree (body_of partial.now)) }
+    ensures refused { result
+        ≡ named_refusal (def_of table.now shape.0) (own_tree (body_of partial.now)) }
 {
     let Some(entry) = table.get(shape) else {
         return Some(Operation::FieldOfOther);
@@ -149,7 +150,7 @@ pub fn field_of(
     variant: Option<u32>,
     i: usize,
 ) -> Option<&Field>
-    ensures { option_copied result ≡ field_in (def_of table.now shape.0) variant i }
+    ensures field { option_copied result ≡ field_in (def_of table.now shape.0) variant i }
 {
     match (&table.get(shape)?.def, variant) {
         (Def::Struct(described), None) => described.fields.get(i),

@@ -111,7 +111,8 @@ impl SlotId {
 
     /// The conversion whose source the place is, if it is one's.
     pub fn conversion_above(self, slots: &Slots) -> Option<Conversion>
-        ensures { option_map as_conversion result ≡ conversion_over (heap_of slots.now) self.0 }
+        ensures conversion { option_map as_conversion result
+            ≡ conversion_over (heap_of slots.now) self.0 }
     {
         Some(self.over(slots)?.conversion)
     }

@@ -16,14 +16,14 @@ pub enum Base {
 impl Base {
     /// Nothing is known.
     pub fn none() -> Base
-        ensures { (values : List Value) → AreApart result values }
+        ensures apart { (values : List Value) → AreApart result values }
     {
         Base::Items(0)
     }
 
     /// So many items, if they can be numbered, and else none.
     pub fn of_items(count: usize) -> Base
-        ensures { (values : List Value) → length values ≡ count
+        ensures apart { (values : List Value) → length values ≡ count
             → none_twice (vals_view values) ≡ true → AreApart result values }
     {
         match u32::try_from(count) {
@@ -34,7 +34,7 @@ impl Base {
 
     /// How many children it has.
     pub fn len(self) -> usize
-        ensures { result ≡ count_in_base self }
+        ensures count { result ≡ count_in_base self }
     {
         match self {
             Base::Items(count) => count as usize,
@@ -68,7 +68,7 @@ impl Base {
 
     /// Lets it end before this child, if it has it.
     pub fn cut_at(&mut self, number: usize)
-        ensures { IsCut number self.old self.new }
+        ensures cut { IsCut number self.old self.new }
     {
         match self {
             Base::Items(count) => {
@@ -86,7 +86,7 @@ impl Base {
 
     /// Lets it have the item of this number too, if it ends before it.
     pub fn grow_at(&mut self, number: usize)
-        ensures { IsGrown number self.old self.new }
+        ensures grown { IsGrown number self.old self.new }
     {
         if let Base::Items(count) = self
             && *count as usize == number

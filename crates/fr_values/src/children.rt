@@ -164,7 +164,7 @@ impl Children {
 
     /// No children. Takes no memory.
     pub fn none(alloc: Global) -> Children
-        ensures { result ≡ [] }
+        ensures empty { result ≡ [] }
     {
         Children {
             parts: ChildValues::none(alloc),
@@ -300,7 +300,7 @@ impl Children {
     /// Lets a child not be there.
     pub fn clear(&mut self, i: usize)
         requires { i < length self.old }
-        ensures { self.new ≡ slice_set self.old i absent }
+        ensures cleared { self.new ≡ slice_set self.old i absent }
     {
         let _held = self.take(i);
     }
@@ -308,7 +308,7 @@ impl Children {
     /// Puts a child's value in the stead of what stood there.
     pub fn put(&mut self, i: usize, value: Value)
         requires { i < length self.old }
-        ensures { self.new ≡ slice_set self.old i (given (view value)) }
+        ensures put { self.new ≡ slice_set self.old i (given (view value)) }
     {
         cut_at(&mut self.base, &mut self.index, i);
         self.given.set(i);
@@ -481,7 +481,7 @@ impl Children {
     pub fn of_parts(alloc: Global, parts: ChildValues, numbers: ISet, base: Base) -> Children
         requires numbers { HasNumbers (length parts) numbers }
         requires base { AreApart base parts }
-        ensures { result ≡ map (λ v. given (view v)) parts }
+        ensures there { result ≡ map (λ v. given (view v)) parts }
     {
         Children {
             parts,
@@ -493,7 +493,7 @@ impl Children {
 
     /// Whether each child is there. Doesn't look at each.
     pub fn are_all_there(&self) -> bool
-        ensures { result ≡ is_some (values_of self.now) }
+        ensures all_there { result ≡ is_some (values_of self.now) }
     {
         self.given.all_set(self.parts.len())
     }
@@ -501,7 +501,7 @@ impl Children {
     /// The values of the children, each of which is there. Takes no memory.
     pub fn into_values(self) -> Vec<Value>
         requires { IsSome (values_of self) }
-        ensures { values_of self ≡ Some (vals_view result.items) }
+        ensures values { values_of self ≡ Some (vals_view result.items) }
     {
         self.parts.into_values()
     }

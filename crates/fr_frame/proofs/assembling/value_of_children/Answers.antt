@@ -30,5 +30,5 @@ returns-in-Ok-clause-conserved c =
 
 pub returns-in-Err-clause-handed_back : goal.returns-in-Err-clause-handed_back
 returns-in-Err-clause-handed_back c =
-    c.of_parts.ensures ∙ ap (map (λ (v : Value). given (view v))) c.in-Err.ensures.handed_back
+    c.of_parts.ensures.there ∙ ap (map (λ (v : Value). given (view v))) c.in-Err.ensures.handed_back
     ∙ sym (cells_by_values c.args.children c.into_parts-parts.result.0 c.into_parts-parts.ensures.values)

@@ -10,7 +10,7 @@ returns-then-is_some-clause-filled c =
 
 pub returns-in-Some-clause-filled : goal.returns-in-Some-clause-filled
 returns-in-Some-clause-filled c =
-    c.put.ensures ∙ nth_fill (view c.in-Some.copy) c.args.i c.args.children.now (not_some (value_at c.args.children.now c.args.i)
+    c.put.ensures.put ∙ nth_fill (view c.in-Some.copy) c.args.i c.args.children.now (not_some (value_at c.args.children.now c.args.i)
     (ap is_some (sym c.value.ensures.value) ∙ copied_some view c.value.result ∙ sym c.if-is_some.ensures)) c.requires.closed
     ∙ ap (λ (fill : Option Val). defaulted_nth fill c.args.i c.args.children.now)
     (sym (ap (option_map view) c.in-Some.is) ∙ c.in_ok-copy.ensures)

@@ -7,7 +7,7 @@ use Rattle.fr_frame.proofs.filling.fill_holes.Goals as goal
 pub returns-then-are_all_there-clause-filled : goal.returns-then-are_all_there-clause-filled
 returns-then-are_all_there-clause-filled c =
     all_there_stay (column_of c.args.column) c.args.table.now (shape_of c.args.plan.now c.args.node) (as_fields c.args.selected) 0
-    c.args.children.now (sym c.if-are_all_there.ensures)
+    c.args.children.now (sym c.if-are_all_there.ensures.all_there)
 
 pub fill_hole-requires : goal.fill_hole-requires
 fill_hole-requires c =

@@ -9,5 +9,5 @@ returns-clause-tokens c t =
     omega (
       arith,
       occur_set c.args.children.now c.in-Some.at absent (given (view c.args.value)) t here,
-      ap (λ (cs : List Cell). cells_occur cs t) c.put.ensures,
+      ap (λ (cs : List Cell). cells_occur cs t) c.put.ensures.put,
     )

@@ -10,6 +10,6 @@ returns-then-held-slot-clause-tokens c t =
     omega (
       arith,
       occur_taken c.args.children.now c.in-Some.at absent t c.in-Some.ensures.inside,
-      ap (λ (cs : List Cell). cells_occur cs t) c.clear.ensures,
+      ap (λ (cs : List Cell). cells_occur cs t) c.clear.ensures.cleared,
       ap (λ (found : Option Cell). value_occurs (option_and_then value_of_cell found) t) here,
     )

@@ -7,7 +7,7 @@ use Rattle.fr_frame.proofs.splitting.children_of_set.Goals as goal
 pub all_there-requires : goal.all_there-requires
 all_there-requires c =
     let shown : view c.args.value.now ≡ set_of (vals_view c.into_vec.result.items) = search (rules, the_lemmas) in
-    c.of_items-base.ensures c.into_vec.result.items (ap length c.into_vec.ensures.items ∙ sym c.len.ensures.count)
+    c.of_items-base.ensures.apart c.into_vec.result.items (ap length c.into_vec.ensures.items ∙ sym c.len.ensures.count)
     (subst HoldsNothingTwice shown c.requires.apart)
 
 pub returns-in-Ok-clause-parts : goal.returns-in-Ok-clause-parts

@@ -22,7 +22,7 @@ returns-then-is_some c =
     sym (found_first c.self.inside.given c.self.inside.parts c.self.inside.base c.self.inside.index c.args.self.now
     (view c.args.value.now) c.len-indexed.result c.len-count.result c.self.invariant c.self.view_is
     (count_is c.self.inside.given c.self.inside.parts c.self.inside.base c.self.inside.index c.len-indexed.result c.self.invariant
-    c.len-indexed.ensures.count) c.len-count.ensures
+    c.len-indexed.ensures.count) c.len-count.ensures.count
     (sym (by_index (goal.at.returns-then-is_some c).After-is_some) ∙ c.if-is_some.true))
 
 pub returns-then-is_among : goal.returns-then-is_among
@@ -30,7 +30,7 @@ returns-then-is_among c =
     c.if-is_among.true ∙ sym (found_between c.self.inside.given c.self.inside.parts c.self.inside.base c.self.inside.index c.args.self.now
     (view c.args.value.now) c.len-indexed.result c.len-count.result c.self.invariant c.self.view_is
     (count_is c.self.inside.given c.self.inside.parts c.self.inside.base c.self.inside.index c.len-indexed.result c.self.invariant
-    c.len-indexed.ensures.count) c.len-count.ensures
+    c.len-indexed.ensures.count) c.len-count.ensures.count
     (sym (by_index (goal.at.returns-then-is_among c).After-is_some) ∙ c.if-is_some.false)
     (sym (by_look (goal.at.returns-then-is_among c).After-is_among) ∙ c.if-is_among.true))
 
@@ -39,6 +39,6 @@ returns-else-is_among c =
     c.has_same_from-else-is_among.ensures ∙ sym (found_behind c.self.inside.given c.self.inside.parts c.self.inside.base c.self.inside.index c.args.self.now
     (view c.args.value.now) c.len-indexed.result c.len-count.result c.self.invariant c.self.view_is
     (count_is c.self.inside.given c.self.inside.parts c.self.inside.base c.self.inside.index c.len-indexed.result c.self.invariant
-    c.len-indexed.ensures.count) c.len-count.ensures
+    c.len-indexed.ensures.count) c.len-count.ensures.count
     (sym (by_index (goal.at.returns-else-is_among c).After-is_some) ∙ c.if-is_some.false)
     (sym (by_look (goal.at.returns-else-is_among c).After-is_among) ∙ c.if-is_among.false))

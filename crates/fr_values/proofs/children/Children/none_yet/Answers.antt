@@ -12,8 +12,8 @@ returns-clause-absent c =
 
 pub invariant_of-result : goal.invariant_of-result
 invariant_of-result c =
-    let nothing : count_in_base c.none-2.result ≤ 0 = (c.none-2.ensures []).within in
+    let nothing : count_in_base c.none-2.result ≤ 0 = (c.none-2.ensures.apart []).within in
     let count = ap (λ (vs : List Value). length vs) c.of_values.ensures.values in
     none_indexed c.in-Ok.given c.of_values.result c.none-2.result c.new-2.result
     (omega (arith, count, c.in_ok-values.ensures.count, c.in-Ok.ensures.room)) (λ j h. absurd (omega (arith, h, nothing)))
-    (c.none-2.ensures c.of_values.result) c.new-2.ensures.empty
+    (c.none-2.ensures.apart c.of_values.result) c.new-2.ensures.empty

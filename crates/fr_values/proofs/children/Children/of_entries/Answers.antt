@@ -17,5 +17,5 @@ of_parts-requires-clause-base c =
 
 pub returns-in-Ok-of_entries-clause-there : goal.returns-in-Ok-of_entries-clause-there
 returns-in-Ok-of_entries-clause-there c =
-    c.of_parts.ensures ∙ ap (λ (vs : List Value). map (λ (v : Value). given (view v)) vs) c.in-Ok-of_entries.ensures.parts
+    c.of_parts.ensures.there ∙ ap (λ (vs : List Value). map (λ (v : Value). given (view v)) vs) c.in-Ok-of_entries.ensures.parts
     ∙ turns_given c.args.entries.items

@@ -11,11 +11,13 @@ pub replace-held-requires : goal.replace-held-requires
 replace-held-requires c = omega (arith, same_length c.self.inside.given _ _ c.self.view_is)
 
 pub returns : goal.returns
-returns c =
-    ap (cells_of c.set.new.self 0) c.replace-held.ensures.replaced
-    ∙ cells_put c.self.inside.given _ _ c.self.view_is c.set.new.self c.args.i c.args.value (given (view c.args.value)) c.requires
-    (λ j ne. c.set.ensures.by_index j ∙ bit_set c.args.i j _ ne)
-    (ap (λ b. cell b (view c.args.value)) (c.set.ensures.by_index c.args.i ∙ bit_set_here c.args.i _))
+returns c = record {
+  put =
+      ap (cells_of c.set.new.self 0) c.replace-held.ensures.replaced
+      ∙ cells_put c.self.inside.given _ _ c.self.view_is c.set.new.self c.args.i c.args.value (given (view c.args.value)) c.requires
+      (λ j ne. c.set.ensures.by_index j ∙ bit_set c.args.i j _ ne)
+      (ap (λ b. cell b (view c.args.value)) (c.set.ensures.by_index c.args.i ∙ bit_set_here c.args.i _));
+}
 
 pub invariant_of-self : goal.invariant_of-self
 invariant_of-self c =
