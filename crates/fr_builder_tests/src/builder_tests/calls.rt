@@ -38,9 +38,17 @@ fn parted(word: &str) -> (&str, &str) {
     }
 }
 
+/// What a row has before this and behind it.
+pub fn cut<'a>(rt: &impl Abort, row: &'a str, at: &str) -> (&'a str, &'a str) {
+    match row.split_once(at) {
+        Some((before, behind)) => (before.trim(), behind.trim()),
+        None => panic!(rt; "a row that ends early: {row}"),
+    }
+}
+
 /// The number that is given in a word.
-fn number(rt: &impl Abort, given: &str) -> usize {
-    match given.parse::<usize>() {
+pub fn number(rt: &impl Abort, given: &str) -> u32 {
+    match given.parse::<u32>() {
         Ok(number) => number,
         Err(_) => panic!(rt; "no number: {given}"),
     }
@@ -48,8 +56,8 @@ fn number(rt: &impl Abort, given: &str) -> usize {
 
 impl<'t> Bench<'t> {
     /// Puts a number of the first shape.
-    fn put_number(self, rt: &impl Abort, n: usize) -> Answer<'t> {
-        let number = shaped(rt, &self.partial, 0, Value::Nat(n as u128));
+    fn put_number(self, rt: &impl Abort, n: u32) -> Answer<'t> {
+        let number = shaped(rt, &self.partial, 0, Value::Nat(u128::from(n)));
         answer_to!(self, set_shape(number))
     }
 
@@ -58,8 +66,8 @@ impl<'t> Bench<'t> {
         let (call, given) = parted(word);
         match call {
             "f" => answer_to!(self, begin_field(given)),
-            "n" => answer_to!(self, begin_nth_field(number(rt, given))),
-            "v" => answer_to!(self, select_nth_variant(number(rt, given))),
+            "n" => answer_to!(self, begin_nth_field(number(rt, given) as usize)),
+            "v" => answer_to!(self, select_nth_variant(number(rt, given) as usize)),
             "num" => self.put_number(rt, number(rt, given)),
             "def" => answer_to!(self, set_default()),
             "parse" => answer_to!(self, parse_from_str(given)),
@@ -100,6 +108,14 @@ fn made<'t>(rt: &impl Abort, mut bench: Bench<'t>, calls: &str) -> Answer<'t> {
 /// The builder after these calls, of which none is refused.
 pub fn after<'t>(rt: &impl Abort, bench: Bench<'t>, calls: &str) -> Bench<'t> {
     done(rt, made(rt, bench, calls))
+}
+
+/// The builder after these calls so many times, of which none is refused.
+pub fn repeated<'t>(rt: &impl Abort, mut bench: Bench<'t>, calls: &str, times: u32) -> Bench<'t> {
+    for _time in 0..times {
+        bench = after(rt, bench, calls);
+    }
+    bench
 }
 
 /// A refusal as its text says it, or in a word.

@@ -1,6 +1,6 @@
 //! Options and pointers, one in another.
 use super::bench::{built, start};
-use super::calls::after;
+use super::calls::{after, repeated};
 use super::grounds::ground_of;
 use fr_shape::Value;
 use std::process::Abort;
@@ -31,15 +31,9 @@ fn check_depth(rt: &impl Abort, value: &Value, depth: u32) {
 #[test]
 fn builds_a_deep_value(rt: HostRuntime) {
     let ground = ground_of(&rt, CONTENTS);
-    let mut bench = start(&rt, rt.alloc(), &ground, 1);
-    for _level in 0..500 {
-        bench = after(&rt, bench, "some ptr");
-    }
-    bench = after(&rt, bench, "def");
-    for _level in 0..500 {
-        bench = after(&rt, bench, "e e");
-    }
-    let built = built(&rt, bench);
+    let bench = start(&rt, rt.alloc(), &ground, 1);
+    let bench = after(&rt, repeated(&rt, bench, "some ptr", 500), "def");
+    let built = built(&rt, repeated(&rt, bench, "e e", 500));
     assert!(rt; built.calls() == 2001);
     check_depth(&rt, built.value(), 500);
 }

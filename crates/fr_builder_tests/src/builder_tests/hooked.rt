@@ -1,7 +1,8 @@
 //! Parsing, validators and invariants by hooks of one's own, call by call.
 use super::bench::{holding, start};
-use super::calls::check_calls;
-use super::grounds::ground_of;
+use super::calls::{check_calls, cut, number};
+use super::grounds::{Ground, ground_of};
+use std::process::Abort;
 
 /// A byte; an opaque; a text; shapes that hooks of each number parse; a struct of a number that is
 /// at most 9; a struct of an opaque, such a struct and such a number; a struct that never holds; and
@@ -24,69 +25,61 @@ const HOOKED: &str = r#"{"shapes":[
     {"name":"Sound","def":{"struct":[{"name":"r","shape":1}]},"invariant":0}
 ],"root":0,"commands":[]}"#;
 
-const NO_PARSING: &str = "Type does not support parsing from string";
+/// In each row: the field into which the builder has put its token before the calls, if any, and the
+/// root's shape; the calls; how often the token is released; and the value that is built, or the
+/// refusal. A field is checked as it ends, of what was left and of the place at which the builder
+/// works as deferred mode ends, and of the root as it is built.
+const ROWS: &str = r#"
+    - 0; parse:+0255; 0; 255
+    - 0; parse:256; 0; ParseFailed
+    - 0; bytes:7; 0; Type does not support parsing from bytes
+    - 1; parse:256; 0; Type does not support parsing from string
+    - 1; bytes:7; 0; Type does not support parsing from bytes
+    - 2; parse:é; 0; "é"
+    - 3; parse:é; 0; null
+    - 3; bytes:é; 0; null
+    - 4; parse:256; 0; ParseFailed
+    - 4; bytes:7; 0; Failed to parse bytes value
+    - 5; parse:256; 0; OutOfMemory
+    - 5; bytes:7; 0; OutOfMemory
+    - 6; parse:256; 0; Type does not support parsing from string
+    - 6; bytes:7; 0; Type does not support parsing from bytes
+    r 8; e f:digit f:n num:9 e e; 0; [{"t":0},[9],1]
+    r 8; e f:digit f:n num:10 e e; 1; custom validation failed
+    r 8; e bd f:digit f:n num:10 e e f:n num:9 e fd; 1; custom validation failed
+    r 8; e bd f:digit f:n num:9 e e f:n num:10 e fd; 1; custom validation failed
+    r 8; e f:digit f:n num:9 e e f:n num:10 e; 1; custom validation failed
+    r 9; e; 1; a type invariant does not hold
+    r 10; e; 0; [{"t":0}]
+"#;
 
-const NO_PARSING_OF_BYTES: &str = "Type does not support parsing from bytes";
+/// How many rows there are.
+const ROW_COUNT: usize = 21;
 
-const BYTES_NOT_PARSED: &str = "Failed to parse bytes value";
-
-const VALIDATION: &str = "custom validation failed";
-
-const TYPE_INVARIANT: &str = "a type invariant does not hold";
-
-/// What calls at a root of a shape come to: a value, or a refusal.
-const PARSED: [(u32, &str, &str); 14] = [
-    (0, "parse:+0255", "255"),
-    (0, "parse:256", "ParseFailed"),
-    (0, "bytes:7", NO_PARSING_OF_BYTES),
-    (1, "parse:256", NO_PARSING),
-    (1, "bytes:7", NO_PARSING_OF_BYTES),
-    (2, "parse:é", "\"é\""),
-    (3, "parse:é", "null"),
-    (3, "bytes:é", "null"),
-    (4, "parse:256", "ParseFailed"),
-    (4, "bytes:7", BYTES_NOT_PARSED),
-    (5, "parse:256", "OutOfMemory"),
-    (5, "bytes:7", "OutOfMemory"),
-    (6, "parse:256", NO_PARSING),
-    (6, "bytes:7", NO_PARSING_OF_BYTES),
-];
-
-#[test]
-fn a_parse_comes_to_what_its_hook_says(rt: HostRuntime) {
-    let ground = ground_of(&rt, HOOKED);
-    for (root, calls, want) in PARSED {
-        check_calls(&rt, start(&rt, rt.alloc(), &ground, root), calls, want, 0);
-    }
+/// Makes a row's calls, and checks what they come to.
+fn check_row(rt: &(impl Abort + AllocGlobal), ground: &Ground, row: &str) {
+    let (start_at, row) = cut(rt, row, ";");
+    let (calls, row) = cut(rt, row, ";");
+    let (released, want) = cut(rt, row, ";");
+    let (field, root) = cut(rt, start_at, " ");
+    let root = number(rt, root);
+    let bench = if field == "-" {
+        start(rt, rt.alloc(), ground, root)
+    } else {
+        holding(rt, ground, root, field)
+    };
+    check_calls(rt, bench, calls, want, number(rt, released));
 }
 
-/// The same where the builder has put a token into the root's first field, and works there; and how
-/// often the token is released. A field is checked as it ends, of what was left and of the place at
-/// which the builder works as deferred mode ends, and of the root as it is built.
-const CHECKED: [(u32, &str, &str, u32); 7] = [
-    (8, "e f:digit f:n num:9 e e", r#"[{"t":0},[9],1]"#, 0),
-    (8, "e f:digit f:n num:10 e e", VALIDATION, 1),
-    (
-        8,
-        "e bd f:digit f:n num:10 e e f:n num:9 e fd",
-        VALIDATION,
-        1,
-    ),
-    (
-        8,
-        "e bd f:digit f:n num:9 e e f:n num:10 e fd",
-        VALIDATION,
-        1,
-    ),
-    (8, "e f:digit f:n num:9 e e f:n num:10 e", VALIDATION, 1),
-    (9, "e", TYPE_INVARIANT, 1),
-    (10, "e", r#"[{"t":0}]"#, 0),
-];
-
 #[test]
-fn checks_and_invariants_refuse_values(rt: HostRuntime) {
+fn hooks_give_values_and_refuse_them(rt: HostRuntime) {
     let ground = ground_of(&rt, HOOKED);
-    for (root, calls, want, released) in CHECKED {
-        check_calls(&rt, holding(&rt, &ground, root, "r"), calls, want, released);
+    let mut found = 0usize;
+    for row in ROWS.lines() {
+        if !row.is_empty() {
+            check_row(&rt, &ground, row);
+            found = found.saturating_add(1);
+        }
     }
+    assert!(rt; found == ROW_COUNT);
 }

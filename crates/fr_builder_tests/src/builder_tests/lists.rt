@@ -1,6 +1,6 @@
 //! Long lists, item by item.
 use super::bench::{built, start};
-use super::calls::after;
+use super::calls::{after, repeated};
 use super::grounds::{Ground, ground_of};
 use fr_shape::Value;
 use std::process::Abort;
@@ -14,11 +14,9 @@ const LIST: &str = r#"{"shapes":[
 /// A list that is begun and ended by these calls is built, with 100,000 items between them, the last
 /// of which is 7.
 fn check_list(rt: &(impl Abort + AllocGlobal), ground: &Ground, begin: &str, end: &str) {
-    let mut bench = after(rt, start(rt, rt.alloc(), ground, 1), begin);
-    for _item in 0..100_000 {
-        bench = after(rt, bench, "item num:7 e");
-    }
-    let built = built(rt, after(rt, bench, end));
+    let list = after(rt, start(rt, rt.alloc(), ground, 1), begin);
+    let list = repeated(rt, list, "item num:7 e", 100_000);
+    let built = built(rt, after(rt, list, end));
     let Value::List(items) = built.value() else {
         panic!(rt; "no list");
     };

@@ -1,6 +1,6 @@
 //! What a builder tells of itself, at places of each kind and in both modes.
 use super::bench::{check_value, give_up, start};
-use super::calls::{Words, after};
+use super::calls::{Words, after, number};
 use super::grounds::{Ground, ground_of};
 use fr_own_hooks::OwnHooks;
 use fr_partial::{Partial, PlaceView};
@@ -307,11 +307,8 @@ fn check_row(rt: &(impl Abort + AllocGlobal), ground: &Ground, row: &str) {
     let Some((root, calls)) = calls.split_once(' ') else {
         panic!(rt; "a row without a root");
     };
-    let root = match root.parse::<u32>() {
-        Ok(root) => root,
-        Err(_) => panic!(rt; "{row}: no root"),
-    };
-    let bench = after(rt, start(rt, rt.alloc(), ground, root), calls);
+    let root = start(rt, rt.alloc(), ground, number(rt, root));
+    let bench = after(rt, root, calls);
     check_plan(rt, row, &bench.partial);
     check_told(rt, row, &mut Words { rest: told }, &bench.partial);
     let mut seen = Words { rest: seen };

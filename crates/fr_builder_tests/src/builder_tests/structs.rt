@@ -1,6 +1,6 @@
 //! A whole build of a struct call by call.
-use super::bench::{built, check_value, holding};
-use super::calls::after;
+use super::bench::holding;
+use super::calls::check_calls;
 use super::grounds::ground_of;
 
 /// A number, 5 by default; an opaque; an option; an array of two numbers; and the struct, whose
@@ -23,7 +23,5 @@ fn builds_a_struct(rt: HostRuntime) {
     let ground = ground_of(&rt, STRUCT);
     let bench = holding(&rt, &ground, 4, "token");
     let calls = "e f:pair n:0 num:7 e n:1 def e e f:choice e";
-    let built = built(&rt, after(&rt, bench, calls));
-    assert!(rt; built.calls() == 13);
-    check_value(&rt, rt.alloc(), built.value(), r#"[9,null,[7,5],{"t":0}]"#);
+    check_calls(&rt, bench, calls, r#"[9,null,[7,5],{"t":0}]"#, 0);
 }
