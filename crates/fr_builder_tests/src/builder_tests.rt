@@ -1,11 +1,9 @@
-//! Each call of the builder with ample memory and hooks of one's own, whole builds, and where
-//! the token is after each refusal; then what it tells of itself, and calls by Rust types.
+//! Calls of the builder with ample memory and hooks of one's own, and whole builds; then what it tells
+//! of itself, and calls by Rust types.
 mod bench;
 mod calls;
 mod contents;
-mod conversions;
 mod deferring;
-mod dynamics;
 mod grounds;
 mod hooked;
 mod in_code;

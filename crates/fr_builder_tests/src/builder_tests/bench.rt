@@ -31,9 +31,6 @@ pub struct Refused {
 
 pub type Answer<'t> = Result<Bench<'t>, Refused>;
 
-/// The same of a call that tells besides whether it entered a place.
-pub type Told<'t> = Result<(Bench<'t>, bool), Refused>;
-
 /// What a call of a bench's builder comes to, beside its ledger: `answer_to!(bench, end())`.
 macro_rules! answer_to {
     ($bench:expr, $call:ident($($given:expr),*)) => {{
@@ -120,18 +117,17 @@ pub fn with_token<'t>(
     }
 }
 
-/// A builder that holds nothing enters a field.
-pub fn named<'t>(
-    rt: &impl Abort,
-    partial: Partial<'t, OwnHooks>,
+/// A builder of a struct that holds the token in this field, and works there.
+pub fn holding<'t>(
+    rt: &(impl Abort + AllocGlobal),
+    ground: &'t Ground,
+    root: u32,
     name: &str,
-    ledger: &mut Ledger,
-) -> Partial<'t, OwnHooks>
-    requires { (t : ℕ) → holds partial t ≡ 0 }
-    ensures { (t : ℕ) → holds result t ≡ 0 }
-{
-    match partial.begin_field(name, ledger) {
-        Ok(partial) => partial,
+) -> Bench<'t> {
+    let mut ledger = ledger(rt, rt.alloc(), 1);
+    let partial = fresh(rt, rt.alloc(), ground, root);
+    match partial.begin_field(name, &mut ledger) {
+        Ok(partial) => with_token(rt, partial, ledger),
         Err(_) => panic!(rt; "not entered"),
     }
 }
@@ -182,14 +178,22 @@ pub fn check_path(
     }
 }
 
-/// What is built, with no token released.
-pub fn built(rt: &impl Abort, bench: Bench<'_>) -> Built {
+/// What is built, or why nothing is, and the ledger after that.
+pub fn finished(bench: Bench<'_>) -> Result<(Built, Ledger), Refused> {
     let Bench {
         partial,
         mut ledger,
     } = bench;
     match partial.build(&mut ledger) {
-        Ok(built) => {
+        Ok(built) => Ok((built, ledger)),
+        Err(error) => Err(Refused { error, ledger }),
+    }
+}
+
+/// What is built, with no token released.
+pub fn built(rt: &impl Abort, bench: Bench<'_>) -> Built {
+    match finished(bench) {
+        Ok((built, ledger)) => {
             check_counts(rt, &ledger, &[0]);
             built
         }
@@ -197,32 +201,12 @@ pub fn built(rt: &impl Abort, bench: Bench<'_>) -> Built {
     }
 }
 
-/// Why nothing is built.
-pub fn unbuilt(rt: &impl Abort, bench: Bench<'_>) -> Refused {
-    let Bench {
-        partial,
-        mut ledger,
-    } = bench;
-    match partial.build(&mut ledger) {
-        Ok(_) => panic!(rt; "built"),
-        Err(error) => Refused { error, ledger },
-    }
-}
-
-/// The ledger after the builder was given up.
-pub fn abandoned(bench: Bench<'_>) -> Ledger {
+/// Gives up a builder that holds no token.
+pub fn give_up(rt: &impl Abort, bench: Bench<'_>) {
     let Bench {
         partial,
         mut ledger,
     } = bench;
     partial.abandon(&mut ledger);
-    ledger
-}
-
-/// What a validator that refuses says.
-pub fn message_of(kind: &ReflectErrorKind) -> &str {
-    match kind {
-        ReflectErrorKind::ValidationFailed { message, .. } => message.as_str(),
-        _ => "another refusal",
-    }
+    check_counts(rt, &ledger, &[0]);
 }

@@ -28,17 +28,6 @@ impl Model for Ground {
     ghost invariant = { λ ground. IsGround ground.table };
 }
 
-/// A document of shapes and the rest.
-pub fn joined(rt: &impl Abort, alloc: Global, shapes: &str, rest: &str) -> String {
-    let Ok(mut document) = String::from_str(alloc, shapes) else {
-        panic!(rt; "no memory");
-    };
-    if document.push_str(rest).is_err() {
-        panic!(rt; "no memory");
-    }
-    document
-}
-
 /// The table of a document, whose root and commands are left.
 pub fn ground_of(rt: &(impl Abort + AllocGlobal), document: &str) -> Ground {
     let alloc = rt.alloc();

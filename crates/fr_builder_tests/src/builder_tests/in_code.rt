@@ -1,5 +1,6 @@
 //! A whole build over a table that was made in code.
-use super::bench::{built, check_value, done, start};
+use super::bench::start;
+use super::calls::check_calls;
 use super::grounds::ground_over;
 use fr_shape::{Items, OutOfMemory, ScalarKind, Shape, ShapeId, ShapeTable};
 use std::alloc::Global;
@@ -24,24 +25,7 @@ fn a_server_is_built(rt: HostRuntime) {
         panic!(rt; "no memory");
     };
     let ground = ground_over(&rt, table);
-    let mut bench = start(&rt, alloc, &ground, 4);
-    bench = done(&rt, bench.begin_field("tags"));
-    bench = done(&rt, bench.init_list());
-    bench = done(&rt, bench.begin_list_item());
-    bench = done(&rt, bench.parse_from_str("web"));
-    bench = done(&rt, bench.end());
-    bench = done(&rt, bench.end());
-    bench = done(&rt, bench.begin_field("host"));
-    bench = done(&rt, bench.parse_from_str("a.example"));
-    bench = done(&rt, bench.end());
-    bench = done(&rt, bench.begin_field("port"));
-    bench = done(&rt, bench.set_default());
-    bench = done(&rt, bench.end());
-    let built = built(&rt, bench);
-    check_value(
-        &rt,
-        alloc,
-        built.value(),
-        r#"["a.example",null,{"l":["web"]}]"#,
-    );
+    let bench = start(&rt, alloc, &ground, 4);
+    let calls = "f:tags list item parse:web e e f:host parse:a.example e f:port def e";
+    check_calls(&rt, bench, calls, r#"["a.example",null,{"l":["web"]}]"#, 0);
 }

@@ -1,24 +1,21 @@
-//! Where a refused call was, what a builder tells of itself, and one plan for two builders.
+//! The place that a builder tells of, and one plan for two builders.
 ghost use Rattle.std.specs.Prelude.{◌≡◌, ℕ};
 ghost use Rattle.fr_partial.specs.Builder.{holds};
 ghost use Rattle.fr_work.specs.Starting.{IsPlanFrom};
 
-use super::bench::{
-    abandoned, built, check_counts, check_path, check_value, done, fresh, ledger, named, refusal,
-    start, unbuilt, with_ledger, with_token,
-};
+use super::bench::{check_path, give_up, with_ledger};
+use super::calls::{after, check_calls};
 use super::grounds::{Ground, ground_of};
 use fr_own_hooks::OwnHooks;
 use fr_partial::Partial;
 use fr_plan::TypePlanCore;
-use fr_shape::{Invariant, ReflectErrorKind, ShapeId};
+use fr_shape::{ReflectErrorKind, ShapeId};
 use std::alloc::Global;
 use std::process::Abort;
 
-/// A number, 0 by default; an opaque; a cell of both; a pair of cells; and two numbers with
-/// defaults of their own.
+/// A number; an opaque; a cell of both; a pair of cells; and two numbers with defaults of their own.
 const PATHS: &str = r#"{"shapes":[
-    {"name":"u32","def":"u32","preset":0},
+    {"name":"u32","def":"u32"},
     {"name":"Res","def":"opaque"},
     {"name":"Cell","def":{"struct":[{"name":"a","shape":1},{"name":"k","shape":0}]}},
     {"name":"Pair","def":{"struct":[{"name":"p","shape":2},{"name":"q","shape":2}]}},
@@ -82,68 +79,30 @@ fn owned<'t>(rt: &impl Abort, alloc: Global, ground: &'t Ground, root: u32) -> P
     }
 }
 
-/// The first field is done and the builder back at the field that it is part of, which is open.
-#[test]
-fn refuses_to_build_at_an_open_place(rt: HostRuntime) {
-    let ground = ground_of(&rt, PATHS);
-    let mut ledger = ledger(&rt, rt.alloc(), 1);
-    let partial = named(&rt, fresh(&rt, rt.alloc(), &ground, 3), "p", &mut ledger);
-    let partial = named(&rt, partial, "a", &mut ledger);
-    let mut bench = done(&rt, with_token(&rt, partial, ledger).end());
-    bench = done(&rt, bench.begin_field("k"));
-    bench = done(&rt, bench.put_number(&rt, 5));
-    bench = done(&rt, bench.end());
-    let refused = unbuilt(&rt, bench);
-    check_counts(&rt, &refused.ledger, &[1]);
-    assert!(rt;
-        matches!(
-            refused.error.kind,
-            ReflectErrorKind::InvariantViolation {
-                invariant: Invariant::BuildOpenFrames
-            }
-        )
-    );
-    check_path(&rt, rt.alloc(), &refused.error.path, &ground, 3, "p");
-}
-
-/// The field has a default, but it was entered, and then its own shape's default isn't taken
-/// either.
-#[test]
-fn refuses_to_end_at_a_place_without_a_value(rt: HostRuntime) {
-    let ground = ground_of(&rt, PATHS);
-    let bench = done(&rt, start(&rt, rt.alloc(), &ground, 4).begin_field("a"));
-    let error = refusal(&rt, bench.end()).error;
-    assert!(rt;
-        matches!(
-            error.kind,
-            ReflectErrorKind::UninitializedValue { shape: ShapeId(0) }
-        )
-    );
-    check_path(&rt, rt.alloc(), &error.path, &ground, 4, "a");
-}
-
+/// In strict mode, and in deferred mode from the root on or from a place beneath it.
 #[test]
 fn tells_its_place(rt: HostRuntime) {
     let ground = ground_of(&rt, PATHS);
-    let bench = with_ledger(&rt, rt.alloc(), owned(&rt, rt.alloc(), &ground, 3));
-    assert!(rt; bench.partial.frame_count() == 1);
-    let bench = done(&rt, bench.begin_field("q"));
-    let bench = done(&rt, bench.begin_field("k"));
-    assert!(rt; bench.partial.frame_count() == 3);
-    assert!(rt; bench.partial.shape() == ShapeId(0) && bench.partial.root_shape() == ShapeId(3));
-    check_path(&rt, rt.alloc(), bench.partial.path(), &ground, 3, "q.k");
-    let kind = ReflectErrorKind::ParseFailed { shape: ShapeId(0) };
-    let Ok(error) = bench.partial.err(kind) else {
-        panic!(rt; "no memory");
-    };
-    assert!(rt;
-        matches!(
-            error.kind,
-            ReflectErrorKind::ParseFailed { shape: ShapeId(0) }
-        )
-    );
-    check_path(&rt, rt.alloc(), &error.path, &ground, 3, "q.k");
-    check_counts(&rt, &abandoned(bench), &[0]);
+    for calls in ["f:q f:k", "bd f:q f:k", "f:q bd f:k"] {
+        let bench = with_ledger(&rt, rt.alloc(), owned(&rt, rt.alloc(), &ground, 3));
+        assert!(rt; bench.partial.frame_count() == 1 && !bench.partial.is_deferred());
+        let bench = after(&rt, bench, calls);
+        assert!(rt; bench.partial.frame_count() == 3);
+        assert!(rt;
+            bench.partial.shape() == ShapeId(0) && bench.partial.root_shape() == ShapeId(3)
+        );
+        check_path(&rt, rt.alloc(), bench.partial.path(), &ground, 3, "q.k");
+        let kind = ReflectErrorKind::ParseFailed { shape: ShapeId(0) };
+        let Ok(error) = bench.partial.err(kind) else {
+            panic!(rt; "no memory");
+        };
+        let ReflectErrorKind::ParseFailed { shape } = error.kind else {
+            panic!(rt; "another refusal");
+        };
+        assert!(rt; shape == ShapeId(0));
+        check_path(&rt, rt.alloc(), &error.path, &ground, 3, "q.k");
+        give_up(&rt, bench);
+    }
 }
 
 #[test]
@@ -152,10 +111,7 @@ fn builds_twice_over_one_plan(rt: HostRuntime) {
     let ground = ground_of(&rt, PATHS);
     let plan = planned(&rt, alloc, &ground, 4);
     let first = with_ledger(&rt, alloc, lent(&rt, alloc, &ground, &plan));
-    let first = done(&rt, first.begin_field("a"));
-    let first = done(&rt, first.put_number(&rt, 7));
-    let first = done(&rt, first.end());
-    check_value(&rt, alloc, built(&rt, first).value(), "[7,6]");
+    check_calls(&rt, first, "f:a num:7 e", "[7,6]", 0);
     let second = with_ledger(&rt, alloc, lent_owned(&rt, alloc, &ground, &plan));
-    check_value(&rt, alloc, built(&rt, second).value(), "[5,6]");
+    check_calls(&rt, second, "", "[5,6]", 0);
 }

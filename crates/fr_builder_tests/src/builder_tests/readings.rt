@@ -1,7 +1,6 @@
 //! What a builder tells of itself, at places of each kind and in both modes.
-use super::bench::{
-    Answer, Bench, Refused, abandoned, answer_to, check_counts, check_value, done, start,
-};
+use super::bench::{check_value, give_up, start};
+use super::calls::{Words, after, number};
 use super::grounds::{Ground, ground_of};
 use fr_own_hooks::OwnHooks;
 use fr_partial::{Partial, PlaceView};
@@ -55,7 +54,7 @@ const SHAPES: &str = r#"{"shapes":[
     {"name":"Link","def":{"pointer":{"known":"Box","pointee":14}}}
 ],"root":13,"commands":[]}"#;
 
-/// In each row: the root's shape and the calls; the fields that the place is and is nearest to; the
+/// In each row: the root's shape and the words of the calls; the fields that the place is and is nearest to; the
 /// name of the selected variant and the number of its plan; which plan there is, of a struct or an
 /// enum, and how many plans of fields; the strategy, and whether there are proxies; whether a
 /// pointer to a slice is begun; whether the fields 0, 1 and 2 are set (t and f; n: no such field; p:
@@ -64,127 +63,69 @@ const SHAPES: &str = r#"{"shapes":[
 const ROWS: &str = r#"
     13 ; - - - - s 11 Struct n n fff - - ; -
     13 bd ; - - - - s 11 Struct n n fff - - ; -
-    13 p ; p p - - s 3 Struct n n fff 1 - ; -
-    13 p 0 ; x x - - - - Scalar n n fff - - ; -
-    13 p 0 def ; x x - - - - Scalar n n ttt - - ; whole 5
-    13 p 2 ; e e - - s 0 Struct n n ttt - - ; whole []
-    13 p 0 def e ; p p - - s 3 Struct n n tff 1 - ; -
-    13 p 0 def e 1 num e 2 e ; p p - - s 3 Struct n n ttt 1 - ; - 5 7 []
-    13 bd p 0 def e 1 num e 2 e ; p p - - s 3 Struct n n ttt 1 - ; - 5 7 []
-    13 bd p 0 e ; p p - - s 3 Struct n n tff 1 - ; -
-    13 bd p 0 e 1 num e 2 e ; p p - - s 3 Struct n n ttt 1 - ; -
-    13 p 0 def e 1 num e 2 e e ; - - - - s 11 Struct n n tff - - ; -
-    13 c ; c c - - e - Enum n n fff - 1 ; -
-    13 c v0 ; c c A 0 e 0 Enum n n nnn - 1 ; 0
-    13 c v1 ; c c B 1 e 2 Enum n n ftn - 1 ; -
-    13 bd c v1 ; c c B 1 e 2 Enum n n ftn - 1 ; -
-    13 c v1 0 ; b b - - - - Scalar n n fff - - ; -
-    13 c v1 0 num e ; c c B 1 e 2 Enum n n ttn - 1 ; -
-    13 c v1 0 num e 1 e ; c c B 1 e 2 Enum n n ttn - 1 ; 1 7 []
-    13 bd c v1 0 num e 1 e ; c c B 1 e 2 Enum n n ttn - 1 ; 1 7 []
-    13 c v2 ; c c O 2 e 0 Enum n n nnn - 1 ; 2
-    13 c v0 e ; - - - - s 11 Struct n n ftf - - ; -
-    13 o ; o o - - - - Option n n fff - - ; -
-    13 o some ; - o - - - - Scalar n n fff - - ; -
-    13 bd o some ; - o - - - - Scalar n n fff - - ; -
-    13 o some num e ; o o - - - - Option n n tnn - - ; 0 7
-    13 bd o some num e ; o o - - - - Option n n tnn - - ; 0 7
-    13 bd o some e ; o o - - - - Option n n tnn - - ; -
-    13 r ok num e ; r r - - - - Result n n tnn - - ; 0 7
-    13 r err some num e e ; r r - - - - Result n n tnn - - ; 1 {"s":7}
-    13 bd r err some num e e ; r r - - - - Result n n tnn - - ; -
-    13 r err some ; - r - - - - Scalar n n fff - - ; -
-    13 b ; b b - - - - Pointer n n fff - - ; -
-    13 b ptr ; - b - - s 3 Struct n n fff 1 - ; -
-    13 b ptr 0 def e 1 num e 2 e e ; b b - - - - Pointer n n ppp - - ; - [5,7,[]]
-    13 bd b ptr e ; b b - - - - Pointer n n ppp - - ; -
-    13 a ; a a - - - - Array n n fff - - ; -
-    13 a arr ; a a - - - - Array n n ppp - - ; -
-    13 a 0 ; - a - - - - Scalar n n fff - - ; -
-    13 a 0 num e 1 num e ; a a - - - - Array n n ppp - - ; - 7 7
-    13 bd a 0 num e 1 num e ; a a - - - - Array n n ppp - - ; - 7 7
-    13 l list ; l l - - - - List n n ppp - - ; -
-    13 l list item num e ; l l - - - - List n n ppp - - ; -
-    13 m map ; m m - - - - Map n n ppp - - ; -
-    13 s ; s s - - - - Pointer n n fff - - ; -
-    13 s ptr ; s s - - - - Pointer n y ppp - - ; -
-    13 s ptr item ; - s - - - - Scalar n n fff - - ; -
-    13 bd s ptr item num e e ; s s - - - - Pointer n y ppp - - ; -
-    13 s ptr item num e e ; s s - - - - Pointer n n ttt - - ; whole {"p":{"l":[7]}}
-    13 d ; d d - - - - DynamicValue n n fff - - ; -
-    13 q ; q q - - - - FieldProxy y n fff - - ; -
-    13 q proxy ; - q - - s 3 Struct n n fff 1 - ; -
-    13 q proxy 1 ; y y - - - - Scalar n n fff - - ; -
-    13 bd q proxy e ; q q - - - - FieldProxy y n ppp - - ; -
+    13 f:p ; p p - - s 3 Struct n n fff 1 - ; -
+    13 f:p n:0 ; x x - - - - Scalar n n fff - - ; -
+    13 f:p n:0 def ; x x - - - - Scalar n n ttt - - ; whole 5
+    13 bd f:p n:0 def ; x x - - - - Scalar n n ttt - - ; whole 5
+    13 f:p n:2 ; e e - - s 0 Struct n n ttt - - ; whole []
+    13 f:p n:0 def e ; p p - - s 3 Struct n n tff 1 - ; -
+    13 f:p n:0 def e n:1 num:7 e n:2 e ; p p - - s 3 Struct n n ttt 1 - ; - 5 7 []
+    13 bd f:p n:0 def e n:1 num:7 e n:2 e ; p p - - s 3 Struct n n ttt 1 - ; - 5 7 []
+    13 bd f:p n:0 e ; p p - - s 3 Struct n n tff 1 - ; -
+    13 bd f:p n:0 e n:1 num:7 e n:2 e ; p p - - s 3 Struct n n ttt 1 - ; -
+    13 f:p n:0 def e n:1 num:7 e n:2 e e ; - - - - s 11 Struct n n tff - - ; -
+    13 f:c ; c c - - e - Enum n n fff - 1 ; -
+    13 f:c v:0 ; c c A 0 e 0 Enum n n nnn - 1 ; 0
+    13 f:c v:1 ; c c B 1 e 2 Enum n n ftn - 1 ; -
+    13 bd f:c v:1 ; c c B 1 e 2 Enum n n ftn - 1 ; -
+    13 f:c v:1 n:0 ; b b - - - - Scalar n n fff - - ; -
+    13 f:c v:1 n:0 num:7 e ; c c B 1 e 2 Enum n n ttn - 1 ; -
+    13 f:c v:1 n:0 num:7 e n:1 e ; c c B 1 e 2 Enum n n ttn - 1 ; 1 7 []
+    13 bd f:c v:1 n:0 num:7 e n:1 e ; c c B 1 e 2 Enum n n ttn - 1 ; 1 7 []
+    13 f:c v:2 ; c c O 2 e 0 Enum n n nnn - 1 ; 2
+    13 f:c v:0 e ; - - - - s 11 Struct n n ftf - - ; -
+    13 f:o ; o o - - - - Option n n fff - - ; -
+    13 f:o some ; - o - - - - Scalar n n fff - - ; -
+    13 bd f:o some ; - o - - - - Scalar n n fff - - ; -
+    13 f:o some num:7 e ; o o - - - - Option n n tnn - - ; 0 7
+    13 bd f:o some num:7 e ; o o - - - - Option n n tnn - - ; 0 7
+    13 bd f:o some e ; o o - - - - Option n n tnn - - ; -
+    13 f:r ok num:7 e ; r r - - - - Result n n tnn - - ; 0 7
+    13 f:r err some num:7 e e ; r r - - - - Result n n tnn - - ; 1 {"s":7}
+    13 bd f:r err some num:7 e e ; r r - - - - Result n n tnn - - ; -
+    13 f:r err some ; - r - - - - Scalar n n fff - - ; -
+    13 f:b ; b b - - - - Pointer n n fff - - ; -
+    13 f:b ptr ; - b - - s 3 Struct n n fff 1 - ; -
+    13 f:b ptr n:0 def e n:1 num:7 e n:2 e e ; b b - - - - Pointer n n ppp - - ; - [5,7,[]]
+    13 bd f:b ptr e ; b b - - - - Pointer n n ppp - - ; -
+    13 f:a ; a a - - - - Array n n fff - - ; -
+    13 f:a arr ; a a - - - - Array n n ppp - - ; -
+    13 f:a n:0 ; - a - - - - Scalar n n fff - - ; -
+    13 f:a n:0 num:7 e n:1 num:7 e ; a a - - - - Array n n ppp - - ; - 7 7
+    13 bd f:a n:0 num:7 e n:1 num:7 e ; a a - - - - Array n n ppp - - ; - 7 7
+    13 f:l list ; l l - - - - List n n ppp - - ; -
+    13 f:l list item num:7 e ; l l - - - - List n n ppp - - ; -
+    13 f:m map ; m m - - - - Map n n ppp - - ; -
+    13 f:s ; s s - - - - Pointer n n fff - - ; -
+    13 f:s ptr ; s s - - - - Pointer n y ppp - - ; -
+    13 f:s ptr item ; - s - - - - Scalar n n fff - - ; -
+    13 bd f:s ptr item num:7 e e ; s s - - - - Pointer n y ppp - - ; -
+    13 f:s ptr item num:7 e e ; s s - - - - Pointer n n ttt - - ; whole {"p":{"l":[7]}}
+    13 f:d ; d d - - - - DynamicValue n n fff - - ; -
+    13 f:q ; q q - - - - FieldProxy y n fff - - ; -
+    13 f:q proxy ; - q - - s 3 Struct n n fff 1 - ; -
+    13 f:q proxy n:1 ; y y - - - - Scalar n n fff - - ; -
+    13 bd f:q proxy e ; q q - - - - FieldProxy y n ppp - - ; -
     14 ; - - - - s 1 Struct n n fff - - ; -
-    14 next some ; - next - - - - Pointer n n fff - - ; -
-    14 next some ptr ; - next - - s 1 Struct n n fff - - ; -
-    14 next some ptr next ; next next - - - - Option n n fff - - ; -
+    14 f:next some ; - next - - - - Pointer n n fff - - ; -
+    14 f:next some ptr ; - next - - s 1 Struct n n fff - - ; -
+    14 f:next some ptr f:next ; next next - - - - Option n n fff - - ; -
 "#;
 
 /// How many rows there are.
-const ROW_COUNT: usize = 58;
-
-impl<'t> Bench<'t> {
-    fn select_nth_variant(self, i: usize) -> Answer<'t> {
-        answer_to!(self, select_nth_variant(i))
-    }
-
-    fn init_array(self) -> Answer<'t> {
-        answer_to!(self, init_array())
-    }
-
-    /// The call of a word, if it is one of a builder's.
-    fn called(self, rt: &impl Abort, word: &str) -> Answer<'t> {
-        match word {
-            "e" => self.end(),
-            "bd" => self.begin_deferred(),
-            "def" => self.set_default(),
-            "num" => self.put_number(rt, 7),
-            "some" => self.begin_some(),
-            "ok" => self.begin_ok(),
-            "err" => self.begin_err(),
-            "ptr" => self.begin_smart_ptr(),
-            "list" => self.init_list(),
-            "item" => self.begin_list_item(),
-            "map" => self.init_map(),
-            "arr" => self.init_array(),
-            "proxy" => self.begin_custom_deserialization(),
-            "v0" => self.select_nth_variant(0),
-            "v1" => self.select_nth_variant(1),
-            "v2" => self.select_nth_variant(2),
-            "0" => self.begin_nth_field(0),
-            "1" => self.begin_nth_field(1),
-            "2" => self.begin_nth_field(2),
-            name => self.begin_field(name),
-        }
-    }
-}
-
-/// The words of a row, of which each is told in its turn.
-#[derive(Drop)]
-struct Words<'a> {
-    rest: &'a str,
-}
+const ROW_COUNT: usize = 59;
 
 impl<'a> Words<'a> {
-    fn next(&mut self) -> Option<&'a str> {
-        let rest = self.rest.trim_start();
-        if rest.is_empty() {
-            return None;
-        }
-        match rest.split_once(' ') {
-            Some((word, rest)) => {
-                self.rest = rest;
-                Some(word)
-            }
-            None => {
-                self.rest = "";
-                Some(rest)
-            }
-        }
-    }
-
     /// Ends the test where another word is next.
     fn check(&mut self, rt: &impl Abort, row: &str, got: &str) {
         let want = self.next();
@@ -354,11 +295,6 @@ fn check_set(rt: &impl Abort, row: &str, words: &mut Words, partial: &Partial<'_
     assert!(rt; i == 3);
 }
 
-/// Gives up a builder that holds no token.
-fn give_up(rt: &impl Abort, bench: Bench<'_>) {
-    check_counts(rt, &abandoned(bench), &[0]);
-}
-
 /// Makes a row's calls, and checks what the builder tells then.
 fn check_row(rt: &(impl Abort + AllocGlobal), ground: &Ground, row: &str) {
     let Some((calls, told)) = row.split_once(';') else {
@@ -367,19 +303,12 @@ fn check_row(rt: &(impl Abort + AllocGlobal), ground: &Ground, row: &str) {
     let Some((told, seen)) = told.split_once(';') else {
         panic!(rt; "a row without a value");
     };
-    let mut calls = Words { rest: calls };
-    let root = match calls.next() {
-        Some("13") => 13,
-        Some("14") => 14,
-        _ => panic!(rt; "another root"),
+    let calls = calls.trim_start();
+    let Some((root, calls)) = calls.split_once(' ') else {
+        panic!(rt; "a row without a root");
     };
-    let mut bench = start(rt, rt.alloc(), ground, root);
-    for _call in 0..row.len() {
-        match calls.next() {
-            Some(word) => bench = done(rt, bench.called(rt, word)),
-            None => break,
-        }
-    }
+    let root = start(rt, rt.alloc(), ground, number(rt, root));
+    let bench = after(rt, root, calls);
     check_plan(rt, row, &bench.partial);
     check_told(rt, row, &mut Words { rest: told }, &bench.partial);
     let mut seen = Words { rest: seen };
@@ -406,26 +335,6 @@ fn a_place_is_told_as_it_is(rt: HostRuntime) {
         found = found.saturating_add(1);
     }
     assert!(rt; found == ROW_COUNT);
-}
-
-/// A field is looked up by the name that it goes by, or by its alias; a variant by the name that it
-/// goes by, but none that takes unknown names.
-#[test]
-fn names_are_those_that_count(rt: HostRuntime) {
-    let ground = ground_of(&rt, SHAPES);
-    let bench = done(&rt, start(&rt, rt.alloc(), &ground, 13).begin_field("p"));
-    let point = &bench.partial;
-    assert!(rt; point.field_index("x") == Some(0) && point.field_index("why") == Some(1));
-    assert!(rt; point.field_index("vertical") == Some(1) && point.field_index("y").is_none());
-    give_up(&rt, bench);
-    let bench = done(&rt, start(&rt, rt.alloc(), &ground, 13).begin_field("c"));
-    assert!(rt; bench.partial.field_index("b").is_none());
-    let bench = done(&rt, bench.select_nth_variant(1));
-    let choice = &bench.partial;
-    assert!(rt; choice.field_index("b") == Some(0) && choice.field_index("e") == Some(1));
-    assert!(rt; choice.find_variant("A").is_some() && choice.find_variant("B").is_none());
-    assert!(rt; choice.find_variant("O").is_none());
-    give_up(&rt, bench);
 }
 
 /// Tuples in tuples, the innermost of them empty.
@@ -457,8 +366,7 @@ fn fields_of_nested_empty_tuples_are_not_set(rt: HostRuntime) {
     let bench = start(&rt, rt.alloc(), &ground, 0);
     assert!(rt; set_letter(&bench.partial, 0) == 't');
     give_up(&rt, bench);
-    let bench = done(&rt, start(&rt, rt.alloc(), &ground, 4).begin_nth_field(1));
-    let bench = done(&rt, bench.end());
+    let bench = after(&rt, start(&rt, rt.alloc(), &ground, 4), "n:1 e");
     let tuple = &bench.partial;
     assert!(rt; set_letter(tuple, 0) == 'f' && set_letter(tuple, 1) == 't');
     assert!(rt; set_letter(tuple, 2) == 'f' && set_letter(tuple, 3) == 'n');

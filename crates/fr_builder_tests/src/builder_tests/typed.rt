@@ -1,5 +1,4 @@
-//! Calls that go by Rust types: each of them with ample memory, what they refuse, and where the token
-//! is then.
+//! Calls that go by Rust types: each of them with ample memory, and a refusal.
 ghost use Rattle.std.specs.Prelude.{◌≡◌, ℕ};
 ghost use Rattle.fr_shape.specs.Tokens.{occurs};
 ghost use Rattle.fr_shape.specs.View.{view};
@@ -7,13 +6,14 @@ ghost use Rattle.fr_work.specs.Starting.{IsPlanFrom};
 ghost use Rattle.fr_partial.specs.Typed.{HasShape};
 
 use super::bench::{
-    Answer, Bench, Refused, answer_to, built, check_counts, check_path, check_value, done, fresh,
-    ledger, refusal, shaped, start, with_ledger,
+    Answer, Bench, Refused, answer_to, built, check_path, check_value, done, fresh, ledger,
+    refusal, shaped, start, with_ledger,
 };
+use super::calls::{after, check_calls};
 use super::grounds::{Ground, ground_of};
 use fr_own_hooks::OwnHooks;
 use fr_partial::{Facet, FacetFault, Opaque, Partial, TypePlan, materialize};
-use fr_shape::{Items, Ledger, ReflectErrorKind, ShapeId, ShapeTable, Value};
+use fr_shape::{Items, ReflectErrorKind, ShapeId, ShapeTable, Value};
 use std::alloc::Global;
 use std::process::Abort;
 
@@ -51,59 +51,32 @@ fn text(rt: &impl Abort, alloc: Global, letters: &str) -> String {
     }
 }
 
+/// A call that is given a value of a Rust type.
+enum Typed<'k> {
+    Set,
+    NthField(usize),
+    Field(&'k str),
+    Key,
+    Value,
+    ListItem,
+    SetItem,
+}
+
 impl<'t> Bench<'t> {
-    /// `set` of a value without tokens, as the next six.
-    fn set<U: Facet>(self, rt: &impl Abort, value: U) -> Answer<'t>
+    /// A call of a value without tokens.
+    fn typed<U: Facet>(self, rt: &impl Abort, call: Typed<'_>, value: U) -> Answer<'t>
         requires { (t : ℕ) → occurs (U.shown value) t ≡ 0 }
     {
         check_shape::<U>(rt, self.partial.table());
-        answer_to!(self, set(value))
-    }
-
-    fn set_nth_field<U: Facet>(self, rt: &impl Abort, idx: usize, value: U) -> Answer<'t>
-        requires { (t : ℕ) → occurs (U.shown value) t ≡ 0 }
-    {
-        check_shape::<U>(rt, self.partial.table());
-        answer_to!(self, set_nth_field(idx, value))
-    }
-
-    fn set_field<U: Facet>(self, rt: &impl Abort, name: &str, value: U) -> Answer<'t>
-        requires { (t : ℕ) → occurs (U.shown value) t ≡ 0 }
-    {
-        check_shape::<U>(rt, self.partial.table());
-        answer_to!(self, set_field(name, value))
-    }
-
-    fn set_key<U: Facet>(self, rt: &impl Abort, value: U) -> Answer<'t>
-        requires { (t : ℕ) → occurs (U.shown value) t ≡ 0 }
-    {
-        check_shape::<U>(rt, self.partial.table());
-        answer_to!(self, set_key(value))
-    }
-
-    fn set_value<U: Facet>(self, rt: &impl Abort, value: U) -> Answer<'t>
-        requires { (t : ℕ) → occurs (U.shown value) t ≡ 0 }
-    {
-        check_shape::<U>(rt, self.partial.table());
-        answer_to!(self, set_value(value))
-    }
-
-    fn push<U: Facet>(self, rt: &impl Abort, value: U) -> Answer<'t>
-        requires { (t : ℕ) → occurs (U.shown value) t ≡ 0 }
-    {
-        check_shape::<U>(rt, self.partial.table());
-        answer_to!(self, push(value))
-    }
-
-    fn insert<U: Facet>(self, rt: &impl Abort, value: U) -> Answer<'t>
-        requires { (t : ℕ) → occurs (U.shown value) t ≡ 0 }
-    {
-        check_shape::<U>(rt, self.partial.table());
-        answer_to!(self, insert(value))
-    }
-
-    fn begin_set(self) -> Answer<'t> {
-        answer_to!(self, init_set())
+        match call {
+            Typed::Set => answer_to!(self, set(value)),
+            Typed::NthField(i) => answer_to!(self, set_nth_field(i, value)),
+            Typed::Field(name) => answer_to!(self, set_field(name, value)),
+            Typed::Key => answer_to!(self, set_key(value)),
+            Typed::Value => answer_to!(self, set_value(value)),
+            Typed::ListItem => answer_to!(self, push(value)),
+            Typed::SetItem => answer_to!(self, insert(value)),
+        }
     }
 
     /// `set_from_peek` of a number, whose shape is the first.
@@ -116,12 +89,6 @@ impl<'t> Bench<'t> {
     fn set_from_function(self, rt: &impl Abort, n: u128) -> Answer<'t> {
         let number = shaped(rt, &self.partial, 0, Value::Nat(n));
         answer_to!(self, set_from_function(move || Ok(number)))
-    }
-
-    /// The same of a function that refuses to.
-    fn set_from_refusal(self) -> Answer<'t> {
-        let refuse = || Err(ReflectErrorKind::UninitializedValue { shape: ShapeId(5) });
-        answer_to!(self, set_from_function(refuse))
     }
 }
 
@@ -144,50 +111,83 @@ fn start_owned_as<'t, T: Facet>(rt: &impl Abort, alloc: Global, ground: &'t Grou
 }
 
 /// A list of 1 and 2 is built, number by number.
-fn check_list(rt: &impl Abort, alloc: Global, bench: Bench<'_>) {
-    let bench = done(rt, done(rt, bench.init_list()).push(rt, 1u32));
-    let built = built(rt, done(rt, bench.push(rt, 2u32)));
+fn check_list(rt: &(impl Abort + AllocGlobal), bench: Bench<'_>) {
+    let bench = done(
+        rt,
+        after(rt, bench, "list").typed(rt, Typed::ListItem, 1u32),
+    );
+    let bench = done(rt, bench.typed(rt, Typed::ListItem, 2u32));
+    let built = built(rt, bench);
     assert!(rt; built.calls() == 7);
-    check_value(rt, alloc, built.value(), r#"{"l":[1,2]}"#);
+    check_value(rt, rt.alloc(), built.value(), r#"{"l":[1,2]}"#);
 }
 
 #[test]
-fn a_type_has_builders(rt: HostRuntime) {
+fn values_are_built_by_type(rt: HostRuntime) {
     let ground = ground_of(&rt, TYPED);
-    check_list(
-        &rt,
-        rt.alloc(),
-        start_as::<Vec<u32>>(&rt, rt.alloc(), &ground),
-    );
-    check_list(
-        &rt,
-        rt.alloc(),
-        start_owned_as::<Vec<u32>>(&rt, rt.alloc(), &ground),
-    );
+    check_list(&rt, start_as::<Vec<u32>>(&rt, rt.alloc(), &ground));
+    check_list(&rt, start_owned_as::<Vec<u32>>(&rt, rt.alloc(), &ground));
+    let set = start(&rt, rt.alloc(), &ground, 0).typed(&rt, Typed::Set, 7u32);
+    check_calls(&rt, done(&rt, set), "", "7", 0);
+    let of_peek = start(&rt, rt.alloc(), &ground, 0).set_from_peek(&rt, 8);
+    check_calls(&rt, done(&rt, of_peek), "", "8", 0);
+    let of_function = start(&rt, rt.alloc(), &ground, 0).set_from_function(&rt, 9);
+    check_calls(&rt, done(&rt, of_function), "", "9", 0);
 }
 
 #[test]
 fn each_child_is_set_by_a_shorthand(rt: HostRuntime) {
     let ground = ground_of(&rt, TYPED);
     let root = start(&rt, rt.alloc(), &ground, 7);
-    let root = done(
-        &rt,
-        root.set_field(&rt, "text", text(&rt, rt.alloc(), "hi")),
-    );
-    let list = done(&rt, done(&rt, root.begin_field("nums")).init_list());
-    let root = done(&rt, done(&rt, list.push(&rt, 3u32)).end());
-    let map = done(&rt, done(&rt, root.begin_field("map")).init_map());
-    let map = done(&rt, map.set_key(&rt, text(&rt, rt.alloc(), "a")));
-    let root = done(&rt, done(&rt, map.set_value(&rt, 4u32)).end());
-    let set = done(&rt, done(&rt, root.begin_field("set")).begin_set());
-    let root = done(&rt, done(&rt, set.insert(&rt, 5u32)).end());
-    let point = done(&rt, root.begin_field("point"));
-    let point = done(&rt, point.set_nth_field(&rt, 0, 6u32));
-    let root = done(&rt, done(&rt, point.set_nth_field(&rt, 1, 7u32)).end());
-    let built = built(&rt, root);
+    let hi = text(&rt, rt.alloc(), "hi");
+    let root = done(&rt, root.typed(&rt, Typed::Field("text"), hi));
+    let list = after(&rt, root, "f:nums list");
+    let list = done(&rt, list.typed(&rt, Typed::ListItem, 3u32));
+    let map = after(&rt, list, "e f:map map");
+    let a = text(&rt, rt.alloc(), "a");
+    let map = done(&rt, map.typed(&rt, Typed::Key, a));
+    let map = done(&rt, map.typed(&rt, Typed::Value, 4u32));
+    let set = after(&rt, map, "e f:set set");
+    let set = done(&rt, set.typed(&rt, Typed::SetItem, 5u32));
+    let point = after(&rt, set, "e f:point");
+    let point = done(&rt, point.typed(&rt, Typed::NthField(0), 6u32));
+    let point = done(&rt, point.typed(&rt, Typed::NthField(1), 7u32));
+    let built = built(&rt, after(&rt, point, "e"));
     assert!(rt; built.calls() == 32);
     let want = r#"["hi",{"l":[3]},{"m":[["a",4]]},{"e":[5]},[6,7]]"#;
     check_value(&rt, rt.alloc(), built.value(), want);
+}
+
+/// A builder of an opaque that was set to the ledger's only token by its type.
+fn with_opaque<'t>(rt: &impl Abort, alloc: Global, ground: &'t Ground) -> Bench<'t> {
+    let partial = fresh(rt, alloc, ground, 1);
+    let mut ledger = ledger(rt, alloc, 1);
+    assert!(rt; ledger.len() == 1);
+    assert!(rt; ledger.count(0) == 0);
+    check_shape::<Opaque>(rt, partial.table());
+    match partial.set(Opaque(0), &mut ledger) {
+        Ok(partial) => Bench { partial, ledger },
+        Err(_) => panic!(rt; "not set"),
+    }
+}
+
+/// The token that a token is read as.
+fn token_read(rt: &impl Abort, alloc: Global) -> u32 {
+    let mut ledger = ledger(rt, alloc, 1);
+    assert!(rt; ledger.len() == 1);
+    assert!(rt; ledger.count(0) == 0);
+    match materialize(alloc, Value::Token(0), &mut ledger) {
+        Ok(Opaque(token)) => token,
+        Err(_) => panic!(rt; "not read"),
+    }
+}
+
+#[test]
+fn a_token_is_set_and_read_by_its_type(rt: HostRuntime) {
+    let ground = ground_of(&rt, TYPED);
+    let bench = with_opaque(&rt, rt.alloc(), &ground);
+    check_calls(&rt, bench, "", r#"{"t":0}"#, 0);
+    assert!(rt; token_read(&rt, rt.alloc()) == 0);
 }
 
 /// The plan of a type, which the test sees to.
@@ -212,18 +212,22 @@ fn plan_in_json<T: Facet>(rt: &impl Abort, alloc: Global, ground: &Ground) -> Ty
     }
 }
 
-/// Builders that go by one plan.
-fn check_plan(rt: &impl Abort, alloc: Global, ground: &Ground, plan: &TypePlan<Vec<u32>>)
+/// Builders that go by one plan, and tell so.
+fn check_plan(rt: &(impl Abort + AllocGlobal), ground: &Ground, plan: &TypePlan<Vec<u32>>)
     requires { IsPlanFrom ground.now plan.now }
 {
+    let alloc = rt.alloc();
     assert!(rt; plan.root().shape == ShapeId(3));
-    assert!(rt; plan.core().root_id() == plan.core().root_id());
     match plan.partial(alloc, &ground.table, &ground.hooks) {
-        Ok(partial) => check_list(rt, alloc, with_ledger(rt, alloc, partial)),
+        Ok(partial) => {
+            assert!(rt; partial.type_plan_core().root_id() == plan.core().root_id());
+            assert!(rt; partial.type_plan_core().node_count() == plan.core().node_count());
+            check_list(rt, with_ledger(rt, alloc, partial));
+        }
         Err(_) => panic!(rt; "not begun"),
     }
     match plan.partial_owned(alloc, &ground.table, &ground.hooks) {
-        Ok(partial) => check_list(rt, alloc, with_ledger(rt, alloc, partial)),
+        Ok(partial) => check_list(rt, with_ledger(rt, alloc, partial)),
         Err(_) => panic!(rt; "not begun"),
     }
 }
@@ -231,117 +235,20 @@ fn check_plan(rt: &impl Abort, alloc: Global, ground: &Ground, plan: &TypePlan<V
 #[test]
 fn a_plan_of_a_type_serves_builders(rt: HostRuntime) {
     let ground = ground_of(&rt, TYPED);
-    check_plan(&rt, rt.alloc(), &ground, &plan_of(&rt, rt.alloc(), &ground));
-    check_plan(
-        &rt,
-        rt.alloc(),
-        &ground,
-        &plan_in_json(&rt, rt.alloc(), &ground),
-    );
-}
-
-/// Ends the test unless it was refused for a shape other than the place's, at this path.
-fn check_wrong(
-    rt: &impl Abort,
-    alloc: Global,
-    ground: &Ground,
-    answer: Answer<'_>,
-    shapes: (u32, u32),
-    path: &str,
-) {
-    let refused = refusal(rt, answer);
-    let ReflectErrorKind::WrongShape { expected, actual } = refused.error.kind else {
-        panic!(rt; "another refusal");
-    };
-    assert!(rt; (expected.0, actual.0) == shapes);
-    check_path(rt, alloc, &refused.error.path, ground, 7, path);
+    check_plan(&rt, &ground, &plan_of(&rt, rt.alloc(), &ground));
+    check_plan(&rt, &ground, &plan_in_json(&rt, rt.alloc(), &ground));
 }
 
 #[test]
 fn a_value_of_another_shape_is_refused(rt: HostRuntime) {
     let ground = ground_of(&rt, TYPED);
-    let root = start(&rt, rt.alloc(), &ground, 7);
-    let at_text = done(&rt, root.begin_field("text"));
-    check_wrong(
-        &rt,
-        rt.alloc(),
-        &ground,
-        at_text.set(&rt, 7u32),
-        (2, 0),
-        "text",
-    );
-    let root = start(&rt, rt.alloc(), &ground, 7);
-    check_wrong(
-        &rt,
-        rt.alloc(),
-        &ground,
-        root.set_nth_field(&rt, 0, 7u32),
-        (2, 0),
-        "text",
-    );
-    let root = start(&rt, rt.alloc(), &ground, 7);
-    check_wrong(
-        &rt,
-        rt.alloc(),
-        &ground,
-        root.set_from_function(&rt, 7),
-        (7, 0),
-        "",
-    );
-    let root = start(&rt, rt.alloc(), &ground, 7);
-    check_wrong(
-        &rt,
-        rt.alloc(),
-        &ground,
-        root.set_from_peek(&rt, 7),
-        (7, 0),
-        "",
-    );
-}
-
-#[test]
-fn a_value_is_set_by_its_type(rt: HostRuntime) {
-    let ground = ground_of(&rt, TYPED);
-    let number = start(&rt, rt.alloc(), &ground, 0);
-    let built_of_set = built(&rt, done(&rt, number.set(&rt, 7u32)));
-    check_value(&rt, rt.alloc(), built_of_set.value(), "7");
-    let number = start(&rt, rt.alloc(), &ground, 0);
-    let built_of_peek = built(&rt, done(&rt, number.set_from_peek(&rt, 8)));
-    check_value(&rt, rt.alloc(), built_of_peek.value(), "8");
-}
-
-#[test]
-fn a_function_makes_a_value_or_refuses(rt: HostRuntime) {
-    let ground = ground_of(&rt, TYPED);
-    let number = start(&rt, rt.alloc(), &ground, 0);
-    let built = built(&rt, done(&rt, number.set_from_function(&rt, 9)));
-    check_value(&rt, rt.alloc(), built.value(), "9");
-    let refused = refusal(&rt, start(&rt, rt.alloc(), &ground, 0).set_from_refusal());
-    let ReflectErrorKind::UninitializedValue { shape } = refused.error.kind else {
+    let at_text = after(&rt, start(&rt, rt.alloc(), &ground, 7), "f:text");
+    let refused = refusal(&rt, at_text.typed(&rt, Typed::Set, 7u32));
+    let ReflectErrorKind::WrongShape { expected, actual } = refused.error.kind else {
         panic!(rt; "another refusal");
     };
-    assert!(rt; shape == ShapeId(5));
-}
-
-/// The ledger after a field of this number is refused its token, of which it is the only one.
-fn refused_token(rt: &impl Abort, alloc: Global, ground: &Ground, idx: usize) -> Ledger {
-    let partial = fresh(rt, alloc, ground, 7);
-    let mut ledger = ledger(rt, alloc, 1);
-    assert!(rt; ledger.len() == 1);
-    assert!(rt; ledger.count(0) == 0);
-    check_shape::<Opaque>(rt, partial.table());
-    match partial.set_nth_field(idx, Opaque(0), &mut ledger) {
-        Ok(_) => panic!(rt; "not refused"),
-        Err(_) => ledger,
-    }
-}
-
-/// Whether the field is there or not, the value's token is released once.
-#[test]
-fn a_refused_shorthand_releases_its_value(rt: HostRuntime) {
-    let ground = ground_of(&rt, TYPED);
-    check_counts(&rt, &refused_token(&rt, rt.alloc(), &ground, 0), &[1]);
-    check_counts(&rt, &refused_token(&rt, rt.alloc(), &ground, 9), &[1]);
+    assert!(rt; (expected.0, actual.0) == (2, 0));
+    check_path(&rt, rt.alloc(), &refused.error.path, &ground, 7, "text");
 }
 
 /// What a value without tokens is as an element of the type.
@@ -379,7 +286,7 @@ fn a_builder_goes_on_with_a_function(rt: HostRuntime) {
     };
     check_path(&rt, rt.alloc(), &error.path, &ground, 0, "");
     match partial.with(|same| -> Result<Partial<OwnHooks>, ()> { Ok(same) }) {
-        Ok(partial) => drop(built(&rt, done(&rt, Bench { partial, ledger }.put_number(&rt, 5)))),
+        Ok(partial) => check_calls(&rt, Bench { partial, ledger }, "num:5", "5", 0),
         Err(()) => panic!(rt; "refused"),
     }
 }

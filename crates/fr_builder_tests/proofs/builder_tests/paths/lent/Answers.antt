@@ -1,4 +1,4 @@
-use Rattle.std.proofs.Common.{◌≡◌, ℕ, ap, sym, subst, ◌∙◌}
+use Rattle.std.proofs.Common.{ap, sym, subst, ◌∙◌}
 use Rattle.fr_shape.specs.Look.{Table, def_of}
 use Rattle.fr_model.specs.Tree.{State, tree_occurs}
 use Rattle.fr_model.proofs.TokensInTrees.{fresh_holds}
