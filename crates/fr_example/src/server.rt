@@ -75,11 +75,11 @@ pub fn server_table(alloc: Global) -> Result<ShapeTable, OutOfMemory>
     ensures found { IfOk result (HasShape ⟦<Server as Facet>⟧.is_own) }
 {
     let (host, port, ports) = (ShapeId(0), ShapeId(1), ShapeId(2));
-    let shapes = vec![in alloc;
-        Shape::scalar(alloc, ScalarKind::String)?,
-        Shape::scalar(alloc, ScalarKind::U16)?,
-        Shape::list_of(alloc, "Vec<u16>", port)?,
-        Shape::struct_of(alloc, "Server", &[("host", host), ("ports", ports)])?,
-    ]?;
-    Ok(ShapeTable::new(alloc, Items::from_vec(shapes)))
+    let fields = [("host", host), ("ports", ports)];
+    let mut shapes = Items::new(alloc);
+    shapes.push(Shape::scalar(alloc, ScalarKind::String)?)?;
+    shapes.push(Shape::scalar(alloc, ScalarKind::U16)?)?;
+    shapes.push(Shape::list_of(alloc, "Vec<u16>", port)?)?;
+    shapes.push(Shape::struct_of(alloc, "Server", &fields)?)?;
+    Ok(ShapeTable::new(alloc, shapes))
 }

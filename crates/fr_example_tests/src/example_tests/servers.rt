@@ -9,13 +9,13 @@ use std::process::Abort;
 /// The table of a server, but for the order of its fields.
 fn turned_round(alloc: Global) -> Result<ShapeTable, OutOfMemory> {
     let (host, port, ports) = (ShapeId(0), ShapeId(1), ShapeId(2));
-    let shapes = vec![in alloc;
-        Shape::scalar(alloc, ScalarKind::String)?,
-        Shape::scalar(alloc, ScalarKind::U16)?,
-        Shape::list_of(alloc, "Vec<u16>", port)?,
-        Shape::struct_of(alloc, "Server", &[("ports", ports), ("host", host)])?,
-    ]?;
-    Ok(ShapeTable::new(alloc, Items::from_vec(shapes)))
+    let fields = [("ports", ports), ("host", host)];
+    let mut shapes = Items::new(alloc);
+    shapes.push(Shape::scalar(alloc, ScalarKind::String)?)?;
+    shapes.push(Shape::scalar(alloc, ScalarKind::U16)?)?;
+    shapes.push(Shape::list_of(alloc, "Vec<u16>", port)?)?;
+    shapes.push(Shape::struct_of(alloc, "Server", &fields)?)?;
+    Ok(ShapeTable::new(alloc, shapes))
 }
 
 #[test]

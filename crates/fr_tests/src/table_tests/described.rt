@@ -8,18 +8,14 @@ use std::process::Abort;
 /// A server's host, its port and its tags.
 fn servers(alloc: Global) -> Result<ShapeTable, OutOfMemory> {
     let (number, text, texts, port) = (ShapeId(0), ShapeId(1), ShapeId(2), ShapeId(3));
-    let shapes = vec![in alloc;
-        Shape::scalar(alloc, ScalarKind::U16)?,
-        Shape::scalar(alloc, ScalarKind::String)?,
-        Shape::list_of(alloc, "Vec<String>", text)?,
-        Shape::option_of(alloc, "Option<u16>", number)?,
-        Shape::struct_of(
-            alloc,
-            "Server",
-            &[("host", text), ("port", port), ("tags", texts)]
-        )?,
-    ]?;
-    Ok(ShapeTable::new(alloc, Items::from_vec(shapes)))
+    let fields = [("host", text), ("port", port), ("tags", texts)];
+    let mut shapes = Items::new(alloc);
+    shapes.push(Shape::scalar(alloc, ScalarKind::U16)?)?;
+    shapes.push(Shape::scalar(alloc, ScalarKind::String)?)?;
+    shapes.push(Shape::list_of(alloc, "Vec<String>", text)?)?;
+    shapes.push(Shape::option_of(alloc, "Option<u16>", number)?)?;
+    shapes.push(Shape::struct_of(alloc, "Server", &fields)?)?;
+    Ok(ShapeTable::new(alloc, shapes))
 }
 
 const BYTE: ShapeId = ShapeId(0);
