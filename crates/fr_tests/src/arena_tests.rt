@@ -2,46 +2,18 @@
 //! where a call would not be met or finds no memory.
 use fr_arena::{Arena, ISet, Idx, ListRope, SliceRange};
 use std::alloc::Global;
-use std::hash::{DefaultHasher, Hash, Hasher};
 use std::process::Abort;
 
-fn hash_of(idx: Idx<u8>) -> u64 {
-    let mut state = DefaultHasher::new();
-    idx.hash(&mut state);
-    state.finish()
-}
-
 #[test]
-fn equal_indices_have_equal_numbers(rt: HostRuntime) {
+fn indices_are_their_numbers(rt: HostRuntime) {
     let five: Idx<u8> = Idx::new(5);
-    assert!(rt; five == Idx::new(5) && five != Idx::new(10));
-    assert!(rt; hash_of(five) == hash_of(Idx::new(5)));
-    assert!(rt; five.raw() == 5);
-}
-
-#[test]
-fn the_largest_index_is_not_valid(rt: HostRuntime) {
-    let none: Idx<u8> = Idx::invalid();
+    assert!(rt; five == Idx::new(5) && five != Idx::new(10) && five.is_valid());
     let first: Idx<u8> = Idx::new(0);
-    assert!(rt; !none.is_valid());
-    assert!(rt; first.is_valid());
-}
-
-#[test]
-fn a_range_names_its_indices(rt: HostRuntime) {
+    let none: Idx<u8> = Idx::invalid();
+    assert!(rt; first.is_valid() && !none.is_valid());
     let range: SliceRange<u8> = SliceRange::new(10, 5);
-    assert!(rt; range.get(0) == Some(Idx::new(10)));
-    assert!(rt; range.get(4) == Some(Idx::new(14)));
+    assert!(rt; range.get(0) == Some(Idx::new(10)) && range.get(4) == Some(Idx::new(14)));
     assert!(rt; range.get(5) == None);
-    assert!(rt; range != SliceRange::empty());
-}
-
-/// An arena made with room for two values.
-fn room_for_two(rt: &impl Abort, alloc: Global) -> Arena<u32> {
-    match Arena::with_capacity(alloc, 2) {
-        Ok(arena) => arena,
-        Err(_) => panic!(rt; "no memory"),
-    }
 }
 
 fn put(rt: &impl Abort, arena: &mut Arena<u32>, value: u32) -> Idx<u32> {
@@ -61,7 +33,9 @@ fn at(rt: &impl Abort, arena: &Arena<u32>, index: Idx<u32>) -> u32 {
 
 #[test]
 fn an_arena_gives_back_what_was_put(rt: HostRuntime) {
-    let mut arena = room_for_two(&rt, rt.alloc());
+    let Ok(mut arena) = Arena::with_capacity(rt.alloc(), 2) else {
+        panic!(rt; "no memory");
+    };
     let first = put(&rt, &mut arena, 42);
     let second = put(&rt, &mut arena, 100);
     assert!(rt; at(&rt, &arena, first) == 42);
@@ -84,21 +58,12 @@ fn has_at(rt: &impl Abort, arena: &Arena<u32>, range: SliceRange<u32>, want: &[u
     arena.get_slice(range) == want
 }
 
-fn sum_of(arena: &Arena<u32>) -> u32 {
-    let mut sum = 0u32;
-    for value in arena.iter() {
-        sum = sum.wrapping_add(*value);
-    }
-    sum
-}
-
 #[test]
 fn an_arena_takes_many_values(rt: HostRuntime) {
     let mut arena = Arena::new(rt.alloc());
     let range = put_five(&rt, &mut arena);
     assert!(rt; range.len() == 5);
     assert!(rt; has_at(&rt, &arena, range, &[1, 2, 3, 4, 5]));
-    assert!(rt; sum_of(&arena) == 15);
 }
 
 fn bits(rt: &impl Abort, alloc: Global, count: usize) -> ISet {
@@ -132,34 +97,20 @@ fn forget_and_set_all(rt: &impl Abort, bits: &mut ISet, index: usize, count: usi
 }
 
 #[test]
-fn a_bit_set_crosses_its_words(rt: HostRuntime) {
-    let mut bits = bits(&rt, rt.alloc(), 65);
+fn bit_sets_cross_their_words(rt: HostRuntime) {
+    let mut all = bits(&rt, rt.alloc(), 65);
     for index in 0..65usize {
-        assert!(rt; !has(&rt, &bits, index));
-        set(&rt, &mut bits, index);
+        assert!(rt; !has(&rt, &all, index));
+        set(&rt, &mut all, index);
     }
-    assert!(rt; has_all(&rt, &bits, 65));
-    assert!(rt; !has_all(&rt, &bits, 66));
-}
-
-#[test]
-fn a_bit_set_forgets_one_index(rt: HostRuntime) {
-    let mut bits = bits(&rt, rt.alloc(), 100);
-    set(&rt, &mut bits, 0);
-    set(&rt, &mut bits, 64);
-    set(&rt, &mut bits, 99);
-    assert!(rt; has(&rt, &bits, 0) && has(&rt, &bits, 64) && has(&rt, &bits, 99));
-    forget_and_set_all(&rt, &mut bits, 0, 100);
-    assert!(rt; has_all(&rt, &bits, 100));
-    assert!(rt; !has(&rt, &bits, 100));
-}
-
-#[test]
-fn a_small_bit_set_takes_no_memory(rt: HostRuntime) {
-    let mut bits = ISet::default();
-    set(&rt, &mut bits, 63);
-    assert!(rt; has(&rt, &bits, 63) && !has(&rt, &bits, 62));
-    assert!(rt; bits.capacity() == 64);
+    assert!(rt; has_all(&rt, &all, 65) && !has_all(&rt, &all, 66));
+    let mut three = bits(&rt, rt.alloc(), 100);
+    for index in [0, 64, 99] {
+        set(&rt, &mut three, index);
+    }
+    assert!(rt; has(&rt, &three, 0) && has(&rt, &three, 64) && has(&rt, &three, 99));
+    forget_and_set_all(&rt, &mut three, 0, 100);
+    assert!(rt; has_all(&rt, &three, 100) && !has(&rt, &three, 100));
 }
 
 fn add(rt: &impl Abort, rope: &mut ListRope<u32>, item: u32) {
@@ -170,15 +121,6 @@ fn add(rt: &impl Abort, rope: &mut ListRope<u32>, item: u32) {
 fn mark(rt: &impl Abort, rope: &mut ListRope<u32>) {
     assert!(rt; rope.initialized_count() < rope.len());
     rope.mark_last_initialized();
-}
-
-/// A rope of ten items, in pieces of four.
-fn ten_items(rt: &impl Abort, alloc: Global) -> ListRope<u32> {
-    let mut rope = ListRope::with_chunk_capacity(alloc, 4);
-    for item in 0..10u32 {
-        add(rt, &mut rope, item);
-    }
-    rope
 }
 
 /// Drains a rope whose items are all marked, and returns how many came, each one more than the one
@@ -196,8 +138,9 @@ fn drain(rt: &impl Abort, rope: &mut ListRope<u32>) -> u32 {
 
 #[test]
 fn a_rope_drains_in_order(rt: HostRuntime) {
-    let mut rope = ten_items(&rt, rt.alloc());
-    for _item in 0..10u32 {
+    let mut rope = ListRope::with_chunk_capacity(rt.alloc(), 4);
+    for item in 0..10u32 {
+        add(&rt, &mut rope, item);
         mark(&rt, &mut rope);
     }
     assert!(rt; rope.chunk_count() == 3);
@@ -226,16 +169,4 @@ fn a_rope_shows_its_marked_items(rt: HostRuntime) {
     mark(&rt, &mut rope);
     assert!(rt; shown(&rope) == (2, 15));
     assert!(rt; rope.len() == 3);
-}
-
-fn item_at(rt: &impl Abort, rope: &ListRope<u32>, number: usize) -> u32 {
-    assert!(rt; number < rope.len());
-    *rope.get(number)
-}
-
-#[test]
-fn a_rope_finds_an_item_by_its_number(rt: HostRuntime) {
-    let rope = ten_items(&rt, rt.alloc());
-    assert!(rt; item_at(&rt, &rope, 5) == 5);
-    assert!(rt; item_at(&rt, &rope, 9) == 9);
 }

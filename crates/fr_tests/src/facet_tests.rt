@@ -4,33 +4,19 @@ ghost use Rattle.std.specs.Prelude.{◌≡◌, ℕ};
 ghost use Rattle.fr_shape.specs.Tokens.{occurs};
 ghost use Rattle.fr_shape.specs.View.{view};
 
-use crate::texts::{check_text, ledger, table_of};
-use fr_doc::json_of;
+use crate::texts::{check_printed, ledger, repeated, table_of};
 use fr_facet::Facet;
-use fr_shape::{Items, ShapeId, ShapeTable, Text, Value};
-use std::alloc::{AllocError, Global};
+use fr_shape::{Items, ShapeId, Text, Value};
+use std::alloc::Global;
 use std::process::Abort;
 
-/// 4,095 shapes of other scalars, and u32 behind them.
-fn shapes(alloc: Global) -> Result<String, AllocError> {
-    let mut text = String::from_str(alloc, "[")?;
-    for _i in 0..4_095u32 {
-        text.push_str(r#"{"name":"u16","def":"u16"},"#)?;
-    }
-    text.push_str(r#"{"name":"u32","def":"u32"}]"#)?;
-    Ok(text)
-}
-
-fn table(rt: &impl Abort, alloc: Global) -> ShapeTable {
-    match shapes(alloc) {
-        Ok(text) => table_of(rt, alloc, text.as_str()),
-        Err(_) => panic!(rt; "no memory"),
-    }
-}
-
+/// The shapes before it are of another scalar.
 #[test]
 fn a_type_is_found_1_000_times_among_4_096_shapes(rt: HostRuntime) {
-    let table = table(&rt, rt.alloc());
+    let around = ("[", r#"{"name":"u32","def":"u32"}]"#);
+    let other = [r#"{"name":"u16","def":"u16"},"#];
+    let shapes = repeated(&rt, rt.alloc(), around, &other, 4_095);
+    let table = table_of(&rt, rt.alloc(), shapes.as_str());
     for _i in 0..1_000u32 {
         assert!(rt; u32::find(&table) == Some(ShapeId(4_095)));
     }
@@ -50,19 +36,9 @@ fn check_element<T: Facet>(rt: &impl Abort, alloc: Global, value: Value, want: &
     }
 }
 
-fn check_printed(rt: &impl Abort, alloc: Global, value: &Value, want: &str) {
-    let Ok(json) = json_of(alloc, value) else {
-        panic!(rt; "no memory");
-    };
-    match json.to_string(alloc) {
-        Ok(text) => check_text(rt, text.as_str(), want),
-        Err(_) => panic!(rt; "no memory"),
-    }
-}
-
-/// An element of each numeric type, the largest there is.
+/// An element of each numeric type, the largest there is, a truth value and a character.
 #[test]
-fn numbers_are_values(rt: HostRuntime) {
+fn scalars_are_values(rt: HostRuntime) {
     let alloc = rt.alloc();
     check_element::<i8>(&rt, alloc, Value::Int(127), r#"{"i":127}"#);
     check_element::<i16>(&rt, alloc, Value::Int(32_767), r#"{"i":32767}"#);
@@ -78,12 +54,8 @@ fn numbers_are_values(rt: HostRuntime) {
     check_element::<u64>(&rt, alloc, most, "18446744073709551615");
     let most = r#"{"n":"340282366920938463463374607431768211455"}"#;
     check_element::<u128>(&rt, alloc, Value::Nat(u128::MAX), most);
-}
-
-#[test]
-fn truth_values_and_characters_are_values(rt: HostRuntime) {
-    check_element::<bool>(&rt, rt.alloc(), Value::Bool(true), "true");
-    check_element::<char>(&rt, rt.alloc(), Value::Char('é'), r#"{"c":"é"}"#);
+    check_element::<bool>(&rt, alloc, Value::Bool(true), "true");
+    check_element::<char>(&rt, alloc, Value::Char('é'), r#"{"c":"é"}"#);
 }
 
 /// A number in a box of its own.

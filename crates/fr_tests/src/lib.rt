@@ -1,6 +1,6 @@
 //! Tests of what the builder stands on, over public calls alone, as a user's crate makes them:
-//! arenas, paths, tables of shapes, Rust types in them, their lookups, rules and plans, the places of
-//! a value by themselves, their slots, forms, devices and the hooks of documents.
+//! arenas, paths, tables of shapes, Rust types in them, their lookups, validators and plans, the places
+//! of a value by themselves, their slots, forms and devices.
 #![tactic(auto)]
 
 #[cfg(test)]
@@ -8,15 +8,9 @@ mod arena_tests;
 #[cfg(test)]
 mod facet_tests;
 #[cfg(test)]
-mod fill_tests;
-#[cfg(test)]
 mod form_tests;
 #[cfg(test)]
-mod hook_tests;
-#[cfg(test)]
 mod lookup_tests;
-#[cfg(test)]
-mod parsing_tests;
 #[cfg(test)]
 mod path_tests;
 #[cfg(test)]

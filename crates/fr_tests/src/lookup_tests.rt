@@ -1,54 +1,9 @@
 //! Lookups of each form, with ample memory. What finds no memory ends the test.
-ghost use Rattle.fr_rules.specs.FieldLookups.{IsOfPool};
-
 use crate::texts::table_of;
 use fr_rules::*;
-use fr_shape::{Def, Field, Items, ShapeId, ShapeTable, Text};
+use fr_shape::{Def, ShapeId, ShapeTable};
 use std::alloc::Global;
 use std::process::Abort;
-
-fn text(rt: &impl Abort, alloc: Global, s: &str) -> Text {
-    match Text::new(alloc, s) {
-        Ok(text) => text,
-        Err(_) => panic!(rt; "no memory"),
-    }
-}
-
-fn add_field(rt: &impl Abort, alloc: Global, fields: &mut Items<Field>, name: &str) {
-    let field = Field::new(alloc, text(rt, alloc, name), ShapeId(0));
-    let pushed = fields.push(field);
-    assert!(rt; pushed.is_ok());
-}
-
-/// A field that goes by another name besides.
-fn add_alias(rt: &impl Abort, alloc: Global, fields: &mut Items<Field>, name: &str, alias: &str) {
-    let mut field = Field::new(alloc, text(rt, alloc, name), ShapeId(0));
-    field.alias = Some(text(rt, alloc, alias));
-    let pushed = fields.push(field);
-    assert!(rt; pushed.is_ok());
-}
-
-fn fields(rt: &impl Abort, alloc: Global, names: &[&str]) -> Items<Field> {
-    let mut fields = Items::new(alloc);
-    for name in names {
-        add_field(rt, alloc, &mut fields, *name);
-    }
-    fields
-}
-
-fn lookup(
-    rt: &impl Abort,
-    alloc: Global,
-    fields: &Items<Field>,
-    pool: &mut LookupPool,
-) -> FieldLookup
-    ensures { IsOfPool pool.new result }
-{
-    match build_field_lookup(alloc, fields, pool) {
-        Ok(lookup) => lookup,
-        Err(_) => panic!(rt; "no memory"),
-    }
-}
 
 /// The prefix length of a lookup in buckets; None of a short one.
 fn prefix_len(lookup: &FieldLookup) -> Option<usize> {
@@ -58,138 +13,124 @@ fn prefix_len(lookup: &FieldLookup) -> Option<usize> {
     }
 }
 
-/// The number of the field of this name in a lookup of these fields, whose prefixes have this
-/// length.
-fn found(
+/// Ends the test where the field of this name in the first shape, a struct, has another number, or
+/// the prefixes another length, than is wanted. The field is found also after another lookup was
+/// built.
+fn check_field(
     rt: &impl Abort,
     alloc: Global,
-    fields: &Items<Field>,
-    prefix: Option<usize>,
-    name: &str,
-) -> Option<usize> {
-    let mut pool = LookupPool::new(alloc);
-    let lookup = lookup(rt, alloc, fields, &mut pool);
-    assert!(rt; prefix_len(&lookup) == prefix);
-    lookup.find(name, &pool)
-}
-
-/// Ends the test where a name has another number than is wanted.
-fn check_found(
-    rt: &impl Abort,
-    alloc: Global,
-    fields: &Items<Field>,
+    shapes: &str,
     prefix: Option<usize>,
     (name, want): (&str, Option<usize>),
 ) {
-    assert!(rt; found(rt, alloc, fields, prefix, name) == want, "{name}");
-}
-
-#[test]
-fn short_lookups_find_fields(rt: HostRuntime) {
-    let alloc = rt.alloc();
-    let fields = fields(&rt, alloc, &["foo", "bar", "baz"]);
-    for row in [
-        ("foo", Some(0)),
-        ("bar", Some(1)),
-        ("baz", Some(2)),
-        ("qux", None),
-    ] {
-        check_found(&rt, alloc, &fields, None, row);
-    }
+    let table = table_of(rt, alloc, shapes);
+    let Some(Def::Struct(described)) = table.get(ShapeId(0)).map(|shape| &shape.def) else {
+        panic!(rt; "no struct");
+    };
     let mut pool = LookupPool::new(alloc);
-    let short = lookup(&rt, alloc, &fields, &mut pool);
-    assert!(rt; !short.is_empty() && found_small(&short, "baz") == Some(2));
-}
-
-/// The number of the field of this name, by a lookup of few names.
-fn found_small(lookup: &FieldLookup, name: &str) -> Option<usize> {
-    match lookup {
-        FieldLookup::Small(_) => lookup.find_small(name),
-        FieldLookup::PrefixBuckets { .. } => None,
-    }
-}
-
-#[test]
-fn more_than_eight_entries_make_buckets(rt: HostRuntime) {
-    let alloc = rt.alloc();
-    let mut fields = fields(&rt, alloc, &["a", "b", "c", "d", "e", "f", "g", "h"]);
-    check_found(&rt, alloc, &fields, None, ("h", Some(7)));
-    add_alias(&rt, alloc, &mut fields, "i", "b");
-    for row in [("b", Some(1)), ("h", Some(7)), ("i", Some(8)), ("j", None)] {
-        check_found(&rt, alloc, &fields, Some(4), row);
-    }
-}
-
-#[test]
-fn an_alias_finds_its_field(rt: HostRuntime) {
-    let alloc = rt.alloc();
-    let mut fields = fields(&rt, alloc, &["a", "b", "c", "d", "e", "f", "g"]);
-    add_alias(&rt, alloc, &mut fields, "h", "alias");
-    check_found(&rt, alloc, &fields, Some(4), ("alias", Some(7)));
-    check_found(&rt, alloc, &fields, Some(4), ("ali", None));
-}
-
-/// Each name is found at its place, and those that are absent nowhere.
-fn check_names(
-    rt: &impl Abort,
-    lookup: &FieldLookup,
-    pool: &LookupPool,
-    names: &[&str],
-    absent: &[&str],
-)
-    requires { IsOfPool pool.now lookup.now }
-{
-    for (i, name) in names.iter().enumerate() {
-        assert!(rt; lookup.find(*name, pool) == Some(i));
-    }
-    for name in absent {
-        assert!(rt; lookup.find(*name, pool).is_none());
-    }
-}
-
-/// A lookup of these names has prefixes of this length, and finds them also after another was
-/// built.
-fn check_long(rt: &impl Abort, alloc: Global, names: &[&str], absent: &[&str], want: usize) {
-    let mut pool = LookupPool::new(alloc);
-    let fields = fields(rt, alloc, names);
-    let Ok(lookup) = build_field_lookup(alloc, &fields, &mut pool) else {
+    let Ok(lookup) = build_field_lookup(alloc, &described.fields, &mut pool) else {
         panic!(rt; "no memory");
     };
-    assert!(rt; prefix_len(&lookup) == Some(want));
-    check_names(rt, &lookup, &pool, names, absent);
-    let again = build_field_lookup(alloc, &fields, &mut pool);
+    assert!(rt;
+        prefix_len(&lookup) == prefix && lookup.find(name, &pool) == want,
+        "{name}"
+    );
+    let again = build_field_lookup(alloc, &described.fields, &mut pool);
     assert!(rt; again.is_ok());
     law_lookups_stay();
-    check_names(rt, &lookup, &pool, names, absent);
+    assert!(rt; lookup.find(name, &pool) == want, "{name}");
 }
 
+const THREE: &str = r#"[{"name":"S","def":{"struct":[
+    {"name":"foo","shape":0},{"name":"bar","shape":0},{"name":"baz","shape":0}
+]}}]"#;
+
+const EIGHT: &str = r#"[{"name":"S","def":{"struct":[
+    {"name":"a","shape":0},{"name":"b","shape":0},{"name":"c","shape":0},
+    {"name":"d","shape":0},{"name":"e","shape":0},{"name":"f","shape":0},
+    {"name":"g","shape":0},{"name":"h","shape":0}
+]}}]"#;
+
+/// Eight fields, of which the last goes by another name besides.
+const ALIAS: &str = r#"[{"name":"S","def":{"struct":[
+    {"name":"a","shape":0},{"name":"b","shape":0},{"name":"c","shape":0},
+    {"name":"d","shape":0},{"name":"e","shape":0},{"name":"f","shape":0},
+    {"name":"g","shape":0},{"name":"h","shape":0,"alias":"alias"}
+]}}]"#;
+
+/// Nine fields, of which the last goes by the name of the second besides.
+const SECOND_NAME: &str = r#"[{"name":"S","def":{"struct":[
+    {"name":"a","shape":0},{"name":"b","shape":0},{"name":"c","shape":0},
+    {"name":"d","shape":0},{"name":"e","shape":0},{"name":"f","shape":0},
+    {"name":"g","shape":0},{"name":"h","shape":0},{"name":"i","shape":0,"alias":"b"}
+]}}]"#;
+
+/// Names that share a prefix, of which few enough share four bytes.
+const HALF: &str = r#"[{"name":"S","def":{"struct":[
+    {"name":"x","shape":0},{"name":"identifier_b","shape":0},
+    {"name":"identifier_a","shape":0},{"name":"identifi","shape":0},
+    {"name":"identity","shape":0},{"name":"iden","shape":0},{"name":"id","shape":0},
+    {"name":"i","shape":0},{"name":"ident","shape":0}
+]}}]"#;
+
+/// The same with one more that shares them.
+const MORE: &str = r#"[{"name":"S","def":{"struct":[
+    {"name":"x","shape":0},{"name":"identifier_b","shape":0},
+    {"name":"identifier_a","shape":0},{"name":"identifi","shape":0},
+    {"name":"identity","shape":0},{"name":"iden","shape":0},{"name":"id","shape":0},
+    {"name":"i","shape":0},{"name":"identified","shape":0}
+]}}]"#;
+
+/// More than eight entries make buckets, of prefixes of 4 bytes or of 8.
+const FIELDS: [(&str, Option<usize>, &str, Option<usize>); 41] = [
+    (THREE, None, "foo", Some(0)),
+    (THREE, None, "bar", Some(1)),
+    (THREE, None, "baz", Some(2)),
+    (THREE, None, "qux", None),
+    (EIGHT, None, "h", Some(7)),
+    (EIGHT, None, "i", None),
+    (ALIAS, Some(4), "a", Some(0)),
+    (ALIAS, Some(4), "b", Some(1)),
+    (ALIAS, Some(4), "h", Some(7)),
+    (ALIAS, Some(4), "alias", Some(7)),
+    (ALIAS, Some(4), "ali", None),
+    (SECOND_NAME, Some(4), "b", Some(1)),
+    (SECOND_NAME, Some(4), "h", Some(7)),
+    (SECOND_NAME, Some(4), "i", Some(8)),
+    (SECOND_NAME, Some(4), "j", None),
+    (HALF, Some(4), "x", Some(0)),
+    (HALF, Some(4), "identifier_b", Some(1)),
+    (HALF, Some(4), "identifier_a", Some(2)),
+    (HALF, Some(4), "identifi", Some(3)),
+    (HALF, Some(4), "identity", Some(4)),
+    (HALF, Some(4), "iden", Some(5)),
+    (HALF, Some(4), "id", Some(6)),
+    (HALF, Some(4), "i", Some(7)),
+    (HALF, Some(4), "ident", Some(8)),
+    (HALF, Some(4), "id\0\0", None),
+    (HALF, Some(4), "identifier", None),
+    (HALF, Some(4), "", None),
+    (HALF, Some(4), "ide", None),
+    (MORE, Some(8), "x", Some(0)),
+    (MORE, Some(8), "identifier_b", Some(1)),
+    (MORE, Some(8), "identifier_a", Some(2)),
+    (MORE, Some(8), "identifi", Some(3)),
+    (MORE, Some(8), "identity", Some(4)),
+    (MORE, Some(8), "iden", Some(5)),
+    (MORE, Some(8), "id", Some(6)),
+    (MORE, Some(8), "i", Some(7)),
+    (MORE, Some(8), "identified", Some(8)),
+    (MORE, Some(8), "id\0\0", None),
+    (MORE, Some(8), "identifier", None),
+    (MORE, Some(8), "", None),
+    (MORE, Some(8), "ide", None),
+];
+
 #[test]
-fn names_that_share_a_prefix_are_told_apart(rt: HostRuntime) {
-    let absent = ["id\0\0", "identifier", "", "ide"];
-    let half = [
-        "x",
-        "identifier_b",
-        "identifier_a",
-        "identifi",
-        "identity",
-        "iden",
-        "id",
-        "i",
-        "ident",
-    ];
-    check_long(&rt, rt.alloc(), &half, &absent, 4);
-    let more = [
-        "x",
-        "identifier_b",
-        "identifier_a",
-        "identifi",
-        "identity",
-        "iden",
-        "id",
-        "i",
-        "identified",
-    ];
-    check_long(&rt, rt.alloc(), &more, &absent, 8);
+fn lookups_find_fields(rt: HostRuntime) {
+    for (shapes, prefix, name, want) in FIELDS {
+        check_field(&rt, rt.alloc(), shapes, prefix, (name, want));
+    }
 }
 
 /// The lookup of the first shape's variants. A checked table tells that their names are distinct.
@@ -206,35 +147,6 @@ fn lookup_of(alloc: Global, table: &ShapeTable) -> Option<VariantLookup> {
     }
 }
 
-/// The number of the variant of this name in the first shape, by a lookup that is short or not.
-fn found_variant(
-    rt: &impl Abort,
-    alloc: Global,
-    shapes: &str,
-    is_short: bool,
-    name: &str,
-) -> Option<usize> {
-    let Some(lookup) = lookup_of(alloc, &table_of(rt, alloc, shapes)) else {
-        panic!(rt; "no lookup");
-    };
-    assert!(rt; matches!(&lookup, VariantLookup::Small(_)) == is_short);
-    lookup.find(name)
-}
-
-/// Ends the test where a name has another number than is wanted.
-fn check_variant(
-    rt: &impl Abort,
-    alloc: Global,
-    shapes: &str,
-    is_short: bool,
-    (name, want): (&str, Option<usize>),
-) {
-    assert!(rt;
-        found_variant(rt, alloc, shapes, is_short, name) == want,
-        "{name}"
-    );
-}
-
 /// An enum of four variants, the last of which stands for all others.
 const FEW: &str = r##"[{"name":"choice","def":{"enum":{"repr":"Rust","variants":[
     {"name":"A","kind":"unit","fields":[]},
@@ -244,42 +156,17 @@ const FEW: &str = r##"[{"name":"choice","def":{"enum":{"repr":"Rust","variants":
 ]}}}]"##;
 
 #[test]
-fn short_lookups_find_variants(rt: HostRuntime) {
-    for row in [
+fn lookups_find_variants(rt: HostRuntime) {
+    let Some(lookup) = lookup_of(rt.alloc(), &table_of(&rt, rt.alloc(), FEW)) else {
+        panic!(rt; "no lookup");
+    };
+    for (name, want) in [
         ("A", Some(0)),
         ("B", Some(1)),
         ("C", Some(2)),
         ("#D", None),
         ("D", None),
     ] {
-        check_variant(&rt, rt.alloc(), FEW, true, row);
-    }
-}
-
-/// An enum of ten variants, the second of which stands for all others.
-const TEN: &str = r##"[{"name":"choice","def":{"enum":{"repr":"Rust","variants":[
-    {"name":"nine","kind":"unit","fields":[]},
-    {"name":"#","kind":"unit","fields":[],"other":true},
-    {"name":"eight","kind":"unit","fields":[]},
-    {"name":"six","kind":"unit","fields":[]},
-    {"name":"seven","kind":"unit","fields":[]},
-    {"name":"f","kind":"unit","fields":[]},
-    {"name":"five","kind":"unit","fields":[]},
-    {"name":"","kind":"unit","fields":[]},
-    {"name":"one","kind":"unit","fields":[]},
-    {"name":"two","kind":"unit","fields":[]}
-]}}}]"##;
-
-#[test]
-fn sorted_lookups_find_variants(rt: HostRuntime) {
-    for row in [
-        ("nine", Some(0)),
-        ("f", Some(5)),
-        ("", Some(7)),
-        ("two", Some(9)),
-        ("#", None),
-        ("fiv", None),
-    ] {
-        check_variant(&rt, rt.alloc(), TEN, false, row);
+        assert!(rt; lookup.find(name) == want, "{name}");
     }
 }

@@ -1,13 +1,6 @@
-//! The text of paths over one table of shapes, and the order of the walk. The helpers leave out
-//! what finds no memory, and the tests then fail.
-ghost use Rattle.std.specs.Prelude.{◌≤◌};
-
+//! The text of paths over one table of shapes. What finds no memory ends the test.
 use crate::texts::table_of;
-use fr_path::Path;
-use fr_path::PathStep::{
-    self, Deref, Entry, Field, Index, Inner, MapKey, MapValue, OptionSome, Proxy, ResultErr,
-    ResultOk, SetItem,
-};
+use fr_path::{Path, PathStep};
 use fr_shape::{ShapeId, ShapeTable, Text};
 use std::alloc::Global;
 use std::process::Abort;
@@ -49,168 +42,117 @@ const SHAPES: &str = r#"[
     {"name":"22","def":{"array":[0,4097]}}
 ]"#;
 
-fn table(rt: &impl Abort, alloc: Global) -> ShapeTable {
-    let table = table_of(rt, alloc, SHAPES);
-    assert!(rt; table.len() == 23);
-    table
-}
+/// A step, in short: what it leads to, and its number. The letters f, i, k and v lead to a field, an
+/// index, a map's key and its value.
+type Step = (char, u32);
 
-fn path<const N: usize>(alloc: Global, steps: [PathStep; N]) -> Path
-    requires { N ≤ 3 }
-{
-    let mut path = Path::new(alloc);
-    for step in steps {
-        let _ = path.push(step);
+const SOME: Step = ('s', 0);
+
+const OK: Step = ('o', 0);
+
+const ERR: Step = ('e', 0);
+
+const ITEM: Step = ('t', 0);
+
+const DEREF: Step = ('d', 0);
+
+const INNER: Step = ('n', 0);
+
+const PROXY: Step = ('p', 0);
+
+/// The entry of the key `a b`.
+const ENTRY: Step = ('a', 0);
+
+/// There is no further step.
+const END: Step = ('.', 0);
+
+/// Each kind of step, from a place that can have it: the shape after it shows in the field's name.
+/// Then a variant's field, a field that isn't there, a proxy, and steps that the place can't have,
+/// after which fields are numbered.
+const ROWS: [(u32, [Step; 3], &str); 31] = [
+    (0, [END, END, END], ""),
+    (0, [('f', 1), ('i', 2), SOME], "xs[2]::some"),
+    (3, [SOME, ('f', 1), END], "::some.xs"),
+    (5, [('i', 3), ('f', 0), END], "[3].id"),
+    (6, [OK, ('f', 0), END], "::ok.id"),
+    (6, [ERR, SOME, ('f', 0)], "::err::some.id"),
+    (7, [('k', 4), ('f', 1), END], "[key 4].xs"),
+    (7, [('v', 5), SOME, ('f', 1)], "[value 5]::some.xs"),
+    (8, [ITEM, ('f', 0), END], "[item].id"),
+    (9, [DEREF, ('f', 1), END], "::deref.xs"),
+    (10, [('i', 7), ('f', 1), END], "[7].xs"),
+    (12, [ENTRY, ('i', 0), END], "[a b][0]"),
+    (15, [INNER, ('f', 1), END], "::inner.xs"),
+    (16, [INNER, ('f', 1), END], "::inner.xs"),
+    (17, [SOME, ('f', 1), END], "::some.xs"),
+    (20, [('i', 1), ('f', 1), END], "[1].xs"),
+    (21, [('i', 4096), ('f', 1), END], "[4096].xs"),
+    (4, [('f', 0), ('f', 1), END], "0.1"),
+    (0, [('f', 2), ('f', 1), END], "2.1"),
+    (0, [('f', 0), ('f', 1), ('f', 0)], "id.1.0"),
+    (0, [PROXY, ('f', 1), END], "::proxy.1"),
+    (0, [DEREF, ('f', 1), END], "::deref.1"),
+    (5, [ITEM, ('f', 1), END], "[item].1"),
+    (9, [('i', 0), ('f', 1), END], "[0].1"),
+    (10, [DEREF, ('i', 0), ('f', 1)], "::deref[0].1"),
+    (13, [DEREF, ('f', 1), END], "::deref.1"),
+    (14, [('i', 0), ('f', 1), END], "[0].1"),
+    (17, [INNER, ('f', 1), END], "::inner.1"),
+    (18, [INNER, ('f', 1), END], "::inner.1"),
+    (19, [('i', 0), ('f', 1), END], "[0].1"),
+    (22, [('i', 0), ('f', 1), END], "[0].1"),
+];
+
+/// The step of this letter, and of this number where it has one.
+fn step_of(rt: &impl Abort, alloc: Global, (letter, number): Step) -> PathStep {
+    match letter {
+        'f' => PathStep::Field(number),
+        'i' => PathStep::Index(number),
+        'k' => PathStep::MapKey(number),
+        'v' => PathStep::MapValue(number),
+        's' => PathStep::OptionSome,
+        'o' => PathStep::ResultOk,
+        'e' => PathStep::ResultErr,
+        't' => PathStep::SetItem,
+        'd' => PathStep::Deref,
+        'n' => PathStep::Inner,
+        'p' => PathStep::Proxy,
+        _ => match Text::new(alloc, "a b") {
+            Ok(key) => PathStep::Entry(key),
+            Err(_) => panic!(rt; "no memory"),
+        },
     }
-    path
 }
 
-fn entry(alloc: Global, key: &str) -> PathStep {
-    match Text::new(alloc, key) {
-        Ok(key) => Entry(key),
-        Err(_) => Proxy,
-    }
+fn push(rt: &impl Abort, path: &mut Path, step: PathStep) {
+    let pushed = path.push(step);
+    assert!(rt; pushed.is_ok());
 }
 
-fn check<const N: usize>(
+/// Ends the test where the path of these steps has another text than is wanted.
+fn check(
     rt: &impl Abort,
     alloc: Global,
     table: &ShapeTable,
-    root: u32,
-    steps: [PathStep; N],
-    want: &str,
-)
-    requires { N ≤ 3 }
-{
-    let path = path(alloc, steps);
+    (root, steps, want): (u32, [Step; 3], &str),
+) {
+    let mut path = Path::new(alloc);
+    for step in steps {
+        if step.0 != END.0 {
+            push(rt, &mut path, step_of(rt, alloc, step));
+        }
+    }
     match path.format_with_shape(alloc, table, ShapeId(root)) {
         Ok(text) => assert!(rt; text.as_str() == want, "{want} at shape {root}"),
         Err(_) => panic!(rt; "no memory"),
     }
 }
 
-/// Each kind of step, from a place that can have it. The shape after it shows in the field's name.
 #[test]
-fn names_fields_while_shapes_are_known(rt: HostRuntime) {
-    let alloc = rt.alloc();
-    let table = table(&rt, alloc);
-    check(&rt, alloc, &table, 0, [], "");
-    check(
-        &rt,
-        alloc,
-        &table,
-        0,
-        [Field(1), Index(2), OptionSome],
-        "xs[2]::some",
-    );
-    check(&rt, alloc, &table, 3, [OptionSome, Field(1)], "::some.xs");
-    check(&rt, alloc, &table, 5, [Index(3), Field(0)], "[3].id");
-    check(&rt, alloc, &table, 6, [ResultOk, Field(0)], "::ok.id");
-    check(
-        &rt,
-        alloc,
-        &table,
-        6,
-        [ResultErr, OptionSome, Field(0)],
-        "::err::some.id",
-    );
-    check(&rt, alloc, &table, 7, [MapKey(4), Field(1)], "[key 4].xs");
-    check(
-        &rt,
-        alloc,
-        &table,
-        7,
-        [MapValue(5), OptionSome, Field(1)],
-        "[value 5]::some.xs",
-    );
-    check(&rt, alloc, &table, 8, [SetItem, Field(0)], "[item].id");
-    check(&rt, alloc, &table, 9, [Deref, Field(1)], "::deref.xs");
-    check(&rt, alloc, &table, 10, [Index(7), Field(1)], "[7].xs");
-    check(
-        &rt,
-        alloc,
-        &table,
-        12,
-        [entry(alloc, "a b"), Index(0)],
-        "[a b][0]",
-    );
-    check(&rt, alloc, &table, 15, [Inner, Field(1)], "::inner.xs");
-    check(&rt, alloc, &table, 16, [Inner, Field(1)], "::inner.xs");
-    check(&rt, alloc, &table, 17, [OptionSome, Field(1)], "::some.xs");
-    check(&rt, alloc, &table, 20, [Index(1), Field(1)], "[1].xs");
-    check(&rt, alloc, &table, 21, [Index(4096), Field(1)], "[4096].xs");
-}
-
-/// A variant's field, a field that isn't there, a proxy, and steps that the place can't have.
-#[test]
-fn numbers_fields_once_shapes_are_lost(rt: HostRuntime) {
-    let alloc = rt.alloc();
-    let table = table(&rt, alloc);
-    check(&rt, alloc, &table, 4, [Field(0), Field(1)], "0.1");
-    check(&rt, alloc, &table, 0, [Field(2), Field(1)], "2.1");
-    check(
-        &rt,
-        alloc,
-        &table,
-        0,
-        [Field(0), Field(1), Field(0)],
-        "id.1.0",
-    );
-    check(&rt, alloc, &table, 0, [Proxy, Field(1)], "::proxy.1");
-    check(&rt, alloc, &table, 0, [Deref, Field(1)], "::deref.1");
-    check(&rt, alloc, &table, 5, [SetItem, Field(1)], "[item].1");
-    check(&rt, alloc, &table, 9, [Index(0), Field(1)], "[0].1");
-    check(
-        &rt,
-        alloc,
-        &table,
-        10,
-        [Deref, Index(0), Field(1)],
-        "::deref[0].1",
-    );
-    check(&rt, alloc, &table, 13, [Deref, Field(1)], "::deref.1");
-    check(&rt, alloc, &table, 14, [Index(0), Field(1)], "[0].1");
-    check(&rt, alloc, &table, 17, [Inner, Field(1)], "::inner.1");
-    check(&rt, alloc, &table, 18, [Inner, Field(1)], "::inner.1");
-    check(&rt, alloc, &table, 19, [Index(0), Field(1)], "[0].1");
-    check(&rt, alloc, &table, 22, [Index(0), Field(1)], "[0].1");
-}
-
-/// Each path is walked before those behind it, and is the same as none of them.
-fn check_walk(rt: &impl Abort, walk: &[Path]) {
-    for (i, path) in walk.iter().enumerate() {
-        for (j, other) in walk.iter().enumerate() {
-            assert!(rt; path.cmp_walk(other) == i.cmp(&j) && (path == other) == (i == j));
-        }
+fn fields_have_names_while_shapes_are_known(rt: HostRuntime) {
+    let table = table_of(&rt, rt.alloc(), SHAPES);
+    assert!(rt; table.len() == 23);
+    for row in ROWS {
+        check(&rt, rt.alloc(), &table, row);
     }
-}
-
-/// Each path is walked before the next.
-#[test]
-fn walks_longer_paths_first(rt: HostRuntime) {
-    let alloc = rt.alloc();
-    let walk = [
-        path(alloc, [Field(0), Deref, Deref]),
-        path(alloc, [Field(0), Field(9)]),
-        path(alloc, [Field(1), Field(0)]),
-        path(alloc, [Field(9)]),
-        path(alloc, [Index(0)]),
-        path(alloc, [MapKey(9)]),
-        path(alloc, [MapValue(0)]),
-        path(alloc, [entry(alloc, "a")]),
-        path(alloc, [entry(alloc, "ab")]),
-        path(alloc, [entry(alloc, "b")]),
-        path(alloc, []),
-    ];
-    check_walk(&rt, &walk);
-}
-
-#[test]
-fn goes_there_and_back(rt: HostRuntime) {
-    let mut path = Path::new(rt.alloc());
-    assert!(rt; path.push(Inner).is_ok() && path.push(MapKey(3)).is_ok());
-    assert!(rt; path.len() == 2 && !path.is_empty() && path.steps()[1] == MapKey(3));
-    assert!(rt; matches!(path.pop(), Some(MapKey(3))));
-    assert!(rt; matches!(path.pop(), Some(Inner)));
-    assert!(rt; path.pop().is_none() && path.is_empty());
 }

@@ -4,9 +4,9 @@ ghost use Rattle.fr_shape.specs.Checked.{IsChecked};
 ghost use Rattle.fr_frame.specs.Completing.{IsPlanFor};
 
 use fr_plan::TypePlanCore;
-use fr_shape::{Ledger, ShapeId, ShapeTable, Value};
+use fr_shape::{Ledger, ShapeId, ShapeTable, Value, fits};
 use serde_json::Value as Json;
-use std::alloc::{AllocError, Global};
+use std::alloc::Global;
 use std::process::Abort;
 
 /// The table of these shapes, which may break rules.
@@ -18,6 +18,37 @@ pub fn table_of(rt: &impl Abort, alloc: Global, shapes: &str) -> ShapeTable {
         Ok(shapes) => ShapeTable::new(alloc, shapes),
         Err(_) => panic!(rt; "no shapes"),
     }
+}
+
+fn push(rt: &impl Abort, text: &mut String, part: &str) {
+    let pushed = text.push_str(part);
+    assert!(rt; pushed.is_ok());
+}
+
+/// These parts so many times between a front and a back: each time with a number between them, 1
+/// at first and then one more.
+pub fn repeated(
+    rt: &impl Abort,
+    alloc: Global,
+    (front, back): (&str, &str),
+    parts: &[&str],
+    count: u32,
+) -> String {
+    let mut text = String::new(alloc);
+    push(rt, &mut text, front);
+    for i in 0..count {
+        let Ok(number) = format!(in alloc; "{}", i.saturating_add(1)) else {
+            panic!(rt; "no memory");
+        };
+        for (k, part) in parts.iter().enumerate() {
+            if 0 < k {
+                push(rt, &mut text, number.as_str());
+            }
+            push(rt, &mut text, *part);
+        }
+    }
+    push(rt, &mut text, back);
+    text
 }
 
 /// The plan of the second shape.
@@ -55,23 +86,31 @@ pub fn ledger(rt: &impl Abort, alloc: Global, tokens: u32) -> Ledger {
     }
 }
 
-/// These parts in a row.
-pub fn joined(rt: &impl Abort, alloc: Global, parts: &[&str]) -> String {
-    match join(alloc, parts) {
-        Ok(text) => text,
+/// Ends the test where a text is another than is wanted.
+pub fn check_text(rt: &impl Abort, text: &str, want: &str) {
+    assert_eq!(rt; text, want);
+}
+
+/// Ends the test where a value is printed otherwise than is wanted.
+pub fn check_printed(rt: &impl Abort, alloc: Global, value: &Value, want: &str) {
+    let Ok(json) = fr_doc::json_of(alloc, value) else {
+        panic!(rt; "no memory");
+    };
+    match json.to_string(alloc) {
+        Ok(text) => check_text(rt, text.as_str(), want),
         Err(_) => panic!(rt; "no memory"),
     }
 }
 
-fn join(alloc: Global, parts: &[&str]) -> Result<String, AllocError> {
-    let mut text = String::new(alloc);
-    for part in parts {
-        text.push_str(*part)?;
-    }
-    Ok(text)
-}
-
-/// Ends the test where a text is another than is wanted.
-pub fn check_text(rt: &impl Abort, text: &str, want: &str) {
-    assert_eq!(rt; text, want);
+/// Ends the test where the value of a text fits the shape of this number otherwise than is wanted.
+pub fn check_fit(
+    rt: &impl Abort,
+    alloc: Global,
+    table: &ShapeTable,
+    (id, text, want): (u32, &str, bool),
+) {
+    assert!(rt;
+        fits(table, ShapeId(id), &value_of(rt, alloc, text)) == want,
+        "{text} at shape {id}"
+    );
 }

@@ -1,419 +1,293 @@
 //! Values that pass and values that fail, with what is said of them. What finds no memory ends the
 //! test.
-ghost use Rattle.std.specs.Prelude.{false};
-ghost use Rattle.fr_shape.specs.Hooks.{no_hooks};
-
+use crate::texts::value_of;
+use fr_doc::DocHooks;
 use fr_rules::*;
-use fr_shape::{
-    FieldRef, HookFault, HookId, Hooks, Ledger, NoHooks, OutOfMemory, ReflectErrorKind, ScalarKind,
-    ShapeId, ShapeTable, Text, Value, release,
-};
+use fr_shape::{FieldRef, HookId, ReflectErrorKind, ScalarKind, ShapeId, Text};
 use std::alloc::Global;
 use std::process::Abort;
-use std::test::Fail;
-
-/// Hooks whose checks all refuse. They convert and parse nothing.
-#[derive(Drop)]
-struct Refusing;
-
-impl Hooks for Refusing {
-    ghost means = { λ hooks. record no_hooks { check = λ hook v. false } };
-
-    ghost lawful = { λ hooks. record {
-      converted_fits = λ table hook target source. tt;
-      converted_tokens = λ table hook target source. tt;
-      parsed_fits = λ table hook target text. tt;
-      parsed_tokens = λ table hook target text. tt;
-      parsed_bytes_fits = λ table hook target bytes. tt;
-      parsed_bytes_tokens = λ table hook target bytes. tt;
-    } };
-
-    fn check(&self, _h: HookId, _value: &Value) -> bool {
-        false
-    }
-
-    fn convert(
-        &self,
-        _alloc: Global,
-        _table: &ShapeTable,
-        _h: HookId,
-        _target: ShapeId,
-        value: Value,
-        ledger: &mut Ledger,
-    ) -> Result<Value, HookFault> {
-        release(value, ledger);
-        Err(HookFault::Unsupported)
-    }
-
-    fn parse(
-        &self,
-        _alloc: Global,
-        _table: &ShapeTable,
-        _h: HookId,
-        _target: ShapeId,
-        _text: &str,
-    ) -> Result<Value, HookFault> {
-        Err(HookFault::Unsupported)
-    }
-
-    fn parse_bytes(
-        &self,
-        _alloc: Global,
-        _table: &ShapeTable,
-        _h: HookId,
-        _target: ShapeId,
-        _bytes: &[u8],
-    ) -> Result<Value, HookFault> {
-        Err(HookFault::Unsupported)
-    }
-}
 
 /// Runs the validator: the value passes where nothing is said.
-fn check_by<H: Hooks>(
-    rt: &impl Abort,
-    alloc: Global,
-    hooks: &H,
-    kind: ValidatorKind,
-    value: Value,
-    said: Option<&str>,
-) {
+fn check(rt: &impl Abort, alloc: Global, kind: ValidatorKind, value: &str, said: Option<&str>) {
     let validator = PrecomputedValidator { kind };
-    let field = FieldRef {
+    let place = FieldRef {
         shape: ShapeId(3),
         variant: Some(1),
         index: 2,
     };
-    match validator.run(alloc, hooks, &value, field) {
-        Ok(()) => assert!(rt; said.is_none()),
-        Err(
-            ReflectErrorKind::ValidationFailed {
-                field: named,
-                message,
-            },
-        ) => {
-            assert!(rt; named == field);
-            assert!(rt; Some(message.as_str()) == said);
+    match validator.run(alloc, &DocHooks, &value_of(rt, alloc, value), place) {
+        Ok(()) => assert!(rt; said.is_none(), "{value}"),
+        Err(ReflectErrorKind::ValidationFailed { field, message }) => {
+            assert!(rt; field == place && Some(message.as_str()) == said, "{value}");
         }
         Err(_) => panic!(rt; "no memory for the message"),
     }
 }
 
-/// The same of a validator that asks no hook.
-fn check(rt: &impl Abort, alloc: Global, kind: ValidatorKind, value: Value, said: Option<&str>) {
-    check_by(rt, alloc, &NoHooks, kind, value, said)
-}
-
-#[test]
-fn signed_numbers_keep_to_the_least(rt: HostRuntime) {
-    for (kind, low, z, said) in [
-        (ScalarKind::I8, -128, -128, None),
-        (
-            ScalarKind::I8,
-            -127,
-            -128,
-            Some("must be >= -127, got -128"),
-        ),
-        (ScalarKind::I16, -32768, -32768, None),
-        (
-            ScalarKind::I16,
-            -32767,
-            -32768,
-            Some("must be >= -32767, got -32768"),
-        ),
-        (ScalarKind::I32, -2147483648, -2147483648, None),
-        (
-            ScalarKind::I32,
-            -2147483647,
-            -2147483648,
-            Some("must be >= -2147483647, got -2147483648"),
-        ),
-        (
-            ScalarKind::I64,
-            -9223372036854775808,
-            -9223372036854775808,
-            None,
-        ),
-        (
-            ScalarKind::I64,
-            -9223372036854775807,
-            -9223372036854775808,
-            Some("must be >= -9223372036854775807, got -9223372036854775808"),
-        ),
-    ] {
-        check(
-            &rt,
-            rt.alloc(),
-            ValidatorKind::Min(low, kind),
-            Value::Int(z),
-            said,
-        );
-    }
-}
-
-#[test]
-fn signed_numbers_keep_to_the_most(rt: HostRuntime) {
-    for (kind, high, z, said) in [
-        (ScalarKind::I8, 127, 127, None),
-        (ScalarKind::I8, 126, 127, Some("must be <= 126, got 127")),
-        (ScalarKind::I16, 32767, 32767, None),
-        (
-            ScalarKind::I16,
-            32766,
-            32767,
-            Some("must be <= 32766, got 32767"),
-        ),
-        (ScalarKind::I32, 2147483647, 2147483647, None),
-        (
-            ScalarKind::I32,
-            2147483646,
-            2147483647,
-            Some("must be <= 2147483646, got 2147483647"),
-        ),
-        (
-            ScalarKind::I64,
-            9223372036854775807,
-            9223372036854775807,
-            None,
-        ),
-        (
-            ScalarKind::I64,
-            9223372036854775806,
-            9223372036854775807,
-            Some("must be <= 9223372036854775806, got 9223372036854775807"),
-        ),
-    ] {
-        check(
-            &rt,
-            rt.alloc(),
-            ValidatorKind::Max(high, kind),
-            Value::Int(z),
-            said,
-        );
-    }
-}
-
-/// A u64 above the greatest i64 passes every least bound.
-#[test]
-fn unsigned_numbers_keep_to_the_least(rt: HostRuntime) {
-    for (kind, low, n, said) in [
-        (ScalarKind::U8, 0, 0, None),
-        (ScalarKind::U8, 1, 0, Some("must be >= 1, got 0")),
-        (ScalarKind::U8, -1, 0, None),
-        (ScalarKind::U8, 256, 255, Some("must be >= 256, got 255")),
-        (ScalarKind::U16, 0, 0, None),
-        (ScalarKind::U16, 1, 0, Some("must be >= 1, got 0")),
-        (ScalarKind::U32, 0, 0, None),
-        (ScalarKind::U32, 1, 0, Some("must be >= 1, got 0")),
-        (ScalarKind::U64, 0, 0, None),
-        (ScalarKind::U64, 1, 0, Some("must be >= 1, got 0")),
-        (
-            ScalarKind::U64,
-            9223372036854775807,
-            9223372036854775808,
-            None,
-        ),
-        (
-            ScalarKind::U64,
-            9223372036854775807,
-            18446744073709551615,
-            None,
-        ),
-    ] {
-        check(
-            &rt,
-            rt.alloc(),
-            ValidatorKind::Min(low, kind),
-            Value::Nat(n),
-            said,
-        );
-    }
-}
-
-/// A u64 above the greatest i64 fails every greatest bound.
-#[test]
-fn unsigned_numbers_keep_to_the_most(rt: HostRuntime) {
-    for (kind, high, n, said) in [
-        (ScalarKind::U8, 255, 255, None),
-        (ScalarKind::U8, 254, 255, Some("must be <= 254, got 255")),
-        (ScalarKind::U8, -1, 0, Some("must be <= -1, got 0")),
-        (ScalarKind::U16, 65535, 65535, None),
-        (
-            ScalarKind::U16,
-            65534,
-            65535,
-            Some("must be <= 65534, got 65535"),
-        ),
-        (ScalarKind::U32, 4294967295, 4294967295, None),
-        (
-            ScalarKind::U32,
-            4294967294,
-            4294967295,
-            Some("must be <= 4294967294, got 4294967295"),
-        ),
-        (
-            ScalarKind::U64,
-            9223372036854775807,
-            9223372036854775807,
-            None,
-        ),
-        (
-            ScalarKind::U64,
-            9223372036854775807,
-            9223372036854775808,
-            Some("must be <= 9223372036854775807, got 9223372036854775808"),
-        ),
-        (
-            ScalarKind::U64,
-            9223372036854775807,
-            18446744073709551615,
-            Some("must be <= 9223372036854775807, got 18446744073709551615"),
-        ),
-    ] {
-        check(
-            &rt,
-            rt.alloc(),
-            ValidatorKind::Max(high, kind),
-            Value::Nat(n),
-            said,
-        );
-    }
-}
-
-/// Numbers of the machine's width and of 128 bits pass every bound.
-#[test]
-fn other_numbers_have_no_bounds(rt: HostRuntime) {
-    for kind in [ScalarKind::ISize, ScalarKind::I128] {
-        check(
-            &rt,
-            rt.alloc(),
-            ValidatorKind::Min(5, kind),
-            Value::Int(4),
-            None,
-        );
-        check(
-            &rt,
-            rt.alloc(),
-            ValidatorKind::Max(5, kind),
-            Value::Int(6),
-            None,
-        );
-    }
-    for kind in [ScalarKind::USize, ScalarKind::U128] {
-        check(
-            &rt,
-            rt.alloc(),
-            ValidatorKind::Min(5, kind),
-            Value::Nat(4),
-            None,
-        );
-        check(
-            &rt,
-            rt.alloc(),
-            ValidatorKind::Max(5, kind),
-            Value::Nat(6),
-            None,
-        );
-    }
-}
-
-#[test]
-fn texts_keep_to_lengths_and_schemes(rt: HostRuntime) -> Result<(), Fail> {
-    let rows = [
-        (
-            ValidatorKind::MinLength(6, ScalarKind::String),
-            "h\u{e9}llo",
-            None,
-        ),
-        (
-            ValidatorKind::MinLength(7, ScalarKind::String),
-            "h\u{e9}llo",
-            Some("length must be >= 7, got 6"),
-        ),
-        (
-            ValidatorKind::MaxLength(6, ScalarKind::CowStr),
-            "h\u{e9}llo",
-            None,
-        ),
-        (
-            ValidatorKind::MaxLength(5, ScalarKind::String),
-            "h\u{e9}llo",
-            Some("length must be <= 5, got 6"),
-        ),
-        (ValidatorKind::Url(ScalarKind::String), "http://", None),
-        (ValidatorKind::Url(ScalarKind::String), "https://a.b", None),
-        (
-            ValidatorKind::Url(ScalarKind::String),
-            "ftp://a.b",
-            Some("'ftp://a.b' is not a valid URL"),
-        ),
-    ];
-    for (kind, text, said) in rows {
-        let text = Text::new(rt.alloc(), text).ok().ok_or("no memory")?;
-        check(&rt, rt.alloc(), kind, Value::Text(text), said);
-    }
-    Ok(())
-}
-
-/// Both validators that look for a text.
-fn check_part(
-    rt: &impl Abort,
-    alloc: Global,
-    part: &str,
-    text: &str,
-    said: [Option<&str>; 2],
-) -> Result<(), OutOfMemory> {
-    let pattern = ValidatorKind::Regex(Text::new(alloc, part)?, ScalarKind::String);
-    check(
-        rt,
-        alloc,
-        pattern,
-        Value::Text(Text::new(alloc, text)?),
-        said[0],
-    );
-    let needle = ValidatorKind::Contains(Text::new(alloc, part)?, ScalarKind::CowStr);
-    check(
-        rt,
-        alloc,
-        needle,
-        Value::Text(Text::new(alloc, text)?),
-        said[1],
-    );
-    Ok(())
-}
-
-#[test]
-fn texts_have_their_parts(rt: HostRuntime) -> Result<(), Fail> {
-    let absent = [
-        Some("'aab' does not match pattern 'a.b'"),
-        Some("'aab' does not contain 'a.b'"),
-    ];
-    for (part, text, said) in [
-        ("ab", "aab", [None, None]),
-        ("", "", [None, None]),
-        ("a.b", "aab", absent),
-    ] {
-        check_part(&rt, rt.alloc(), part, text, said)
-            .ok()
-            .ok_or("no memory")?;
-    }
-    Ok(())
-}
-
-#[test]
-fn a_hook_decides_of_a_value(rt: HostRuntime) {
-    check(
-        &rt,
-        rt.alloc(),
-        ValidatorKind::Custom(HookId(3)),
-        Value::Bool(true),
+/// Bounds, each of them the least or else the most that a kind of number may be, with numbers at
+/// their edge and beyond, and what is said of those. A u64 above the greatest i64 passes every least
+/// bound and fails every greatest; numbers of the machine's width and of 128 bits pass all.
+const BOUNDS: [(bool, i64, ScalarKind, &str, Option<&str>); 46] = [
+    (true, -128, ScalarKind::I8, r#"{"i":-128}"#, None),
+    (
+        true,
+        -127,
+        ScalarKind::I8,
+        r#"{"i":-128}"#,
+        Some("must be >= -127, got -128"),
+    ),
+    (true, -32768, ScalarKind::I16, r#"{"i":-32768}"#, None),
+    (
+        true,
+        -32767,
+        ScalarKind::I16,
+        r#"{"i":-32768}"#,
+        Some("must be >= -32767, got -32768"),
+    ),
+    (
+        true,
+        -2147483648,
+        ScalarKind::I32,
+        r#"{"i":-2147483648}"#,
         None,
-    );
-    check_by(
-        &rt,
-        rt.alloc(),
-        &Refusing,
-        ValidatorKind::Custom(HookId(3)),
-        Value::Bool(true),
-        Some("custom validation failed"),
-    );
+    ),
+    (
+        true,
+        -2147483647,
+        ScalarKind::I32,
+        r#"{"i":-2147483648}"#,
+        Some("must be >= -2147483647, got -2147483648"),
+    ),
+    (
+        true,
+        -9223372036854775808,
+        ScalarKind::I64,
+        r#"{"i":-9223372036854775808}"#,
+        None,
+    ),
+    (
+        true,
+        -9223372036854775807,
+        ScalarKind::I64,
+        r#"{"i":-9223372036854775808}"#,
+        Some("must be >= -9223372036854775807, got -9223372036854775808"),
+    ),
+    (false, 127, ScalarKind::I8, r#"{"i":127}"#, None),
+    (
+        false,
+        126,
+        ScalarKind::I8,
+        r#"{"i":127}"#,
+        Some("must be <= 126, got 127"),
+    ),
+    (false, 32767, ScalarKind::I16, r#"{"i":32767}"#, None),
+    (
+        false,
+        32766,
+        ScalarKind::I16,
+        r#"{"i":32767}"#,
+        Some("must be <= 32766, got 32767"),
+    ),
+    (
+        false,
+        2147483647,
+        ScalarKind::I32,
+        r#"{"i":2147483647}"#,
+        None,
+    ),
+    (
+        false,
+        2147483646,
+        ScalarKind::I32,
+        r#"{"i":2147483647}"#,
+        Some("must be <= 2147483646, got 2147483647"),
+    ),
+    (
+        false,
+        9223372036854775807,
+        ScalarKind::I64,
+        r#"{"i":9223372036854775807}"#,
+        None,
+    ),
+    (
+        false,
+        9223372036854775806,
+        ScalarKind::I64,
+        r#"{"i":9223372036854775807}"#,
+        Some("must be <= 9223372036854775806, got 9223372036854775807"),
+    ),
+    (true, 0, ScalarKind::U8, "0", None),
+    (true, 1, ScalarKind::U8, "0", Some("must be >= 1, got 0")),
+    (true, -1, ScalarKind::U8, "0", None),
+    (
+        true,
+        256,
+        ScalarKind::U8,
+        "255",
+        Some("must be >= 256, got 255"),
+    ),
+    (true, 0, ScalarKind::U16, "0", None),
+    (true, 1, ScalarKind::U16, "0", Some("must be >= 1, got 0")),
+    (true, 0, ScalarKind::U32, "0", None),
+    (true, 1, ScalarKind::U32, "0", Some("must be >= 1, got 0")),
+    (true, 0, ScalarKind::U64, "0", None),
+    (true, 1, ScalarKind::U64, "0", Some("must be >= 1, got 0")),
+    (
+        true,
+        9223372036854775807,
+        ScalarKind::U64,
+        "9223372036854775808",
+        None,
+    ),
+    (
+        true,
+        9223372036854775807,
+        ScalarKind::U64,
+        "18446744073709551615",
+        None,
+    ),
+    (false, 255, ScalarKind::U8, "255", None),
+    (
+        false,
+        254,
+        ScalarKind::U8,
+        "255",
+        Some("must be <= 254, got 255"),
+    ),
+    (false, -1, ScalarKind::U8, "0", Some("must be <= -1, got 0")),
+    (false, 65535, ScalarKind::U16, "65535", None),
+    (
+        false,
+        65534,
+        ScalarKind::U16,
+        "65535",
+        Some("must be <= 65534, got 65535"),
+    ),
+    (false, 4294967295, ScalarKind::U32, "4294967295", None),
+    (
+        false,
+        4294967294,
+        ScalarKind::U32,
+        "4294967295",
+        Some("must be <= 4294967294, got 4294967295"),
+    ),
+    (
+        false,
+        9223372036854775807,
+        ScalarKind::U64,
+        "9223372036854775807",
+        None,
+    ),
+    (
+        false,
+        9223372036854775807,
+        ScalarKind::U64,
+        "9223372036854775808",
+        Some("must be <= 9223372036854775807, got 9223372036854775808"),
+    ),
+    (
+        false,
+        9223372036854775807,
+        ScalarKind::U64,
+        "18446744073709551615",
+        Some("must be <= 9223372036854775807, got 18446744073709551615"),
+    ),
+    (true, 5, ScalarKind::ISize, r#"{"i":4}"#, None),
+    (false, 5, ScalarKind::ISize, r#"{"i":6}"#, None),
+    (true, 5, ScalarKind::I128, r#"{"i":4}"#, None),
+    (false, 5, ScalarKind::I128, r#"{"i":6}"#, None),
+    (true, 5, ScalarKind::USize, "4", None),
+    (false, 5, ScalarKind::USize, "6", None),
+    (true, 5, ScalarKind::U128, "4", None),
+    (false, 5, ScalarKind::U128, "6", None),
+];
+
+#[test]
+fn numbers_keep_to_bounds(rt: HostRuntime) {
+    for (is_least, bound, kind, value, said) in BOUNDS {
+        let kind = if is_least {
+            ValidatorKind::Min(bound, kind)
+        } else {
+            ValidatorKind::Max(bound, kind)
+        };
+        check(&rt, rt.alloc(), kind, value, said);
+    }
+}
+
+/// What is asked of other values, parts of texts aside.
+#[derive(Clone, Copy)]
+enum Asked {
+    Least(u64),
+    Most(u64),
+    Url,
+    Regex,
+    Contains,
+    Hook(u32),
+}
+
+/// The validator that asks this, of this part where it looks for one.
+fn asking(rt: &impl Abort, alloc: Global, asked: Asked, part: &str) -> ValidatorKind {
+    let Ok(part) = Text::new(alloc, part) else {
+        panic!(rt; "no memory");
+    };
+    match asked {
+        Asked::Least(length) => ValidatorKind::MinLength(length, ScalarKind::String),
+        Asked::Most(length) => ValidatorKind::MaxLength(length, ScalarKind::CowStr),
+        Asked::Url => ValidatorKind::Url(ScalarKind::String),
+        Asked::Regex => ValidatorKind::Regex(part, ScalarKind::String),
+        Asked::Contains => ValidatorKind::Contains(part, ScalarKind::CowStr),
+        Asked::Hook(hook) => ValidatorKind::Custom(HookId(hook)),
+    }
+}
+
+/// Of the hooks of documents 2 refuses each value, and 4 is none.
+const OTHERS: [(Asked, &str, &str, Option<&str>); 15] = [
+    (Asked::Least(6), "", r#""héllo""#, None),
+    (
+        Asked::Least(7),
+        "",
+        r#""héllo""#,
+        Some("length must be >= 7, got 6"),
+    ),
+    (Asked::Most(6), "", r#""héllo""#, None),
+    (
+        Asked::Most(5),
+        "",
+        r#""héllo""#,
+        Some("length must be <= 5, got 6"),
+    ),
+    (Asked::Url, "", r#""http://""#, None),
+    (Asked::Url, "", r#""https://a.b""#, None),
+    (
+        Asked::Url,
+        "",
+        r#""ftp://a.b""#,
+        Some("'ftp://a.b' is not a valid URL"),
+    ),
+    (Asked::Regex, "ab", r#""aab""#, None),
+    (Asked::Contains, "ab", r#""aab""#, None),
+    (Asked::Regex, "", r#""""#, None),
+    (Asked::Contains, "", r#""""#, None),
+    (
+        Asked::Regex,
+        "a.b",
+        r#""aab""#,
+        Some("'aab' does not match pattern 'a.b'"),
+    ),
+    (
+        Asked::Contains,
+        "a.b",
+        r#""aab""#,
+        Some("'aab' does not contain 'a.b'"),
+    ),
+    (Asked::Hook(4), "", "true", None),
+    (Asked::Hook(2), "", "true", Some("custom validation failed")),
+];
+
+#[test]
+fn texts_and_other_values_pass_or_fail(rt: HostRuntime) {
+    for (asked, part, value, said) in OTHERS {
+        let kind = asking(&rt, rt.alloc(), asked, part);
+        check(&rt, rt.alloc(), kind, value, said);
+    }
 }

@@ -1,7 +1,6 @@
 //! Devices that are read and written: in partial values, in whole, and failing in mid-stream.
 use fr_doc::{
-    CleanSink, CleanSource, InputFault, MemSink, MemSource, ReaderSource, Source, WriterSink,
-    read_input, write_report,
+    InputFault, MemSink, MemSource, ReaderSource, Source, WriterSink, read_input, write_report,
 };
 use fr_shape::Items;
 use std::alloc::Global;
@@ -61,14 +60,6 @@ fn a_source_fails_in_mid_stream(rt: HostRuntime) {
 fn a_sink_that_fails_took_what_came_before(rt: HostRuntime) {
     assert!(rt; !written(&rt, rt.alloc(), 2, b"0123"));
     assert!(rt; written(&rt, rt.alloc(), 4, &DIGITS));
-}
-
-#[test]
-fn clean_devices_serve(rt: HostRuntime) {
-    let alloc = rt.alloc();
-    let mut source = CleanSource::new(digits(&rt, alloc));
-    check_read(&rt, alloc, &mut source);
-    assert!(rt; write_report(&mut CleanSink::new(), &DIGITS).is_ok());
 }
 
 #[test]

@@ -4,14 +4,14 @@
 ghost use Rattle.std.specs.Prelude.{◌<◌, length};
 ghost use Rattle.fr_frame.specs.Asking.{IsPlanned};
 
-use crate::texts::{planned, table_of};
+use crate::texts::{planned, repeated, table_of};
 use fr_plan::{
     FieldPlan, NodeId, TypePlanCore, TypePlanNode, TypePlanNodeKind, VariantPlanMeta,
     law_plan_lookups,
 };
 use fr_rules::FieldLookup;
 use fr_shape::ShapeId;
-use std::alloc::{AllocError, Global};
+use std::alloc::Global;
 use std::process::Abort;
 
 /// The plans of a struct's fields. Of any other shape there are none.
@@ -42,11 +42,6 @@ fn found(lookup: &FieldLookup, name: &str) -> Option<usize> {
         FieldLookup::Small(_) => lookup.find_small(name),
         FieldLookup::PrefixBuckets { .. } => None,
     }
-}
-
-/// Ends the test where a name has another number than is wanted.
-fn check_found(rt: &impl Abort, name: &str, found: Option<usize>, want: Option<usize>) {
-    assert!(rt; found == want, "{name}");
 }
 
 /// The number of a node's shape, if there is such a node.
@@ -84,7 +79,7 @@ fn fields_are_found_by_name(rt: HostRuntime) {
         ("email", Some(2)),
         ("unknown", None),
     ] {
-        check_found(&rt, name, found(&person.field_lookup, name), want);
+        assert!(rt; found(&person.field_lookup, name) == want, "{name}");
     }
 }
 
@@ -139,7 +134,7 @@ fn variants_are_found_by_name(rt: HostRuntime) {
         ("Struct", Some(2)),
         ("Unknown", None),
     ] {
-        check_found(&rt, name, choice.variant_lookup.find(name), want);
+        assert!(rt; choice.variant_lookup.find(name) == want, "{name}");
     }
 }
 
@@ -181,9 +176,9 @@ const DECLARED: &str = r#"[
     ]}}}
 ]"#;
 
-/// By the name that it is declared under, and not by that which it goes by.
+/// A field by the name that it is declared under, and not by that which it goes by.
 #[test]
-fn a_declared_field_is_found(rt: HostRuntime) {
+fn declared_fields_and_validators_are_found(rt: HostRuntime) {
     let table = table_of(&rt, rt.alloc(), DECLARED);
     let plan = planned(&rt, rt.alloc(), &table);
     for (shape, variant, name, want) in [
@@ -197,12 +192,6 @@ fn a_declared_field_is_found(rt: HostRuntime) {
         let at = plan.declared_field(&table, ShapeId(shape), variant, name);
         assert!(rt; at == want);
     }
-}
-
-#[test]
-fn a_struct_with_a_validator_has_validators(rt: HostRuntime) {
-    let table = table_of(&rt, rt.alloc(), DECLARED);
-    let plan = planned(&rt, rt.alloc(), &table);
     assert!(rt; plan.has_validators(ShapeId(1), None));
     assert!(rt; !plan.has_validators(ShapeId(2), Some(1)));
 }
@@ -242,20 +231,15 @@ fn count_back_references(rt: &impl Abort, plan: &TypePlanCore) -> u32 {
     count
 }
 
-/// The shapes of a struct that leads back to itself through such a link.
-fn linked(alloc: Global, link: &str) -> Result<String, AllocError> {
-    let mut shapes = String::from_str(alloc, r#"[{"name":"u32","def":"u32"},"#)?;
-    shapes.push_str(r#"{"name":"Own","def":{"struct":[{"name":"next","shape":2}]}},"#)?;
-    shapes.push_str(r#"{"name":"Link","def":"#)?;
-    shapes.push_str(link)?;
-    shapes.push_str("}]")?;
-    Ok(shapes)
-}
+/// A struct that leads back to itself through a link, which stands behind it.
+const OWN: (&str, &str) = (
+    r#"[{"name":"u32","def":"u32"},{"name":"Own","def":{"struct":[{"name":"next","shape":2}]}},
+        {"name":"Link","def":"#,
+    "}]",
+);
 
 fn check_link(rt: &impl Abort, alloc: Global, name: &str, link: &str) {
-    let Ok(shapes) = linked(alloc, link) else {
-        panic!(rt; "no memory");
-    };
+    let shapes = repeated(rt, alloc, OWN, &[link], 1);
     let table = table_of(rt, alloc, shapes.as_str());
     let plan = planned(rt, alloc, &table);
     assert!(rt; count_back_references(rt, &plan) == 1, "{name}");
@@ -283,7 +267,7 @@ const PROXIES: &str = r#"[
 ]"#;
 
 #[test]
-fn a_format_takes_its_own_proxy_or_that_of_all(rt: HostRuntime) {
+fn a_format_takes_its_own_proxy_that_of_all_or_none(rt: HostRuntime) {
     let table = table_of(&rt, rt.alloc(), PROXIES);
     let plan = planned(&rt, rt.alloc(), &table);
     let proxies = &plan.root().proxies;
@@ -296,12 +280,6 @@ fn a_format_takes_its_own_proxy_or_that_of_all(rt: HostRuntime) {
         assert!(rt; shape_at(&plan, proxies.node_for(format)) == Some(shape));
     }
     assert!(rt; proxies.has_any() && !proxies.is_empty());
-}
-
-#[test]
-fn a_format_without_a_proxy_has_no_node(rt: HostRuntime) {
-    let table = table_of(&rt, rt.alloc(), PROXIES);
-    let plan = planned(&rt, rt.alloc(), &table);
     let Some(field) = plan.struct_field_node(plan.root(), 0) else {
         panic!(rt; "no field");
     };

@@ -1,8 +1,6 @@
 //! For each definition values that fit it and values that don't.
-use crate::texts::{table_of, value_of};
-use fr_shape::{ShapeId, ShapeTable, Value, fits};
-use std::alloc::Global;
-use std::process::Abort;
+use crate::texts::{check_fit, table_of};
+use fr_shape::{ShapeId, Value, fits};
 
 /// The shapes 0 to 13: the scalars, what holds a text or a token, and three wrappers, of which one
 /// leads to u8, one ends and one comes round. The shapes 14 to 23: a struct of u8 and bool, an enum
@@ -37,142 +35,91 @@ const SHAPES: &str = r#"[
     {"name":"23","def":{"pointer":{"pointee":2}}}
 ]"#;
 
-fn table(rt: &impl Abort, alloc: Global) -> ShapeTable {
-    let table = table_of(rt, alloc, SHAPES);
-    assert!(rt; table.len() == 24);
-    table
-}
+/// Which values fit which shapes.
+const ROWS: [(u32, &str, bool); 71] = [
+    (0, "true", true),
+    (0, "1", false),
+    (1, r#"{"i":-129}"#, false),
+    (1, r#"{"i":-128}"#, true),
+    (1, r#"{"i":127}"#, true),
+    (1, r#"{"i":128}"#, false),
+    (1, "0", false),
+    (2, "0", true),
+    (2, "255", true),
+    (2, "256", false),
+    (2, r#"{"i":0}"#, false),
+    (3, r#""word""#, true),
+    (3, r#"{"c":"a"}"#, false),
+    (4, r#""word""#, true),
+    (4, "true", false),
+    (5, r#"{"t":1}"#, true),
+    (5, "0", false),
+    (6, r#"{"t":1}"#, true),
+    (6, r#"{"p":7}"#, false),
+    (7, "0", true),
+    (7, "255", true),
+    (7, "256", false),
+    (8, "0", false),
+    (8, r#"{"t":1}"#, false),
+    (9, "0", false),
+    (10, r#"{"c":"a"}"#, true),
+    (10, r#""a""#, false),
+    (11, r#""word""#, true),
+    (11, "null", false),
+    (12, r#"{"t":1}"#, true),
+    (12, "0", false),
+    (13, r#"{"d":{"o":[["a",null],["b",null]]}}"#, true),
+    (
+        13,
+        r#"{"d":{"o":[["a",null],["b",null],["a",null]]}}"#,
+        false,
+    ),
+    (13, "null", false),
+    (14, "[7,true]", true),
+    (14, "[7,7]", false),
+    (14, "[7]", false),
+    (15, r#"{"v":[0,[]]}"#, true),
+    (15, r#"{"v":[1,[7]]}"#, true),
+    (15, r#"{"v":[0,[7]]}"#, false),
+    (15, r#"{"v":[2,[]]}"#, false),
+    (16, "null", true),
+    (16, r#"{"s":7}"#, true),
+    (16, r#"{"s":256}"#, false),
+    (16, r#"{"ok":7}"#, false),
+    (17, r#"{"ok":7}"#, true),
+    (17, r#"{"ok":true}"#, false),
+    (17, r#"{"err":true}"#, true),
+    (17, r#"{"err":7}"#, false),
+    (17, "null", false),
+    (18, r#"{"l":[7,7]}"#, true),
+    (18, r#"{"l":[7,256]}"#, false),
+    (18, r#"{"e":[7]}"#, false),
+    (19, r#"{"l":[7,7]}"#, true),
+    (19, r#"{"l":[256]}"#, false),
+    (20, r#"{"e":[7,8]}"#, true),
+    (20, r#"{"e":[7,8,7]}"#, false),
+    (21, r#"{"m":[[7,true],[8,true]]}"#, true),
+    (21, r#"{"m":[[7,true],[7,true]]}"#, false),
+    (21, r#"{"m":[[256,true]]}"#, false),
+    (22, "[7,8]", true),
+    (22, "[7,8,9]", false),
+    (22, "[7,256]", false),
+    (23, r#"{"p":7}"#, true),
+    (23, r#"{"p":256}"#, false),
+    (23, r#"{"t":1}"#, false),
+    (24, "0", false),
+    (24, "true", false),
+    (24, r#""word""#, false),
+    (24, r#"{"t":1}"#, false),
+    (24, "null", false),
+];
 
-fn check(rt: &impl Abort, alloc: Global, table: &ShapeTable, id: u32, text: &str, want: bool) {
-    let value = value_of(rt, alloc, text);
-    assert!(rt;
-        fits(table, ShapeId(id), &value) == want,
-        "{text} at shape {id}"
-    );
-}
-
+/// The placeholder fits none.
 #[test]
-fn numbers_fit(rt: HostRuntime) {
-    let alloc = rt.alloc();
-    let table = table(&rt, alloc);
-    for (z, want) in [
-        (r#"{"i":-129}"#, false),
-        (r#"{"i":-128}"#, true),
-        (r#"{"i":127}"#, true),
-        (r#"{"i":128}"#, false),
-    ] {
-        check(&rt, alloc, &table, 1, z, want);
+fn values_fit_their_shapes(rt: HostRuntime) {
+    let table = table_of(&rt, rt.alloc(), SHAPES);
+    assert!(rt; table.len() == 24 && !fits(&table, ShapeId(0), &Value::Unit));
+    for row in ROWS {
+        check_fit(&rt, rt.alloc(), &table, row);
     }
-    for (n, want) in [("0", true), ("255", true), ("256", false)] {
-        check(&rt, alloc, &table, 1, n, false);
-        check(&rt, alloc, &table, 2, n, want);
-        check(&rt, alloc, &table, 7, n, want);
-        check(&rt, alloc, &table, 8, n, false);
-        check(&rt, alloc, &table, 9, n, false);
-        check(&rt, alloc, &table, 24, n, false);
-    }
-}
-
-/// Of the plain values each fits the shapes of its own kind, and no other; the placeholder fits
-/// none.
-#[test]
-fn plain_values_fit(rt: HostRuntime) {
-    let alloc = rt.alloc();
-    let table = table(&rt, alloc);
-    for id in 0..24 {
-        assert!(rt; !fits(&table, ShapeId(id), &Value::Unit));
-        check(&rt, alloc, &table, id, "true", id == 0);
-        check(&rt, alloc, &table, id, r#"{"c":"a"}"#, id == 10);
-        check(
-            &rt,
-            alloc,
-            &table,
-            id,
-            r#""word""#,
-            matches!(id, 3 | 4 | 11),
-        );
-        check(
-            &rt,
-            alloc,
-            &table,
-            id,
-            r#"{"t":1}"#,
-            matches!(id, 5 | 6 | 12),
-        );
-        check(&rt, alloc, &table, id, "null", id == 16);
-    }
-}
-
-fn check_each(rt: &impl Abort, alloc: Global, rows: &[(u32, &str, bool)]) {
-    let table = table(rt, alloc);
-    for (id, text, want) in rows {
-        check(rt, alloc, &table, *id, *text, *want);
-    }
-}
-
-#[test]
-fn composed_values_fit(rt: HostRuntime) {
-    check_each(
-        &rt,
-        rt.alloc(),
-        &[
-            (13, r#"{"d":{"o":[["a",null],["b",null]]}}"#, true),
-            (
-                13,
-                r#"{"d":{"o":[["a",null],["b",null],["a",null]]}}"#,
-                false,
-            ),
-            (14, "[7,true]", true),
-            (14, "[7,7]", false),
-            (14, "[7]", false),
-            (15, r#"{"v":[0,[]]}"#, true),
-            (15, r#"{"v":[1,[7]]}"#, true),
-            (15, r#"{"v":[0,[7]]}"#, false),
-            (15, r#"{"v":[2,[]]}"#, false),
-            (22, "[7,8]", true),
-            (22, "[7,8,9]", false),
-            (22, "[7,256]", false),
-        ],
-    );
-}
-
-#[test]
-fn collections_fit(rt: HostRuntime) {
-    check_each(
-        &rt,
-        rt.alloc(),
-        &[
-            (18, r#"{"l":[7,7]}"#, true),
-            (18, r#"{"l":[7,256]}"#, false),
-            (18, r#"{"e":[7]}"#, false),
-            (19, r#"{"l":[7,7]}"#, true),
-            (19, r#"{"l":[256]}"#, false),
-            (20, r#"{"e":[7,8]}"#, true),
-            (20, r#"{"e":[7,8,7]}"#, false),
-            (21, r#"{"m":[[7,true],[8,true]]}"#, true),
-            (21, r#"{"m":[[7,true],[7,true]]}"#, false),
-            (21, r#"{"m":[[256,true]]}"#, false),
-        ],
-    );
-}
-
-#[test]
-fn boxed_values_fit(rt: HostRuntime) {
-    check_each(
-        &rt,
-        rt.alloc(),
-        &[
-            (16, r#"{"s":7}"#, true),
-            (16, r#"{"s":256}"#, false),
-            (16, r#"{"ok":7}"#, false),
-            (17, r#"{"ok":7}"#, true),
-            (17, r#"{"ok":true}"#, false),
-            (17, r#"{"err":true}"#, true),
-            (17, r#"{"err":7}"#, false),
-            (23, r#"{"p":7}"#, true),
-            (23, r#"{"p":256}"#, false),
-            (23, r#"{"t":1}"#, false),
-            (6, r#"{"p":7}"#, false),
-        ],
-    );
 }

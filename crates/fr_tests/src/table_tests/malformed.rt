@@ -62,7 +62,7 @@ const BROKEN: [(&str, &str, u32, u32); 9] = [
 ];
 
 /// The number of the rule that a table breaks, and of the shape; of a table in order both are 0.
-pub(super) fn fault(rt: &impl Abort, alloc: Global, shapes: &str) -> (u32, u32) {
+fn fault(rt: &impl Abort, alloc: Global, shapes: &str) -> (u32, u32) {
     let table = table_of(rt, alloc, shapes);
     assert!(rt; table.len() < 1000);
     match table.check() {
@@ -71,13 +71,9 @@ pub(super) fn fault(rt: &impl Abort, alloc: Global, shapes: &str) -> (u32, u32) 
     }
 }
 
-fn check_fault(rt: &impl Abort, alloc: Global, name: &str, shapes: &str, want: (u32, u32)) {
-    assert!(rt; fault(rt, alloc, shapes) == want, "{name}");
-}
-
 #[test]
 fn finds_the_broken_rule(rt: HostRuntime) {
     for (name, shapes, rule, entry) in BROKEN {
-        check_fault(&rt, rt.alloc(), name, shapes, (rule, entry));
+        assert!(rt; fault(&rt, rt.alloc(), shapes) == (rule, entry), "{name}");
     }
 }
