@@ -176,10 +176,10 @@ const TASKS_BUILT: &str = r#"
 
 /// Begins 999 places, each in the one before, puts a token into the last, and leaves them all, with
 /// these commands around.
-fn check_steps_down(
+fn check_steps_down<'a>(
     rt: &(impl Abort + AllocGlobal),
     name: &str,
-    (before, after): (&str, &str),
+    (before, after): (&'a str, &'a str),
     want: &[(&str, usize)],
 ) {
     let document = [

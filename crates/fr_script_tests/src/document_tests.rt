@@ -37,8 +37,10 @@ fn a_document_is_answered(rt: HostRuntime) {
         panic!(rt; "no memory");
     };
     assert!(rt; answer.status() == 0);
-    let Answer::Built(built, released) = answer else {
-        panic!(rt; "not built");
+    let (built, released) = match answer {
+        Answer::Built(built, released) => (built, released),
+        Answer::Refused(_error, _released) => panic!(rt; "refused"),
+        Answer::Fault(_fault) => panic!(rt; "a fault"),
     };
     assert!(rt; built.calls() == 3);
     assert!(rt; released.len() == 0);

@@ -33,17 +33,16 @@ fn thousand_shapes(rt: &impl Abort, alloc: Global) -> String {
     shapes
 }
 
-/// Puts a number into the innermost of a thousand structs.
-fn check_levels(
+/// Puts a number into the innermost of these shapes, by this command.
+fn check_levels<'a>(
     rt: &(impl Abort + AllocGlobal),
     name: &str,
-    set: &str,
+    (shapes, set): (&'a str, &'a str),
     status: u8,
     want: &[(&str, usize)],
 ) {
-    let shapes = thousand_shapes(rt, rt.alloc());
     let document = [
-        (shapes.as_str(), 1),
+        (shapes, 1),
         (r#"],"root":1000,"commands":["#, 1),
         (r#"["begin_nth_field",0],"#, 1_000),
         (set, 1),
@@ -55,6 +54,9 @@ fn check_levels(
 
 #[test]
 fn invariants_are_asked_far_down_and_far_along(rt: HostRuntime) {
+    let shapes = thousand_shapes(&rt, rt.alloc());
+    let above = (shapes.as_str(), r#"["set",0,{"i":7}]"#);
+    let below = (shapes.as_str(), r#"["set",0,{"i":-7}]"#);
     let kept = [
         (r#"{"ok":"#, 1),
         ("[", 1_000),
@@ -62,15 +64,9 @@ fn invariants_are_asked_far_down_and_far_along(rt: HostRuntime) {
         ("]", 1_000),
         (r#","released":[]}"#, 1),
     ];
-    check_levels(
-        &rt,
-        "a number that is kept",
-        r#"["set",0,{"i":7}]"#,
-        0,
-        &kept,
-    );
+    check_levels(&rt, "a number that is kept", above, 0, &kept);
     let broken = [(r#"{"error":{"command":2001"#, 1), (BROKEN, 1)];
-    check_levels(&rt, "one below 0", r#"["set",0,{"i":-7}]"#, 1, &broken);
+    check_levels(&rt, "one below 0", below, 1, &broken);
     let items = [(MANY, 1), ("[1],", 60_000), ("[0]]}]]}", 1)];
     let broken = [(r#"{"error":{"command":1"#, 1), (BROKEN, 1)];
     check_parts(&rt, "the last of many items", &items, 1, &broken);

@@ -308,10 +308,10 @@ const NEST: &str = r#"{"shapes":[{"name":"Nest","def":{"list":0}}],"root":0,"com
 
 /// Begins a list and an item of it so many times, each in the one before, and leaves them all, with
 /// these commands around.
-fn check_lists_down(
+fn check_lists_down<'a>(
     rt: &(impl Abort + AllocGlobal),
     name: &str,
-    (before, depth, after): (&str, usize, &str),
+    (before, depth, after): (&'a str, usize, &'a str),
     status: u8,
     want: &[(&str, usize)],
 ) {
