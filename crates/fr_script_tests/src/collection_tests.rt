@@ -270,6 +270,28 @@ const LEFT: &str = r#"
     = 0 {"ok":{"m":[["a",1]]},"released":[]}
 "#;
 
+/// The shapes String, Res (opaque), RuleValue (a text), Key (a name and a Res), Rules (a map of
+/// these) and Container, before the root.
+const RULES: &str = r#"{"shapes":[
+    {"name":"String","def":"String"},
+    {"name":"Res","def":"opaque"},
+    {"name":"RuleValue","def":{"struct":[{"name":"required","shape":0}]}},
+    {"name":"Key","def":{"struct":[{"name":"name","shape":0},{"name":"r","shape":1}]}},
+    {"name":"Rules","def":{"map":[3,2]}},
+    {"name":"Container","def":{"struct":[{"name":"rules","shape":4}]}}
+],"#;
+
+/// The key holds a token, and its value lacks a field.
+const RULES_LEFT: &str = r#"
+    # a key is released whose value is refused
+    "root":5,"tokens":1,"commands":[
+        ["begin_deferred"],["begin_field","rules"],["init_map"],
+        ["begin_key"],["set",3,["ZeroOperand",{"t":0}]],["end"],
+        ["begin_value"],["end"],["end"],["finish_deferred"]
+    ]}
+    = 1 {"error":{"command":9,"detail":"required","kind":"UninitializedField","path":""},"released":[0]}
+"#;
+
 const ORIGINAL_MAPS: &str = r#"
     # wip_map_trivial
     "root":6,"commands":[
@@ -357,29 +379,6 @@ const ORIGINAL_SETS: &str = r#"
     ]}
     = 1 {"error":{"command":8,"detail":"build() called but more than one frame is on the stack",
         "kind":"InvariantViolation","path":"[item]"},"released":[0,1]}
-"#;
-
-/// The shapes String, Res (opaque), RuleValue (a text), Key (a name and a Res), Rules (a map of
-/// these) and Container,
-/// before the root.
-const RULES: &str = r#"{"shapes":[
-    {"name":"String","def":"String"},
-    {"name":"Res","def":"opaque"},
-    {"name":"RuleValue","def":{"struct":[{"name":"required","shape":0}]}},
-    {"name":"Key","def":{"struct":[{"name":"name","shape":0},{"name":"r","shape":1}]}},
-    {"name":"Rules","def":{"map":[3,2]}},
-    {"name":"Container","def":{"struct":[{"name":"rules","shape":4}]}}
-],"#;
-
-/// The key holds a token, and its value lacks a field.
-const RULES_LEFT: &str = r#"
-    # a key is released whose value is refused
-    "root":5,"tokens":1,"commands":[
-        ["begin_deferred"],["begin_field","rules"],["init_map"],
-        ["begin_key"],["set",3,["ZeroOperand",{"t":0}]],["end"],
-        ["begin_value"],["end"],["end"],["finish_deferred"]
-    ]}
-    = 1 {"error":{"command":9,"detail":"required","kind":"UninitializedField","path":""},"released":[0]}
 "#;
 
 #[test]

@@ -23,15 +23,15 @@ const FROM_SHAPE: &str = "begin_custom_deserialization_from_shape";
 
 /// What is made of two tokens at a shape by a call, after how many calls in strict mode, and how
 /// often each of the two was released.
-const CONVERTED: [(u32, &str, u32, &str, [u32; 2]); 8] = [
-    (3, FROM_SHAPE, 3, r#"{"t":1}"#, [1, 0]),
-    (4, FROM_SHAPE, 2, "CustomDeserializationError", [1, 1]),
-    (5, FROM_SHAPE, 2, "OutOfMemory", [1, 1]),
-    (6, FROM_SHAPE, 2, "CustomDeserializationError", [1, 1]),
-    (7, "begin_inner", 3, r#"{"t":1}"#, [1, 0]),
-    (8, "begin_inner", 2, "Generic", [1, 1]),
-    (9, "begin_inner", 2, "OutOfMemory", [1, 1]),
-    (10, "begin_inner", 2, "UnsupportedSourceType", [1, 1]),
+const CONVERTED: [(u32, &str, u32, &str, (u32, u32)); 8] = [
+    (3, FROM_SHAPE, 3, r#"{"t":1}"#, (1, 0)),
+    (4, FROM_SHAPE, 2, "CustomDeserializationError", (1, 1)),
+    (5, FROM_SHAPE, 2, "OutOfMemory", (1, 1)),
+    (6, FROM_SHAPE, 2, "CustomDeserializationError", (1, 1)),
+    (7, "begin_inner", 3, r#"{"t":1}"#, (1, 0)),
+    (8, "begin_inner", 2, "Generic", (1, 1)),
+    (9, "begin_inner", 2, "OutOfMemory", (1, 1)),
+    (10, "begin_inner", 2, "UnsupportedSourceType", (1, 1)),
 ];
 
 /// A script over a root of this shape that enters its source by a call, puts two tokens there and
@@ -53,12 +53,19 @@ fn script(
 /// In strict mode as the source ends, in deferred mode as that mode does.
 #[test]
 fn scripts_convert_by_hooks(rt: HostRuntime) {
-    for (root, call, calls, want, counts) in CONVERTED {
+    for (root, call, calls, want, (first, second)) in CONVERTED {
         let strict = script(&rt, rt.alloc(), (root, call), ("", ""));
-        check_counted(&rt, SHAPES, strict.as_str(), calls, want, &counts);
+        check_counted(&rt, SHAPES, strict.as_str(), calls, want, &[first, second]);
         let modes = (r#"["begin_deferred"],"#, r#",["finish_deferred"]"#);
         let deferred = script(&rt, rt.alloc(), (root, call), modes);
         let calls = calls.saturating_add(2);
-        check_counted(&rt, SHAPES, deferred.as_str(), calls, want, &counts);
+        check_counted(
+            &rt,
+            SHAPES,
+            deferred.as_str(),
+            calls,
+            want,
+            &[first, second],
+        );
     }
 }
