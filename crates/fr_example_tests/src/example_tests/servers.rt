@@ -48,5 +48,6 @@ fn a_server_is_built_by_its_type_and_has_its_fields_in_order(rt: HostRuntime) {
     };
     check_kind(&rt, &own, &error.kind, "host is missing");
     assert!(rt; Server::find(&own) == Some(ShapeId(3)));
-    assert!(rt; Server::find(&table_of(&rt, TURNED_ROUND)).is_none());
+    let other = table_of(&rt, TURNED_ROUND);
+    assert!(rt; Server::find(&other).is_none());
 }
