@@ -1,9 +1,7 @@
 //! Maps and sets in documents: they are begun, take entries and items, leave out what is there
 //! twice, and are left half done and gone on with. The last two tables are the original's own tests
 //! of them, under the names that they have there.
-use crate::cases::check_each;
-use crate::run_tests::check;
-use std::test::Fail;
+use crate::documents::check_tables;
 
 /// The shapes u32, String, Res (opaque), Item (a number and a Res) with a set of them and a map
 /// from them to Res, Names (a map from String to u32), Nums (a set of u32), Inner (two numbers),
@@ -272,6 +270,28 @@ const LEFT: &str = r#"
     = 0 {"ok":{"m":[["a",1]]},"released":[]}
 "#;
 
+/// The shapes String, Res (opaque), RuleValue (a text), Key (a name and a Res), Rules (a map of
+/// these) and Container, before the root.
+const RULES: &str = r#"{"shapes":[
+    {"name":"String","def":"String"},
+    {"name":"Res","def":"opaque"},
+    {"name":"RuleValue","def":{"struct":[{"name":"required","shape":0}]}},
+    {"name":"Key","def":{"struct":[{"name":"name","shape":0},{"name":"r","shape":1}]}},
+    {"name":"Rules","def":{"map":[3,2]}},
+    {"name":"Container","def":{"struct":[{"name":"rules","shape":4}]}}
+],"#;
+
+/// The key holds a token, and its value lacks a field.
+const RULES_LEFT: &str = r#"
+    # a key is released whose value is refused
+    "root":5,"tokens":1,"commands":[
+        ["begin_deferred"],["begin_field","rules"],["init_map"],
+        ["begin_key"],["set",3,["ZeroOperand",{"t":0}]],["end"],
+        ["begin_value"],["end"],["end"],["finish_deferred"]
+    ]}
+    = 1 {"error":{"command":9,"detail":"required","kind":"UninitializedField","path":""},"released":[0]}
+"#;
+
 const ORIGINAL_MAPS: &str = r#"
     # wip_map_trivial
     "root":6,"commands":[
@@ -362,53 +382,14 @@ const ORIGINAL_SETS: &str = r#"
 "#;
 
 #[test]
-fn maps_are_built_entry_by_entry(rt: HostRuntime) -> Result<(), Fail> {
-    check_each(&rt, SHAPES, 18, MAPS)
-}
-
-#[test]
-fn sets_are_built_item_by_item(rt: HostRuntime) -> Result<(), Fail> {
-    check_each(&rt, SHAPES, 17, SETS)
-}
-
-#[test]
-fn maps_and_sets_are_left_half_done(rt: HostRuntime) -> Result<(), Fail> {
-    check_each(&rt, SHAPES, 7, LEFT)
-}
-
-/// The shapes String, Res (opaque), RuleValue (a text), Key (a name and a Res), Rules (a map of
-/// these) and Container, which is the root.
-const RULES: &str = r#"{"shapes":[
-    {"name":"String","def":"String"},
-    {"name":"Res","def":"opaque"},
-    {"name":"RuleValue","def":{"struct":[{"name":"required","shape":0}]}},
-    {"name":"Key","def":{"struct":[{"name":"name","shape":0},{"name":"r","shape":1}]}},
-    {"name":"Rules","def":{"map":[3,2]}},
-    {"name":"Container","def":{"struct":[{"name":"rules","shape":4}]}}
-],"root":5,"tokens":1,"commands":[
-    ["begin_deferred"],["begin_field","rules"],["init_map"],
-    ["begin_key"],["set",3,["ZeroOperand",{"t":0}]],["end"],
-    ["begin_value"],["end"],["end"],["finish_deferred"]
-]}"#;
-
-/// The key holds a token, and its value lacks a field.
-#[test]
-fn a_key_is_released_whose_value_is_refused(rt: HostRuntime) -> Result<(), Fail> {
-    check(
-        &rt,
-        "rules",
-        RULES.as_bytes(),
-        1,
-        r#"{"error":{"command":9,"detail":"required","kind":"UninitializedField","path":""},"released":[0]}"#,
-    )
-}
-
-#[test]
-fn original_tests_of_maps(rt: HostRuntime) -> Result<(), Fail> {
-    check_each(&rt, SHAPES, 7, ORIGINAL_MAPS)
-}
-
-#[test]
-fn original_tests_of_sets(rt: HostRuntime) -> Result<(), Fail> {
-    check_each(&rt, SHAPES, 7, ORIGINAL_SETS)
+fn maps_and_sets_are_built_and_left(rt: HostRuntime) {
+    let tables = [
+        (SHAPES, 18, MAPS),
+        (SHAPES, 17, SETS),
+        (SHAPES, 7, LEFT),
+        (RULES, 1, RULES_LEFT),
+        (SHAPES, 7, ORIGINAL_MAPS),
+        (SHAPES, 7, ORIGINAL_SETS),
+    ];
+    check_tables(&rt, &tables);
 }

@@ -1,8 +1,6 @@
 //! Options, results and pointers in documents: what they hold is entered, left and entered again.
-use crate::cases::check_each;
-use crate::run_tests::check;
-use std::alloc::Global;
-use std::test::Fail;
+use crate::documents::{check_parts, check_tables};
+use std::process::Abort;
 
 /// The shapes u32, String, Inner (x and b), ArcInner, str, BoxStr, R (a result), Res2 (two of
 /// them), OptInner, Res (opaque), OptRes, Sides (a result of two Res), Fixed (a pointer that isn't
@@ -123,21 +121,6 @@ const REFUSED: &str = r#"
     = 1 {"error":{"command":1,"detail":"expected Option, got Inner","kind":"WasNotA","path":"::some"},"released":[]}
 "#;
 
-#[test]
-fn contents_are_built_in_strict_mode(rt: HostRuntime) -> Result<(), Fail> {
-    check_each(&rt, HOLDERS, 7, BUILT)
-}
-
-#[test]
-fn contents_that_were_left_are_entered_again(rt: HostRuntime) -> Result<(), Fail> {
-    check_each(&rt, HOLDERS, 6, LEFT)
-}
-
-#[test]
-fn contents_are_refused_at_other_places(rt: HostRuntime) -> Result<(), Fail> {
-    check_each(&rt, HOLDERS, 6, REFUSED)
-}
-
 /// The shapes Res, Link (an option of a Box, none by default), Box (a pointer to a Step) and Step
 /// (a result of a Link or a Res), with a Link as the root, up to the commands.
 const LINKS: &str = r#"{"shapes":[
@@ -149,58 +132,6 @@ const LINKS: &str = r#"{"shapes":[
 
 /// How often a link in a box in a step is begun.
 const STEPS: usize = 332;
-
-/// `front`, then `part` so many times, then `back`.
-pub(crate) fn repeated(
-    alloc: Global,
-    front: &str,
-    part: &str,
-    count: usize,
-    back: &str,
-) -> Result<String, Fail> {
-    let mut text = String::from_str(alloc, front)?;
-    for _ in 0..count {
-        text.push_str(part)?;
-    }
-    text.push_str(back)?;
-    Ok(text)
-}
-
-/// Begins 999 places, each in the one before, puts a token into the last, and leaves them all.
-fn steps_down(alloc: Global, front: &str, back: &str) -> Result<String, Fail> {
-    let mut start = String::from_str(alloc, LINKS)?;
-    start.push_str(front)?;
-    let begun = r#"["begin_some"],["begin_smart_ptr"],["begin_ok"],"#;
-    let last = r#"["begin_some"],["begin_smart_ptr"],["begin_err"],["set",0,{"t":0}]"#;
-    let down = repeated(alloc, start.as_str(), begun, STEPS, last)?;
-    repeated(alloc, down.as_str(), r#",["end"]"#, 999, back)
-}
-
-#[test]
-fn contents_nest_as_deep_as_a_script_may_begin(rt: HostRuntime) -> Result<(), Fail> {
-    let alloc = rt.alloc();
-    let value = repeated(
-        alloc,
-        r#"{"ok":"#,
-        r#"{"s":{"p":{"ok":"#,
-        STEPS,
-        r#"{"s":{"p":{"err":{"t":0}}}}"#,
-    )?;
-    let want = repeated(alloc, value.as_str(), "}}}", STEPS, r#","released":[]}"#)?;
-    let strict = steps_down(alloc, "", "]}")?;
-    check(&rt, "strict", strict.as_bytes(), 0, want.as_str())?;
-    let deferred = steps_down(alloc, r#"["begin_deferred"],"#, r#",["finish_deferred"]]}"#)?;
-    check(&rt, "deferred", deferred.as_bytes(), 0, want.as_str())?;
-    let dropped = r#"{"ok":null,"released":[0]}"#;
-    let replaced = steps_down(alloc, "", r#",["set_default"]]}"#)?;
-    check(&rt, "replaced", replaced.as_bytes(), 0, dropped)?;
-    let forgotten = steps_down(
-        alloc,
-        r#"["begin_deferred"],"#,
-        r#",["set_default"],["finish_deferred"]]}"#,
-    )?;
-    check(&rt, "forgotten", forgotten.as_bytes(), 0, dropped)
-}
 
 /// Tasks in a list, as examples/tasks.json has them: half of a task is left behind pointers and
 /// options, gone on with, and the state of the first is switched.
@@ -218,32 +149,81 @@ const TASKS: &str = r#"{"shapes":[
     ]}},
     {"name":"NextTask","def":{"option":5},"preset":null},
     {"name":"BoxedTask","def":{"pointer":{"known":"Box","pointee":3}}}
-],"root":3,"commands":[
-    ["begin_deferred"],["begin_field","title"],["set",0,"buy paint"],["end"],
-    ["begin_field","state"],["select_variant_named","Open"],["end"],["begin_field","next"],
-    ["begin_some"],["begin_smart_ptr"],["begin_field","title"],["set",0,"paint the fence"],["end"],
-    ["begin_field","state"],["select_variant_named","Done"],["begin_field","by"],["set",0,"Ana"],
-    ["end"],["end"],["end"],["end"],["end"],["begin_field","state"],["select_variant_named","Done"],
-    ["begin_field","by"],["set",0,"Rui"],["end"],
-    ["begin_field","hours"],["set",1,1],["end"],["end"],["begin_field","next"],["begin_some"],
-    ["begin_smart_ptr"],["begin_field","state"],["begin_field","hours"],["set",1,3],["end"],["end"],
-    ["begin_field","next"],["begin_some"],["begin_smart_ptr"],["begin_field","title"],
-    ["set",0,"rest"],["end"],["begin_field","state"],["select_nth_variant",0],["end"],["end"],
-    ["end"],["end"],["end"],["end"],["end"],["finish_deferred"]
-]}"#;
+],"#;
+
+const TASKS_BUILT: &str = r#"
+    # a list of tasks is built through pointers
+    "root":3,"commands":[
+        ["begin_deferred"],["begin_field","title"],["set",0,"buy paint"],["end"],
+        ["begin_field","state"],["select_variant_named","Open"],["end"],["begin_field","next"],
+        ["begin_some"],["begin_smart_ptr"],["begin_field","title"],["set",0,"paint the fence"],["end"],
+        ["begin_field","state"],["select_variant_named","Done"],["begin_field","by"],["set",0,"Ana"],
+        ["end"],["end"],["end"],["end"],["end"],["begin_field","state"],["select_variant_named","Done"],
+        ["begin_field","by"],["set",0,"Rui"],["end"],
+        ["begin_field","hours"],["set",1,1],["end"],["end"],["begin_field","next"],["begin_some"],
+        ["begin_smart_ptr"],["begin_field","state"],["begin_field","hours"],["set",1,3],["end"],["end"],
+        ["begin_field","next"],["begin_some"],["begin_smart_ptr"],["begin_field","title"],
+        ["set",0,"rest"],["end"],["begin_field","state"],["select_nth_variant",0],["end"],["end"],
+        ["end"],["end"],["end"],["end"],["end"],["finish_deferred"]
+    ]}
+    = 0 {"ok":[
+        "buy paint",{"v":[1,["Rui",1]]},
+        {"s":{"p":[
+            "paint the fence",{"v":[1,["Ana",3]]},{"s":{"p":["rest",{"v":[0,[]]},null]}}
+        ]}}
+    ],"released":[]}
+"#;
+
+/// Begins 999 places, each in the one before, puts a token into the last, and leaves them all, with
+/// these commands around.
+fn check_steps_down<'a>(
+    rt: &(impl Abort + AllocGlobal),
+    name: &str,
+    (before, after): (&'a str, &'a str),
+    want: &[(&str, usize)],
+) {
+    let document = [
+        (LINKS, 1),
+        (before, 1),
+        (r#"["begin_some"],["begin_smart_ptr"],["begin_ok"],"#, STEPS),
+        (
+            r#"["begin_some"],["begin_smart_ptr"],["begin_err"],["set",0,{"t":0}]"#,
+            1,
+        ),
+        (r#",["end"]"#, 999),
+        (after, 1),
+    ];
+    check_parts(rt, name, &document, 0, want);
+}
 
 #[test]
-fn a_list_of_tasks_is_built_through_pointers(rt: HostRuntime) -> Result<(), Fail> {
-    check(
-        &rt,
-        "tasks",
-        TASKS.as_bytes(),
-        0,
-        r#"{"ok":[
-            "buy paint",{"v":[1,["Rui",1]]},
-            {"s":{"p":[
-                "paint the fence",{"v":[1,["Ana",3]]},{"s":{"p":["rest",{"v":[0,[]]},null]}}
-            ]}}
-        ],"released":[]}"#,
-    )
+fn contents_nest_as_deep_as_a_script_may_begin(rt: HostRuntime) {
+    let built = [
+        (r#"{"ok":"#, 1),
+        (r#"{"s":{"p":{"ok":"#, STEPS),
+        (r#"{"s":{"p":{"err":{"t":0}}}}"#, 1),
+        ("}}}", STEPS),
+        (r#","released":[]}"#, 1),
+    ];
+    let modes = (r#"["begin_deferred"],"#, r#",["finish_deferred"]]}"#);
+    check_steps_down(&rt, "strict", ("", "]}"), &built);
+    check_steps_down(&rt, "deferred", modes, &built);
+    let dropped = [(r#"{"ok":null,"released":[0]}"#, 1)];
+    let modes = (
+        r#"["begin_deferred"],"#,
+        r#",["set_default"],["finish_deferred"]]}"#,
+    );
+    check_steps_down(&rt, "replaced", ("", r#",["set_default"]]}"#), &dropped);
+    check_steps_down(&rt, "forgotten", modes, &dropped);
+}
+
+#[test]
+fn options_results_and_pointers_are_built_and_left(rt: HostRuntime) {
+    let tables = [
+        (HOLDERS, 7, BUILT),
+        (HOLDERS, 6, LEFT),
+        (HOLDERS, 6, REFUSED),
+        (TASKS, 1, TASKS_BUILT),
+    ];
+    check_tables(&rt, &tables);
 }

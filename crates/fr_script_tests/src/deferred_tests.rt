@@ -1,9 +1,8 @@
 //! Deferred mode in documents: places are left half done, entered again, overwritten and completed
 //! at the end.
-use crate::cases::check_each;
-use crate::row_tests::{ARRAYS, DEFAULTS, MARKED, check_descending};
-use crate::run_tests::{CELLS, check};
-use std::test::Fail;
+use crate::documents::check_tables;
+use crate::row_tests::{ARRAYS, DEFAULTS, MARKED};
+use crate::run_tests::CELLS;
 
 /// The shapes u32, String, Inner (x and b) and Outer (name and inner), with Outer as the root.
 const NESTED: &str = r#"{"shapes":[
@@ -127,28 +126,6 @@ const ELEMENTS: &str = r#"
     = 1 {"error":{"command":4,"detail":"A3","kind":"UninitializedValue","path":""},"released":[]}
 "#;
 
-#[test]
-fn places_that_were_left_are_entered_again(rt: HostRuntime) -> Result<(), Fail> {
-    check_each(&rt, NESTED, 7, COMING_BACK)
-}
-
-#[test]
-fn what_was_left_is_released_once(rt: HostRuntime) -> Result<(), Fail> {
-    check_each(&rt, CELLS, 3, OVERWRITTEN)
-}
-
-#[test]
-fn the_end_fills_by_its_own_rules(rt: HostRuntime) -> Result<(), Fail> {
-    check_each(&rt, DEFAULTS, 3, FILLED_AT_THE_END)?;
-    check_each(&rt, MARKED, 3, MARKED_AT_THE_END)?;
-    check_each(&rt, ARRAYS, 2, ELEMENTS)
-}
-
-#[test]
-fn elements_come_backwards_in_deferred_mode(rt: HostRuntime) -> Result<(), Fail> {
-    check_descending(&rt, r#"["begin_deferred"],"#, r#",["finish_deferred"]"#)
-}
-
 /// The settings of a program, as examples/groups.json has them: the lines of its groups come in
 /// turn.
 const SETTINGS: &str = r#"{"shapes":[
@@ -161,25 +138,33 @@ const SETTINGS: &str = r#"{"shapes":[
         {"name":"name","shape":1},{"name":"server","shape":2},{"name":"log","shape":3},
         {"name":"limits","shape":4}
     ]}}
-],"root":5,"commands":[
-    ["begin_deferred"],["begin_field","server"],["begin_field","host"],["set",1,"localhost"],
-    ["end"],["end"],["begin_field","log"],["begin_field","level"],["set",1,"info"],["end"],["end"],
-    ["begin_field","server"],["begin_field","port"],["set",0,8080],["end"],["end"],
-    ["begin_field","limits"],["begin_nth_field",2],["set",0,30],["end"],["end"],
-    ["begin_field","log"],["begin_field","file"],["set",1,"demo.log"],["end"],["end"],
-    ["begin_field","limits"],["begin_nth_field",0],["set",0,10],["end"],
-    ["begin_nth_field",1],["set",0,20],["end"],["end"],
-    ["begin_field","server"],["set",2,["example.org",443]],["end"],
-    ["begin_field","name"],["set",1,"demo"],["end"],["finish_deferred"]
-]}"#;
+],"#;
+
+const SETTINGS_READ: &str = r#"
+    # a loader reads settings whose groups are interleaved
+    "root":5,"commands":[
+        ["begin_deferred"],["begin_field","server"],["begin_field","host"],["set",1,"localhost"],
+        ["end"],["end"],["begin_field","log"],["begin_field","level"],["set",1,"info"],["end"],["end"],
+        ["begin_field","server"],["begin_field","port"],["set",0,8080],["end"],["end"],
+        ["begin_field","limits"],["begin_nth_field",2],["set",0,30],["end"],["end"],
+        ["begin_field","log"],["begin_field","file"],["set",1,"demo.log"],["end"],["end"],
+        ["begin_field","limits"],["begin_nth_field",0],["set",0,10],["end"],
+        ["begin_nth_field",1],["set",0,20],["end"],["end"],
+        ["begin_field","server"],["set",2,["example.org",443]],["end"],
+        ["begin_field","name"],["set",1,"demo"],["end"],["finish_deferred"]
+    ]}
+    = 0 {"ok":["demo",["example.org",443],["info","demo.log"],[10,20,30]],"released":[]}
+"#;
 
 #[test]
-fn a_loader_reads_settings_whose_groups_are_interleaved(rt: HostRuntime) -> Result<(), Fail> {
-    check(
-        &rt,
-        "settings",
-        SETTINGS.as_bytes(),
-        0,
-        r#"{"ok":["demo",["example.org",443],["info","demo.log"],[10,20,30]],"released":[]}"#,
-    )
+fn places_that_were_left_are_entered_again_and_completed_at_the_end(rt: HostRuntime) {
+    let tables = [
+        (NESTED, 7, COMING_BACK),
+        (CELLS, 3, OVERWRITTEN),
+        (DEFAULTS, 3, FILLED_AT_THE_END),
+        (MARKED, 3, MARKED_AT_THE_END),
+        (ARRAYS, 2, ELEMENTS),
+        (SETTINGS, 1, SETTINGS_READ),
+    ];
+    check_tables(&rt, &tables);
 }

@@ -5,7 +5,6 @@ use fr_script::{
     Answer, PlanAnswer, ScriptFault, answer, is_valid_script, plan_document, read_document,
 };
 use fr_shape::{Ledger, Value};
-use std::test::Fail;
 
 const DOCUMENT: &str = r#"{"shapes":[
     {"name":"id","def":"u32"},
@@ -14,56 +13,56 @@ const DOCUMENT: &str = r#"{"shapes":[
 ],"root":1,"tokens":2,"commands":[["set",1,[{"t":1},7]],["begin_nth_field",1],["end"]]}"#;
 
 #[test]
-fn a_document_is_read_and_its_script_is_valid(rt: HostRuntime) -> Result<(), Fail> {
+fn a_document_is_read_and_its_script_is_valid(rt: HostRuntime) {
     let alloc = rt.alloc();
-    let document = read_document(alloc, DOCUMENT.as_bytes())
-        .ok()
-        .ok_or("a fault")?;
+    let Ok(document) = read_document(alloc, DOCUMENT.as_bytes()) else {
+        panic!(rt; "a fault");
+    };
     assert!(rt; document.table.len() == 3);
     assert!(rt; document.root.0 == 1);
     assert!(rt; document.tokens == 2);
     assert!(rt; document.script.len() == 3);
-    let enough = Ledger::new(alloc, 2).ok().ok_or("no memory")?;
+    let (Ok(enough), Ok(few)) = (Ledger::new(alloc, 2), Ledger::new(alloc, 1)) else {
+        panic!(rt; "no memory");
+    };
     let valid = is_valid_script(alloc, &document.table, &document.script, &enough);
     assert!(rt; valid.is_ok());
-    let few = Ledger::new(alloc, 1).ok().ok_or("no memory")?;
-    let fault = is_valid_script(alloc, &document.table, &document.script, &few).err();
-    assert!(rt; matches!(fault, Some(ScriptFault::Invalid(0))));
-    Ok(())
+    let fault = is_valid_script(alloc, &document.table, &document.script, &few);
+    assert!(rt; matches!(fault, Err(ScriptFault::Invalid(0))));
 }
 
 #[test]
-fn a_document_is_answered(rt: HostRuntime) -> Result<(), Fail> {
-    let answer = answer(rt.alloc(), DOCUMENT.as_bytes());
-    let answer = answer.ok().ok_or("no memory")?;
+fn a_document_is_answered(rt: HostRuntime) {
+    let Ok(answer) = answer(rt.alloc(), DOCUMENT.as_bytes()) else {
+        panic!(rt; "no memory");
+    };
     assert!(rt; answer.status() == 0);
     let (built, released) = match answer {
         Answer::Built(built, released) => (built, released),
-        Answer::Refused(_error, _released) => return Err(Fail::from("refused")),
-        Answer::Fault(_fault) => return Err(Fail::from("a fault")),
+        Answer::Refused(_error, _released) => panic!(rt; "refused"),
+        Answer::Fault(_fault) => panic!(rt; "a fault"),
     };
     assert!(rt; built.calls() == 3);
     assert!(rt; released.len() == 0);
     let Value::Product(fields) = built.into_value() else {
-        return Err(Fail::from("no struct"));
+        panic!(rt; "no struct");
     };
     assert!(rt; fields.len() == 2);
     assert!(rt; matches!(fields.get(0), Some(Value::Token(1))));
     assert!(rt; matches!(fields.get(1), Some(Value::Nat(7))));
-    Ok(())
 }
 
 #[test]
-fn a_document_is_planned(rt: HostRuntime) -> Result<(), Fail> {
-    let planned = plan_document(rt.alloc(), DOCUMENT.as_bytes());
-    let planned = planned.ok().ok_or("no memory")?;
+fn a_document_is_planned(rt: HostRuntime) {
+    let Ok(planned) = plan_document(rt.alloc(), DOCUMENT.as_bytes()) else {
+        panic!(rt; "no memory");
+    };
     assert!(rt; planned.status() == 0);
     let PlanAnswer::Planned(table, plan) = planned else {
-        return Err(Fail::from("no plan"));
+        panic!(rt; "no plan");
     };
     assert!(rt; table.len() == 3);
     assert!(rt; plan.node_count() == 3);
     assert!(rt; plan.root().shape.0 == 1);
     assert!(rt; matches!(plan.root().kind, TypePlanNodeKind::Struct(_)));
-    Ok(())
 }

@@ -1,7 +1,6 @@
 //! What is refused at dynamic values in documents.
-use crate::cases::check_each;
+use crate::documents::check_tables;
 use crate::dynamic_tests::SHAPES;
-use std::test::Fail;
 
 const REFUSED: &str = r#"
     # nothing is put there
@@ -160,11 +159,7 @@ const BROKEN: &str = r#"
 "#;
 
 #[test]
-fn dynamic_values_are_refused(rt: HostRuntime) -> Result<(), Fail> {
-    check_each(&rt, SHAPES, 33, REFUSED)
-}
-
-#[test]
-fn an_entry_has_one_key(rt: HostRuntime) -> Result<(), Fail> {
-    check_each(&rt, SHAPES, 3, BROKEN)
+fn dynamic_values_are_refused(rt: HostRuntime) {
+    let tables = [(SHAPES, 33, REFUSED), (SHAPES, 3, BROKEN)];
+    check_tables(&rt, &tables);
 }

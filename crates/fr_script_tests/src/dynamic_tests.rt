@@ -1,8 +1,6 @@
 //! Dynamic values in documents: values of other shapes that they take, and arrays and objects that
 //! they are begun as.
-use crate::cases::check_each;
-use crate::run_tests::check;
-use std::test::Fail;
+use crate::documents::check_tables;
 
 /// The shapes u32, String, Any (dynamic) and Blob (dynamic, and takes bytes), the other scalars, a
 /// shape or two of each other definition, and places with dynamic values in them, before the root.
@@ -49,76 +47,99 @@ pub(crate) const SHAPES: &str = r#"{"shapes":[
 ],"#;
 
 /// What is put at an Any, and the dynamic value that comes of it.
-const CONVERTED: [(&str, &str, &str); 15] = [
-    (
-        "its own shape",
-        r#"["set",2,{"d":{"b":[1]}}]"#,
-        r#"{"b":[1]}"#,
-    ),
-    ("a truth", r#"["set",4,true]"#, r#"true"#),
-    ("a character", r#"["set",5,{"c":"é"}]"#, r#""é""#),
-    ("an i8", r#"["set",6,{"i":-7}]"#, r#"{"i":-7}"#),
-    ("an i16", r#"["set",7,{"i":7}]"#, r#"{"i":7}"#),
-    ("an i32", r#"["set",8,{"i":-7}]"#, r#"{"i":-7}"#),
-    (
-        "the smallest i64",
-        r#"["set",9,{"i":-9223372036854775808}]"#,
-        r#"{"i":-9223372036854775808}"#,
-    ),
-    ("an isize", r#"["set",10,{"i":7}]"#, r#"{"i":7}"#),
-    ("a u8", r#"["set",12,7]"#, r#"7"#),
-    ("a u16", r#"["set",13,7]"#, r#"7"#),
-    ("a u32", r#"["set",0,7]"#, r#"7"#),
-    (
-        "the largest u64",
-        r#"["set",14,18446744073709551615]"#,
-        r#"18446744073709551615"#,
-    ),
-    ("a usize", r#"["set",15,7]"#, r#"7"#),
-    ("an owned text", r#"["set",1,"hi"]"#, r#""hi""#),
-    ("a text without a size", r#"["set",17,"hi"]"#, r#""hi""#),
-];
-
-/// Why a value that has no dynamic one isn't taken.
-const NO_DYNAMIC: &str = "cannot convert this type to dynamic value";
+const CONVERTED: &str = r#"
+    # its own shape
+    "root":2,"commands":[["set",2,{"d":{"b":[1]}}]]}
+    = 0 {"ok":{"d":{"b":[1]}},"released":[]}
+    # a truth
+    "root":2,"commands":[["set",4,true]]}
+    = 0 {"ok":{"d":true},"released":[]}
+    # a character
+    "root":2,"commands":[["set",5,{"c":"é"}]]}
+    = 0 {"ok":{"d":"é"},"released":[]}
+    # an i8
+    "root":2,"commands":[["set",6,{"i":-7}]]}
+    = 0 {"ok":{"d":{"i":-7}},"released":[]}
+    # an i16
+    "root":2,"commands":[["set",7,{"i":7}]]}
+    = 0 {"ok":{"d":{"i":7}},"released":[]}
+    # an i32
+    "root":2,"commands":[["set",8,{"i":-7}]]}
+    = 0 {"ok":{"d":{"i":-7}},"released":[]}
+    # the smallest i64
+    "root":2,"commands":[["set",9,{"i":-9223372036854775808}]]}
+    = 0 {"ok":{"d":{"i":-9223372036854775808}},"released":[]}
+    # an isize
+    "root":2,"commands":[["set",10,{"i":7}]]}
+    = 0 {"ok":{"d":{"i":7}},"released":[]}
+    # a u8
+    "root":2,"commands":[["set",12,7]]}
+    = 0 {"ok":{"d":7},"released":[]}
+    # a u16
+    "root":2,"commands":[["set",13,7]]}
+    = 0 {"ok":{"d":7},"released":[]}
+    # a u32
+    "root":2,"commands":[["set",0,7]]}
+    = 0 {"ok":{"d":7},"released":[]}
+    # the largest u64
+    "root":2,"commands":[["set",14,18446744073709551615]]}
+    = 0 {"ok":{"d":18446744073709551615},"released":[]}
+    # a usize
+    "root":2,"commands":[["set",15,7]]}
+    = 0 {"ok":{"d":7},"released":[]}
+    # an owned text
+    "root":2,"commands":[["set",1,"hi"]]}
+    = 0 {"ok":{"d":"hi"},"released":[]}
+    # a text without a size
+    "root":2,"commands":[["set",17,"hi"]]}
+    = 0 {"ok":{"d":"hi"},"released":[]}
+"#;
 
 /// What is put at an Any, and why it isn't taken.
-const NOT_CONVERTED: [(&str, &str, &str); 14] = [
-    (
-        "an i128",
-        r#"["set",11,{"i":7}]"#,
-        "unsupported signed integer size for dynamic value",
-    ),
-    (
-        "a u128",
-        r#"["set",16,7]"#,
-        "unsupported unsigned integer size for dynamic value",
-    ),
-    (
-        "a text that may be borrowed",
-        r#"["set",18,"hi"]"#,
-        NO_DYNAMIC,
-    ),
-    (
-        "another dynamic shape",
-        r#"["set",3,{"d":null}]"#,
-        NO_DYNAMIC,
-    ),
-    (
-        "bytes where none are taken",
-        r#"["set",19,{"l":[1]}]"#,
-        NO_DYNAMIC,
-    ),
-    ("a struct", r#"["set",22,[]]"#, NO_DYNAMIC),
-    ("an enum", r#"["set",23,{"v":[0,[]]}]"#, NO_DYNAMIC),
-    ("an option", r#"["set",24,null]"#, NO_DYNAMIC),
-    ("a result", r#"["set",25,{"ok":1}]"#, NO_DYNAMIC),
-    ("a map", r#"["set",26,{"m":[]}]"#, NO_DYNAMIC),
-    ("a set of numbers", r#"["set",27,{"e":[]}]"#, NO_DYNAMIC),
-    ("an array of two", r#"["set",28,[1,2]]"#, NO_DYNAMIC),
-    ("a pointer", r#"["set",29,{"p":1}]"#, NO_DYNAMIC),
-    ("a slice", r#"["set",30,{"l":[]}]"#, NO_DYNAMIC),
-];
+const NOT_CONVERTED: &str = r#"
+    # an i128
+    "root":2,"commands":[["set",11,{"i":7}]]}
+    = 1 {"error":{"command":0,"detail":"unsupported signed integer size for dynamic value","kind":"OperationFailed","path":""},"released":[]}
+    # a u128
+    "root":2,"commands":[["set",16,7]]}
+    = 1 {"error":{"command":0,"detail":"unsupported unsigned integer size for dynamic value","kind":"OperationFailed","path":""},"released":[]}
+    # a text that may be borrowed
+    "root":2,"commands":[["set",18,"hi"]]}
+    = 1 {"error":{"command":0,"detail":"cannot convert this type to dynamic value","kind":"OperationFailed","path":""},"released":[]}
+    # another dynamic shape
+    "root":2,"commands":[["set",3,{"d":null}]]}
+    = 1 {"error":{"command":0,"detail":"cannot convert this type to dynamic value","kind":"OperationFailed","path":""},"released":[]}
+    # bytes where none are taken
+    "root":2,"commands":[["set",19,{"l":[1]}]]}
+    = 1 {"error":{"command":0,"detail":"cannot convert this type to dynamic value","kind":"OperationFailed","path":""},"released":[]}
+    # a struct
+    "root":2,"commands":[["set",22,[]]]}
+    = 1 {"error":{"command":0,"detail":"cannot convert this type to dynamic value","kind":"OperationFailed","path":""},"released":[]}
+    # an enum
+    "root":2,"commands":[["set",23,{"v":[0,[]]}]]}
+    = 1 {"error":{"command":0,"detail":"cannot convert this type to dynamic value","kind":"OperationFailed","path":""},"released":[]}
+    # an option
+    "root":2,"commands":[["set",24,null]]}
+    = 1 {"error":{"command":0,"detail":"cannot convert this type to dynamic value","kind":"OperationFailed","path":""},"released":[]}
+    # a result
+    "root":2,"commands":[["set",25,{"ok":1}]]}
+    = 1 {"error":{"command":0,"detail":"cannot convert this type to dynamic value","kind":"OperationFailed","path":""},"released":[]}
+    # a map
+    "root":2,"commands":[["set",26,{"m":[]}]]}
+    = 1 {"error":{"command":0,"detail":"cannot convert this type to dynamic value","kind":"OperationFailed","path":""},"released":[]}
+    # a set of numbers
+    "root":2,"commands":[["set",27,{"e":[]}]]}
+    = 1 {"error":{"command":0,"detail":"cannot convert this type to dynamic value","kind":"OperationFailed","path":""},"released":[]}
+    # an array of two
+    "root":2,"commands":[["set",28,[1,2]]]}
+    = 1 {"error":{"command":0,"detail":"cannot convert this type to dynamic value","kind":"OperationFailed","path":""},"released":[]}
+    # a pointer
+    "root":2,"commands":[["set",29,{"p":1}]]}
+    = 1 {"error":{"command":0,"detail":"cannot convert this type to dynamic value","kind":"OperationFailed","path":""},"released":[]}
+    # a slice
+    "root":2,"commands":[["set",30,{"l":[]}]]}
+    = 1 {"error":{"command":0,"detail":"cannot convert this type to dynamic value","kind":"OperationFailed","path":""},"released":[]}
+"#;
 
 const BUILT: &str = r#"
     # an object of a number and an array, in deferred mode
@@ -274,33 +295,11 @@ const BUILT: &str = r#"
 "#;
 
 #[test]
-fn dynamic_places_take_values_of_other_shapes(rt: HostRuntime) -> Result<(), Fail> {
-    let alloc = rt.alloc();
-    let shapes = SHAPES;
-    for (name, given, made) in &CONVERTED {
-        let document = format!(in alloc; "{shapes}\"root\":2,\"commands\":[{given}]}}")?;
-        let want = format!(in alloc; "{{\"ok\":{{\"d\":{made}}},\"released\":[]}}")?;
-        check(&rt, name, document.as_bytes(), 0, want.as_str())?;
-    }
-    Ok(())
-}
-
-#[test]
-fn dynamic_places_refuse_other_values(rt: HostRuntime) -> Result<(), Fail> {
-    let alloc = rt.alloc();
-    let shapes = SHAPES;
-    for (name, given, detail) in &NOT_CONVERTED {
-        let document = format!(in alloc; "{shapes}\"root\":2,\"commands\":[{given}]}}")?;
-        let place = "\"kind\":\"OperationFailed\",\"path\":\"\"";
-        let want = format!(in alloc;
-            "{{\"error\":{{\"command\":0,\"detail\":\"{detail}\",{place}}},\"released\":[]}}"
-        )?;
-        check(&rt, name, document.as_bytes(), 1, want.as_str())?;
-    }
-    Ok(())
-}
-
-#[test]
-fn arrays_and_objects_are_built_part_by_part(rt: HostRuntime) -> Result<(), Fail> {
-    check_each(&rt, SHAPES, 29, BUILT)
+fn dynamic_values_are_converted_or_built_part_by_part(rt: HostRuntime) {
+    let tables = [
+        (SHAPES, 15, CONVERTED),
+        (SHAPES, 14, NOT_CONVERTED),
+        (SHAPES, 29, BUILT),
+    ];
+    check_tables(&rt, &tables);
 }

@@ -2,8 +2,6 @@
 #![tactic(auto)]
 
 #[cfg(test)]
-mod cases;
-#[cfg(test)]
 mod collection_tests;
 #[cfg(test)]
 mod content_tests;
@@ -11,6 +9,8 @@ mod content_tests;
 mod deferred_tests;
 #[cfg(test)]
 mod document_tests;
+#[cfg(test)]
+mod documents;
 #[cfg(test)]
 mod dynamic_refusal_tests;
 #[cfg(test)]

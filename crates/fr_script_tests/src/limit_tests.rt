@@ -1,107 +1,46 @@
 //! Each limit of a document, at the largest size that it admits and at one past it, each as a whole
 //! run.
-use crate::run_tests::check;
-use fr_script::{MemSink, MemSource, run};
-use fr_shape::Items;
-use std::alloc::Global;
+use crate::documents::check_parts;
 use std::process::Abort;
-use std::test::Fail;
 
 /// What is reported of a builder at which nothing was set.
 const NOTHING_SET: &str =
     r#"{"error":{"command":0,"detail":"b","kind":"UninitializedValue","path":""},"released":[]}"#;
 
-/// `front`, then `part` so many times with commas between, then `back`.
-pub(crate) fn joined(
-    alloc: Global,
-    front: &str,
-    part: &str,
-    count: usize,
-    back: &str,
-) -> Result<String, Fail> {
-    let mut text = String::from_str(alloc, front)?;
-    for i in 0..count {
-        if 0 < i {
-            text.push_str(",")?;
-        }
-        text.push_str(part)?;
-    }
-    text.push_str(back)?;
-    Ok(text)
-}
+/// So many that 131,072 times as many are the most bytes of an input.
+const SPACES: &str = "                                                                ";
 
-/// Runs the document with `count` parts, which ends with this status and line, and then the one
-/// with a part more, which is at fault.
-fn check_limit(
-    rt: &(impl Abort + AllocGlobal),
-    (front, part, back): (&str, &str, &str),
-    count: usize,
-    (status, at): (u8, &str),
-    past: &str,
-) -> Result<(), Fail> {
-    let alloc = rt.alloc();
-    let text = joined(alloc, front, part, count, back)?;
-    check(rt, part, text.as_bytes(), status, at)?;
-    let text = joined(alloc, front, part, count.wrapping_add(1), back)?;
-    check(rt, part, text.as_bytes(), 2, past)
-}
-
-#[test]
-fn an_input_has_at_most_8_388_608_bytes(rt: HostRuntime) -> Result<(), Fail> {
-    let alloc = rt.alloc();
-    for (count, want) in [
-        (8_388_608, "{\"fault\":\"NotJson\"}\n"),
-        (8_388_609, "{\"fault\":\"TooLong\"}\n"),
-    ] {
-        let spaces = Items::from_vec(vec![in alloc; b' '; count]?);
-        let mut source = MemSource::new(spaces, 1_000_000, Items::new(alloc));
-        let mut sink = MemSink::new(alloc, 1_000, Items::new(alloc));
-        let words = vec![in alloc; String::from_str(alloc, "build")?]?;
-        let status = run(alloc, words.as_slice(), &mut source, &mut sink);
-        assert!(rt; status == 2);
-        assert!(rt; sink.taken() == want.as_bytes(), "{count} spaces");
-    }
-    Ok(())
-}
-
-#[test]
-fn a_document_has_at_most_4_096_shapes(rt: HostRuntime) -> Result<(), Fail> {
-    check_limit(
-        &rt,
+/// Of each limit its name; the document, whose middle stands once less often than the limit says;
+/// the limit; the status and the report there; and the report at one past it.
+const LIMITS: [(&str, (&str, &str, &str), usize, (u8, &str), &str); 5] = [
+    (
+        "shapes",
         (
             r#"{"shapes":["#,
-            r#"{"name":"a","def":"u32"}"#,
-            r#"],"root":0,"commands":[]}"#,
+            r#"{"name":"a","def":"u32"},"#,
+            r#"{"name":"a","def":"u32"}],"root":0,"commands":[]}"#,
         ),
         4_096,
         (2, r#"{"entry":1,"fault":"Unchecked","rule":2}"#),
         r#"{"fault":"TooLarge","what":"shapes"}"#,
-    )
-}
-
-#[test]
-fn a_document_has_at_most_65_536_fields(rt: HostRuntime) -> Result<(), Fail> {
-    check_limit(
-        &rt,
+    ),
+    (
+        "fields",
         (
             r#"{"shapes":[{"name":"a","def":{"struct":["#,
-            r#"{"name":"x","shape":1}"#,
-            r#"]}},{"name":"b","def":"u32"}],"root":1,"commands":[]}"#,
+            r#"{"name":"x","shape":1},"#,
+            r#"{"name":"x","shape":1}]}},{"name":"b","def":"u32"}],"root":1,"commands":[]}"#,
         ),
         65_536,
         (1, NOTHING_SET),
         r#"{"fault":"TooLarge","what":"fields"}"#,
-    )
-}
-
-#[test]
-fn a_document_has_at_most_200_000_commands(rt: HostRuntime) -> Result<(), Fail> {
-    check_limit(
-        &rt,
+    ),
+    (
+        "commands",
         (
             r#"{"shapes":[{"name":"a","def":"u32"}],"root":0,"commands":["#,
-            r#"["end"]"#,
-            r#"]}"#,
+            r#"["end"],"#,
+            r#"["end"]]}"#,
         ),
         200_000,
         (
@@ -110,21 +49,17 @@ fn a_document_has_at_most_200_000_commands(rt: HostRuntime) -> Result<(), Fail> 
                 "kind":"InvariantViolation","path":""},"released":[]}"#,
         ),
         r#"{"fault":"TooLarge","what":"commands"}"#,
-    )
-}
-
-#[test]
-fn a_script_is_at_most_1_000_deep(rt: HostRuntime) -> Result<(), Fail> {
-    check_limit(
-        &rt,
+    ),
+    (
+        "depth",
         (
             r#"{"shapes":[
                 {"name":"u32","def":"u32"},
                 {"name":"Inner","def":{"struct":[{"name":"x","shape":0},{"name":"b","shape":0}]}},
                 {"name":"Outer","def":{"struct":[{"name":"x","shape":0},{"name":"inner","shape":1}]}}
             ],"root":2,"commands":["#,
-            r#"["begin_nth_field",1]"#,
-            r#"]}"#,
+            r#"["begin_nth_field",1],"#,
+            r#"["begin_nth_field",1]]}"#,
         ),
         1_000,
         (
@@ -133,52 +68,62 @@ fn a_script_is_at_most_1_000_deep(rt: HostRuntime) -> Result<(), Fail> {
                 "kind":"OperationFailed","path":"inner.b"},"released":[]}"#,
         ),
         r#"{"fault":"TooLarge","what":"depth"}"#,
-    )
-}
-
-/// Also where there is no source to enter, as long as some shape has a proxy.
-#[test]
-fn a_call_from_the_shape_counts_where_there_are_proxies(rt: HostRuntime) -> Result<(), Fail> {
-    let (part, back) = (r#"["begin_custom_deserialization_from_shape"]"#, "]}");
-    let report =
-        r#"{"error":{"command":1000,"detail":"a","kind":"UninitializedValue","path":""},"released":[]}"#;
-    check_limit(
-        &rt,
+    ),
+    (
+        "depth where some shape has a proxy, also without a source to enter",
         (
             r#"{"shapes":[{"name":"a","def":"u32"},
                 {"name":"b","def":"u32","format_proxies":[{"format":"x","source":0,"convert":0}]}
             ],"root":0,"commands":["#,
-            part,
-            back,
+            r#"["begin_custom_deserialization_from_shape"],"#,
+            r#"["begin_custom_deserialization_from_shape"]]}"#,
         ),
         1_000,
-        (1, report),
+        (
+            1,
+            r#"{"error":{"command":1000,"detail":"a","kind":"UninitializedValue","path":""},"released":[]}"#,
+        ),
         r#"{"fault":"TooLarge","what":"depth"}"#,
-    )?;
-    let front = r#"{"shapes":[{"name":"a","def":"u32"}],"root":0,"commands":["#;
-    let many = joined(rt.alloc(), front, part, 1_001, r#",["set",0,7]]}"#)?;
-    check(
-        &rt,
-        "without proxies",
-        many.as_bytes(),
-        0,
-        r#"{"ok":7,"released":[]}"#,
-    )
+    ),
+];
+
+/// Runs the document with `count` parts.
+fn check_count(
+    rt: &(impl Abort + AllocGlobal),
+    name: &str,
+    (front, part, back): (&str, &str, &str),
+    count: usize,
+    (status, want): (u8, &str),
+) {
+    let document = [(front, 1), (part, count.saturating_sub(1)), (back, 1)];
+    check_parts(rt, name, &document, status, &[(want, 1)]);
+}
+
+/// That of bytes stands below; that of tokens among the faults of documents, beside one more.
+#[test]
+fn each_limit_is_the_largest_size_that_is_admitted(rt: HostRuntime) {
+    for (name, parts, limit, at, past) in LIMITS {
+        check_count(&rt, name, parts, limit, at);
+        check_count(&rt, name, parts, limit.saturating_add(1), (2, past));
+    }
+    let document = [
+        (
+            r#"{"shapes":[{"name":"a","def":"u32"}],"root":0,"commands":["#,
+            1,
+        ),
+        (r#"["begin_custom_deserialization_from_shape"],"#, 1_001),
+        (r#"["set",0,7]]}"#, 1),
+    ];
+    let want = [(r#"{"ok":7,"released":[]}"#, 1)];
+    check_parts(&rt, "without proxies", &document, 0, &want);
 }
 
 #[test]
-fn a_document_has_at_most_1_000_000_tokens(rt: HostRuntime) -> Result<(), Fail> {
-    let alloc = rt.alloc();
-    let front = r#"{"shapes":[{"name":"b","def":"u32"}],"root":0,"tokens":"#;
-    let back = r#","commands":[]}"#;
-    let most = joined(alloc, front, "1000000", 1, back)?;
-    check(&rt, "at the limit", most.as_bytes(), 1, NOTHING_SET)?;
-    let past = joined(alloc, front, "1000001", 1, back)?;
-    check(
-        &rt,
-        "past it",
-        past.as_bytes(),
-        2,
-        r#"{"fault":"TooLarge","what":"tokens"}"#,
-    )
+fn an_input_has_at_most_8_388_608_bytes(rt: HostRuntime) {
+    let most = [(SPACES, 131_072)];
+    let at = [(r#"{"fault":"NotJson"}"#, 1)];
+    check_parts(&rt, "as many bytes as there may be", &most, 2, &at);
+    let past = [(r#"{"fault":"TooLong"}"#, 1)];
+    let more = [(SPACES, 131_072), (" ", 1)];
+    check_parts(&rt, "one more", &more, 2, &past);
 }

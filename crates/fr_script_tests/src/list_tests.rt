@@ -1,10 +1,7 @@
 //! Lists, arrays and pointers to slices in documents: they are begun, take items or elements one
 //! behind the other, and are left half done and gone on with.
-use crate::cases::check_each;
-use crate::content_tests::repeated;
-use crate::run_tests::check;
-use std::alloc::Global;
-use std::test::Fail;
+use crate::documents::{check_parts, check_tables};
+use std::process::Abort;
 
 /// The shapes u32, Nums and Items (lists of u32 and of Res, which is opaque), A3 and A5000 (arrays
 /// of so many), the slices Sl and ResSl, pointers to these (ArcSlice, BoxRes, RefRes, LooseSlice)
@@ -240,45 +237,6 @@ const REFUSED: &str = r#"
         "kind":"OperationFailed","path":""},"released":[]}
 "#;
 
-#[test]
-fn lists_and_slices_are_built_in_strict_mode(rt: HostRuntime) -> Result<(), Fail> {
-    check_each(&rt, LISTS, 12, BUILT)
-}
-
-/// A list of forty items that come in no order of their own, and what is reported on it.
-fn forty_items(alloc: Global) -> Result<(String, String), Fail> {
-    let mut document = String::from_str(alloc, LISTS)?;
-    document.push_str(r#""root":1,"commands":[["init_list"]"#)?;
-    let mut report = String::from_str(alloc, r#"{"ok":{"l":["#)?;
-    for i in 0..40u32 {
-        let item = i * 7 % 23;
-        let calls = format!(in alloc; ",[\"begin_list_item\"],[\"set\",0,{item}],[\"end\"]")?;
-        document.push_str(calls.as_str())?;
-        let comma = if i == 0 { "" } else { "," };
-        let listed = format!(in alloc; "{comma}{item}")?;
-        report.push_str(listed.as_str())?;
-    }
-    document.push_str("]}")?;
-    report.push_str(r#"]},"released":[]}"#)?;
-    Ok((document, report))
-}
-
-#[test]
-fn forty_items_keep_their_order(rt: HostRuntime) -> Result<(), Fail> {
-    let (document, report) = forty_items(rt.alloc())?;
-    check(&rt, "forty items", document.as_bytes(), 0, report.as_str())
-}
-
-#[test]
-fn lists_and_slices_that_were_left_are_gone_on_with(rt: HostRuntime) -> Result<(), Fail> {
-    check_each(&rt, LISTS, 10, LEFT)
-}
-
-#[test]
-fn lists_and_items_are_refused_at_other_places(rt: HostRuntime) -> Result<(), Fail> {
-    check_each(&rt, LISTS, 15, REFUSED)
-}
-
 /// The shapes String (empty by default), u16, Names (a list of texts, empty by default), Server
 /// (host; port, 80 by default; aliases; and weight), Servers (a list of them) and Config (name and
 /// servers), before the root.
@@ -345,43 +303,52 @@ const SERVERS: &str = r#"
     = 1 {"error":{"command":3,"detail":"host","kind":"UninitializedField","path":"servers[0]"},"released":[]}
 "#;
 
-#[test]
-fn servers_in_a_list_are_read_line_by_line(rt: HostRuntime) -> Result<(), Fail> {
-    check_each(&rt, CONFIG, 4, SERVERS)
-}
-
 /// Lists of themselves, up to the commands.
 const NEST: &str = r#"{"shapes":[{"name":"Nest","def":{"list":0}}],"root":0,"commands":["#;
 
-/// Begins a list and an item of it so many times, each in the one before, and leaves them all.
-fn lists_down(alloc: Global, front: &str, depth: usize, back: &str) -> Result<String, Fail> {
-    let mut start = String::from_str(alloc, NEST)?;
-    start.push_str(front)?;
-    let begun = r#"["init_list"],["begin_list_item"],"#;
-    let down = repeated(alloc, start.as_str(), begun, depth, r#"["init_list"]"#)?;
-    repeated(alloc, down.as_str(), r#",["end"]"#, depth, back)
+/// Begins a list and an item of it so many times, each in the one before, and leaves them all, with
+/// these commands around.
+fn check_lists_down<'a>(
+    rt: &(impl Abort + AllocGlobal),
+    name: &str,
+    (before, depth, after): (&'a str, usize, &'a str),
+    status: u8,
+    want: &[(&str, usize)],
+) {
+    let document = [
+        (NEST, 1),
+        (before, 1),
+        (r#"["init_list"],["begin_list_item"],"#, depth),
+        (r#"["init_list"]"#, 1),
+        (r#",["end"]"#, depth),
+        (after, 1),
+    ];
+    check_parts(rt, name, &document, status, want);
 }
 
 #[test]
-fn lists_nest_as_deep_as_a_script_may_begin(rt: HostRuntime) -> Result<(), Fail> {
-    let alloc = rt.alloc();
-    let value = repeated(alloc, r#"{"ok":"#, r#"{"l":["#, 1_000, r#"{"l":[]}"#)?;
-    let want = repeated(alloc, value.as_str(), "]}", 1_000, r#","released":[]}"#)?;
-    let strict = lists_down(alloc, "", 1_000, "]}")?;
-    check(&rt, "strict", strict.as_bytes(), 0, want.as_str())?;
-    let deferred = lists_down(
-        alloc,
-        r#"["begin_deferred"],"#,
-        1_000,
-        r#",["finish_deferred"]]}"#,
-    )?;
-    check(&rt, "deferred", deferred.as_bytes(), 0, want.as_str())?;
-    let past = lists_down(alloc, "", 1_001, "]}")?;
-    check(
-        &rt,
-        "past it",
-        past.as_bytes(),
-        2,
-        r#"{"fault":"TooLarge","what":"depth"}"#,
-    )
+fn lists_nest_as_deep_as_a_script_may_begin(rt: HostRuntime) {
+    let built = [
+        (r#"{"ok":"#, 1),
+        (r#"{"l":["#, 1_000),
+        (r#"{"l":[]}"#, 1),
+        ("]}", 1_000),
+        (r#","released":[]}"#, 1),
+    ];
+    let deferred = (r#"["begin_deferred"],"#, 1_000, r#",["finish_deferred"]]}"#);
+    check_lists_down(&rt, "strict", ("", 1_000, "]}"), 0, &built);
+    check_lists_down(&rt, "deferred", deferred, 0, &built);
+    let past = [(r#"{"fault":"TooLarge","what":"depth"}"#, 1)];
+    check_lists_down(&rt, "past it", ("", 1_001, "]}"), 2, &past);
+}
+
+#[test]
+fn lists_arrays_and_slices_are_built_and_left(rt: HostRuntime) {
+    let tables = [
+        (LISTS, 12, BUILT),
+        (LISTS, 10, LEFT),
+        (LISTS, 15, REFUSED),
+        (CONFIG, 4, SERVERS),
+    ];
+    check_tables(&rt, &tables);
 }

@@ -1,7 +1,6 @@
 //! The original's own tests of lists, arrays and slices, under the names that they have there, as
 //! documents.
-use crate::cases::check_each;
-use std::test::Fail;
+use crate::documents::check_tables;
 
 /// The shapes i32, String, u8, u32, lists of these (Ints, Strings, Bytes), IntLists, Aged (name and
 /// age), AgedList, Held (a list of i32), a map, the unit shape and a list of it, before the root.
@@ -277,16 +276,11 @@ const SLICES_BUILT: &str = r#"
 "#;
 
 #[test]
-fn lists_come_out_as_in_the_original(rt: HostRuntime) -> Result<(), Fail> {
-    check_each(&rt, LISTS, 10, LISTS_BUILT)
-}
-
-#[test]
-fn arrays_come_out_as_in_the_original(rt: HostRuntime) -> Result<(), Fail> {
-    check_each(&rt, ARRAYS, 12, ARRAYS_BUILT)
-}
-
-#[test]
-fn slices_come_out_as_in_the_original(rt: HostRuntime) -> Result<(), Fail> {
-    check_each(&rt, SLICES, 6, SLICES_BUILT)
+fn lists_arrays_and_slices_come_out_as_in_the_original(rt: HostRuntime) {
+    let tables = [
+        (LISTS, 10, LISTS_BUILT),
+        (ARRAYS, 12, ARRAYS_BUILT),
+        (SLICES, 6, SLICES_BUILT),
+    ];
+    check_tables(&rt, &tables);
 }

@@ -1,7 +1,6 @@
 //! The original's own tests of options, results, pointers, enums and invariants, under the names
 //! that they have there, as documents.
-use crate::cases::check_each;
-use std::test::Fail;
+use crate::documents::check_tables;
 
 /// The shapes u32, String, options of either and of an option, and structs of options, before the
 /// root.
@@ -210,26 +209,13 @@ const INVARIANTS_BUILT: &str = r#"
 "#;
 
 #[test]
-fn options_come_out_as_in_the_original(rt: HostRuntime) -> Result<(), Fail> {
-    check_each(&rt, OPTIONS, 9, OPTIONS_BUILT)
-}
-
-#[test]
-fn results_come_out_as_in_the_original(rt: HostRuntime) -> Result<(), Fail> {
-    check_each(&rt, RESULTS, 6, RESULTS_BUILT)
-}
-
-#[test]
-fn pointers_come_out_as_in_the_original(rt: HostRuntime) -> Result<(), Fail> {
-    check_each(&rt, POINTERS, 12, POINTERS_BUILT)
-}
-
-#[test]
-fn enums_come_out_as_in_the_original(rt: HostRuntime) -> Result<(), Fail> {
-    check_each(&rt, ENUMS, 3, ENUMS_BUILT)
-}
-
-#[test]
-fn invariants_come_out_as_in_the_original(rt: HostRuntime) -> Result<(), Fail> {
-    check_each(&rt, INVARIANTS, 4, INVARIANTS_BUILT)
+fn contents_enums_and_invariants_come_out_as_in_the_original(rt: HostRuntime) {
+    let tables = [
+        (OPTIONS, 9, OPTIONS_BUILT),
+        (RESULTS, 6, RESULTS_BUILT),
+        (POINTERS, 12, POINTERS_BUILT),
+        (ENUMS, 3, ENUMS_BUILT),
+        (INVARIANTS, 4, INVARIANTS_BUILT),
+    ];
+    check_tables(&rt, &tables);
 }

@@ -1,6 +1,5 @@
 //! Plans of worked tables, each as a whole run under `plan`.
-use crate::run_tests::check_under;
-use std::test::Fail;
+use crate::documents::check_report;
 
 /// Documents with what is reported under `plan`.
 const PLANS: [(&str, &str, u8, &str); 6] = [
@@ -74,9 +73,8 @@ const PLANS: [(&str, &str, u8, &str); 6] = [
 ];
 
 #[test]
-fn plans_are_reported(rt: HostRuntime) -> Result<(), Fail> {
+fn plans_are_reported(rt: HostRuntime) {
     for (name, document, status, want) in PLANS {
-        check_under(&rt, "plan", name, document.as_bytes(), status, want)?;
+        check_report(&rt, (name, "plan"), document, (status, want));
     }
-    Ok(())
 }

@@ -1,8 +1,5 @@
 //! Worked examples of fills, presets, arrays and named fields, each as a whole run.
-use crate::cases::check_each;
-use crate::run_tests::check;
-use std::process::Abort;
-use std::test::Fail;
+use crate::documents::check_tables;
 
 /// The shapes u32, Nums (a list with a default), Empty (a struct without fields, with a default),
 /// HasList and HasEmpty, before the root.
@@ -61,6 +58,70 @@ const ARRAYS_BUILT: &str = r#"
     # a shape without a default
     "root":2,"commands":[["set_default"]]}
     = 1 {"error":{"command":0,"detail":"type does not implement Default","kind":"OperationFailed","path":""},"released":[]}
+"#;
+
+/// The elements of an A64 from the last to the first, in both modes.
+const DESCENDING: &str = r#"
+    # elements that come backwards
+    "root":1,"commands":[
+        ["begin_nth_field",63],["set",0,63],["end"],["begin_nth_field",62],["set",0,62],["end"],["begin_nth_field",61],["set",0,61],["end"],
+        ["begin_nth_field",60],["set",0,60],["end"],["begin_nth_field",59],["set",0,59],["end"],["begin_nth_field",58],["set",0,58],["end"],
+        ["begin_nth_field",57],["set",0,57],["end"],["begin_nth_field",56],["set",0,56],["end"],["begin_nth_field",55],["set",0,55],["end"],
+        ["begin_nth_field",54],["set",0,54],["end"],["begin_nth_field",53],["set",0,53],["end"],["begin_nth_field",52],["set",0,52],["end"],
+        ["begin_nth_field",51],["set",0,51],["end"],["begin_nth_field",50],["set",0,50],["end"],["begin_nth_field",49],["set",0,49],["end"],
+        ["begin_nth_field",48],["set",0,48],["end"],["begin_nth_field",47],["set",0,47],["end"],["begin_nth_field",46],["set",0,46],["end"],
+        ["begin_nth_field",45],["set",0,45],["end"],["begin_nth_field",44],["set",0,44],["end"],["begin_nth_field",43],["set",0,43],["end"],
+        ["begin_nth_field",42],["set",0,42],["end"],["begin_nth_field",41],["set",0,41],["end"],["begin_nth_field",40],["set",0,40],["end"],
+        ["begin_nth_field",39],["set",0,39],["end"],["begin_nth_field",38],["set",0,38],["end"],["begin_nth_field",37],["set",0,37],["end"],
+        ["begin_nth_field",36],["set",0,36],["end"],["begin_nth_field",35],["set",0,35],["end"],["begin_nth_field",34],["set",0,34],["end"],
+        ["begin_nth_field",33],["set",0,33],["end"],["begin_nth_field",32],["set",0,32],["end"],["begin_nth_field",31],["set",0,31],["end"],
+        ["begin_nth_field",30],["set",0,30],["end"],["begin_nth_field",29],["set",0,29],["end"],["begin_nth_field",28],["set",0,28],["end"],
+        ["begin_nth_field",27],["set",0,27],["end"],["begin_nth_field",26],["set",0,26],["end"],["begin_nth_field",25],["set",0,25],["end"],
+        ["begin_nth_field",24],["set",0,24],["end"],["begin_nth_field",23],["set",0,23],["end"],["begin_nth_field",22],["set",0,22],["end"],
+        ["begin_nth_field",21],["set",0,21],["end"],["begin_nth_field",20],["set",0,20],["end"],["begin_nth_field",19],["set",0,19],["end"],
+        ["begin_nth_field",18],["set",0,18],["end"],["begin_nth_field",17],["set",0,17],["end"],["begin_nth_field",16],["set",0,16],["end"],
+        ["begin_nth_field",15],["set",0,15],["end"],["begin_nth_field",14],["set",0,14],["end"],["begin_nth_field",13],["set",0,13],["end"],
+        ["begin_nth_field",12],["set",0,12],["end"],["begin_nth_field",11],["set",0,11],["end"],["begin_nth_field",10],["set",0,10],["end"],
+        ["begin_nth_field",9],["set",0,9],["end"],["begin_nth_field",8],["set",0,8],["end"],["begin_nth_field",7],["set",0,7],["end"],
+        ["begin_nth_field",6],["set",0,6],["end"],["begin_nth_field",5],["set",0,5],["end"],["begin_nth_field",4],["set",0,4],["end"],
+        ["begin_nth_field",3],["set",0,3],["end"],["begin_nth_field",2],["set",0,2],["end"],["begin_nth_field",1],["set",0,1],["end"],
+        ["begin_nth_field",0],["set",0,0],["end"]
+    ]}
+    = 0 {"ok":[
+        0,1,2,3,4,5,6,7,8,9,10,11,12,13,14,15,16,17,18,19,20,21,22,23,24,25,26,27,28,29,30,31,
+        32,33,34,35,36,37,38,39,40,41,42,43,44,45,46,47,48,49,50,51,52,53,54,55,56,57,58,59,60,61,62,63
+    ],"released":[]}
+    # elements that come backwards in deferred mode
+    "root":1,"commands":[
+        ["begin_deferred"],
+        ["begin_nth_field",63],["set",0,63],["end"],["begin_nth_field",62],["set",0,62],["end"],["begin_nth_field",61],["set",0,61],["end"],
+        ["begin_nth_field",60],["set",0,60],["end"],["begin_nth_field",59],["set",0,59],["end"],["begin_nth_field",58],["set",0,58],["end"],
+        ["begin_nth_field",57],["set",0,57],["end"],["begin_nth_field",56],["set",0,56],["end"],["begin_nth_field",55],["set",0,55],["end"],
+        ["begin_nth_field",54],["set",0,54],["end"],["begin_nth_field",53],["set",0,53],["end"],["begin_nth_field",52],["set",0,52],["end"],
+        ["begin_nth_field",51],["set",0,51],["end"],["begin_nth_field",50],["set",0,50],["end"],["begin_nth_field",49],["set",0,49],["end"],
+        ["begin_nth_field",48],["set",0,48],["end"],["begin_nth_field",47],["set",0,47],["end"],["begin_nth_field",46],["set",0,46],["end"],
+        ["begin_nth_field",45],["set",0,45],["end"],["begin_nth_field",44],["set",0,44],["end"],["begin_nth_field",43],["set",0,43],["end"],
+        ["begin_nth_field",42],["set",0,42],["end"],["begin_nth_field",41],["set",0,41],["end"],["begin_nth_field",40],["set",0,40],["end"],
+        ["begin_nth_field",39],["set",0,39],["end"],["begin_nth_field",38],["set",0,38],["end"],["begin_nth_field",37],["set",0,37],["end"],
+        ["begin_nth_field",36],["set",0,36],["end"],["begin_nth_field",35],["set",0,35],["end"],["begin_nth_field",34],["set",0,34],["end"],
+        ["begin_nth_field",33],["set",0,33],["end"],["begin_nth_field",32],["set",0,32],["end"],["begin_nth_field",31],["set",0,31],["end"],
+        ["begin_nth_field",30],["set",0,30],["end"],["begin_nth_field",29],["set",0,29],["end"],["begin_nth_field",28],["set",0,28],["end"],
+        ["begin_nth_field",27],["set",0,27],["end"],["begin_nth_field",26],["set",0,26],["end"],["begin_nth_field",25],["set",0,25],["end"],
+        ["begin_nth_field",24],["set",0,24],["end"],["begin_nth_field",23],["set",0,23],["end"],["begin_nth_field",22],["set",0,22],["end"],
+        ["begin_nth_field",21],["set",0,21],["end"],["begin_nth_field",20],["set",0,20],["end"],["begin_nth_field",19],["set",0,19],["end"],
+        ["begin_nth_field",18],["set",0,18],["end"],["begin_nth_field",17],["set",0,17],["end"],["begin_nth_field",16],["set",0,16],["end"],
+        ["begin_nth_field",15],["set",0,15],["end"],["begin_nth_field",14],["set",0,14],["end"],["begin_nth_field",13],["set",0,13],["end"],
+        ["begin_nth_field",12],["set",0,12],["end"],["begin_nth_field",11],["set",0,11],["end"],["begin_nth_field",10],["set",0,10],["end"],
+        ["begin_nth_field",9],["set",0,9],["end"],["begin_nth_field",8],["set",0,8],["end"],["begin_nth_field",7],["set",0,7],["end"],
+        ["begin_nth_field",6],["set",0,6],["end"],["begin_nth_field",5],["set",0,5],["end"],["begin_nth_field",4],["set",0,4],["end"],
+        ["begin_nth_field",3],["set",0,3],["end"],["begin_nth_field",2],["set",0,2],["end"],["begin_nth_field",1],["set",0,1],["end"],
+        ["begin_nth_field",0],["set",0,0],["end"],
+        ["finish_deferred"]
+    ]}
+    = 0 {"ok":[
+        0,1,2,3,4,5,6,7,8,9,10,11,12,13,14,15,16,17,18,19,20,21,22,23,24,25,26,27,28,29,30,31,
+        32,33,34,35,36,37,38,39,40,41,42,43,44,45,46,47,48,49,50,51,52,53,54,55,56,57,58,59,60,61,62,63
+    ],"released":[]}
 "#;
 
 /// The shapes u32 (with the default 0), Dd (a field that is marked with 5) and Ss (two fields, with
@@ -133,48 +194,13 @@ const WHOLES_SET: &str = r#"
 "#;
 
 #[test]
-fn what_is_missing_is_filled_by_the_rules(rt: HostRuntime) -> Result<(), Fail> {
-    check_each(&rt, DEFAULTS, 3, DEFAULTS_TAKEN)?;
-    check_each(&rt, MARKED, 7, MARKS_TAKEN)
-}
-
-#[test]
-fn arrays_are_built_element_by_element(rt: HostRuntime) -> Result<(), Fail> {
-    check_each(&rt, ARRAYS, 8, ARRAYS_BUILT)
-}
-
-#[test]
-fn places_of_all_definitions_are_set_whole(rt: HostRuntime) -> Result<(), Fail> {
-    check_each(&rt, WHOLES, 4, WHOLES_SET)
-}
-
-/// Sets the elements of an A64 from the last to the first, between these commands.
-pub(crate) fn check_descending(
-    rt: &(impl Abort + AllocGlobal),
-    begin: &str,
-    finish: &str,
-) -> Result<(), Fail> {
-    let alloc = rt.alloc();
-    let mut document = String::from_str(alloc, ARRAYS)?;
-    let mut want = String::from_str(alloc, r#"{"ok":[0"#)?;
-    document.push_str(r#""root":1,"commands":["#)?;
-    document.push_str(begin)?;
-    for i in (1..64).rev() {
-        let element = format!(in alloc; "[\"begin_nth_field\",{i}],[\"set\",0,{i}],[\"end\"],")?;
-        document.push_str(element.as_str())?;
-    }
-    document.push_str(r#"["begin_nth_field",0],["set",0,0],["end"]"#)?;
-    document.push_str(finish)?;
-    document.push_str("]}")?;
-    for i in 1..64 {
-        let element = format!(in alloc; ",{i}")?;
-        want.push_str(element.as_str())?;
-    }
-    want.push_str(r#"],"released":[]}"#)?;
-    check(rt, "descending", document.as_bytes(), 0, want.as_str())
-}
-
-#[test]
-fn elements_may_come_in_any_order(rt: HostRuntime) -> Result<(), Fail> {
-    check_descending(&rt, "", "")
+fn what_is_missing_is_filled_and_elements_come_in_any_order(rt: HostRuntime) {
+    let tables = [
+        (DEFAULTS, 3, DEFAULTS_TAKEN),
+        (MARKED, 7, MARKS_TAKEN),
+        (ARRAYS, 8, ARRAYS_BUILT),
+        (ARRAYS, 2, DESCENDING),
+        (WHOLES, 4, WHOLES_SET),
+    ];
+    check_tables(&rt, &tables);
 }

@@ -1,14 +1,5 @@
 //! Whole runs over documents in memory.
-ghost use Rattle.std.specs.Prelude.{◌<◌};
-
-use crate::cases::check_each;
-use fr_script::{MemSink, MemSource, run};
-use fr_shape::Items;
-use std::alloc::Global;
-use std::process::Abort;
-use std::test::Fail;
-
-const PIECE: usize = 4096;
+use crate::documents::{PIECE, check_run, check_tables};
 
 /// A struct of a text and a struct of two numbers, built in the order of its fields.
 const NESTED: &str = r#"{"shapes":[
@@ -22,7 +13,11 @@ const NESTED: &str = r#"{"shapes":[
     ["begin_nth_field",1],["set",0,43],["end"],["end"]
 ]}"#;
 
-const NESTED_REPORT: &str = "{\"ok\":[\"Hello, world!\",[42,43]],\"released\":[]}\n";
+const NESTED_BUILT: &str = r#"
+    # a nested struct is built
+
+    = 0 {"ok":["Hello, world!",[42,43]],"released":[]}
+"#;
 
 /// The shapes u32, Res (opaque), Cell (a Res and a u32) and Pair (two Cells), before the root.
 pub(crate) const CELLS: &str = r#"{"shapes":[
@@ -72,6 +67,12 @@ const SCRIPTS: &str = r#"
     "root":2,"tokens":1,"commands":[["begin_nth_field",0],["set",1,{"t":0}],["begin_nth_field",0]]}
     = 1 {"error":{"command":2,"detail":"cannot select a field from an opaque type",
         "kind":"OperationFailed","path":"a"},"released":[0]}
+    # a field of a number
+    "root":2,"tokens":1,"commands":[
+        ["begin_nth_field",0],["set",1,{"t":0}],["end"],["begin_nth_field",1],["begin_nth_field",0]
+    ]}
+    = 1 {"error":{"command":4,"detail":"cannot select a field from this type",
+        "kind":"OperationFailed","path":"k"},"released":[0]}
     # a value that was only entered
     "root":2,"tokens":1,"commands":[
         ["begin_nth_field",0],["set",1,{"t":0}],["end"],["begin_nth_field",1],["end"]
@@ -91,222 +92,109 @@ const SCRIPTS: &str = r#"
     = 2 {"command":0,"fault":"Invalid"}
 "#;
 
-/// Documents at fault, with what is reported on each.
-const FAULTS: [(&str, &str, &str); 17] = [
-    ("no bytes", "", r#"{"fault":"NotJson"}"#),
-    (
-        "a float",
-        r#"{"shapes":[],"root":1.5,"commands":[]}"#,
-        r#"{"fault":"HasFloat"}"#,
-    ),
-    (
-        "no object",
-        "[]",
-        r#"{"fault":"BadForm","place":"document"}"#,
-    ),
-    (
-        "an unknown key",
-        r#"{"shapes":[],"root":0,"commands":[],"x":0}"#,
-        r#"{"fault":"BadForm","place":"document"}"#,
-    ),
-    (
-        "shapes that are no array",
-        r#"{"shapes":0,"root":0,"commands":[]}"#,
-        r#"{"fault":"BadForm","place":"shapes"}"#,
-    ),
-    (
-        "a shape that is broken, behind one that breaks a rule",
-        r#"{"shapes":[{"name":"a","def":"u32","convert":0},{"name":"b","def":0}],"root":0,"commands":[]}"#,
-        r#"{"fault":"BadForm","place":"shape 1"}"#,
-    ),
-    (
-        "a root past the shapes",
-        r#"{"shapes":[],"root":0,"commands":[]}"#,
-        r#"{"fault":"BadForm","place":"root"}"#,
-    ),
-    (
-        "a negative number of tokens",
-        r#"{"shapes":[{"name":"a","def":"u32"}],"root":0,"tokens":-1,"commands":[]}"#,
-        r#"{"fault":"BadForm","place":"tokens"}"#,
-    ),
-    (
-        "commands that are no array",
-        r#"{"shapes":[{"name":"a","def":"u32"}],"root":0,"commands":{}}"#,
-        r#"{"fault":"BadForm","place":"commands"}"#,
-    ),
-    (
-        "the first of three broken commands",
-        r#"{"shapes":[
-            {"name":"a","def":"u32"}
-        ],"root":0,"commands":[["end"],["init_list_with_capacity",-1],["ends"],["end",0]]}"#,
-        r#"{"fault":"BadForm","place":"command 1"}"#,
-    ),
-    (
-        "a byte beyond 255",
-        r#"{"shapes":[
-            {"name":"a","def":"u32"}
-        ],"root":0,"commands":[["parse_from_bytes",[0,255]],["parse_from_bytes",[0,256]]]}"#,
-        r#"{"fault":"BadForm","place":"command 1"}"#,
-    ),
-    (
-        "too many tokens",
-        r#"{"shapes":[{"name":"a","def":"u32"}],"root":0,"tokens":1000001,"commands":[]}"#,
-        r#"{"fault":"TooLarge","what":"tokens"}"#,
-    ),
-    (
-        "an id past the shapes",
-        r#"{"shapes":[{"name":"a","def":{"list":5}}],"root":0,"commands":[]}"#,
-        r#"{"entry":0,"fault":"Unchecked","rule":1}"#,
-    ),
-    (
-        "two shapes of one name",
-        r#"{"shapes":[{"name":"a","def":"u32"},{"name":"a","def":"u32"}],"root":0,"commands":[]}"#,
-        r#"{"entry":1,"fault":"Unchecked","rule":2}"#,
-    ),
-    (
-        "a default that doesn't fit its shape",
-        r#"{"shapes":[{"name":"u","def":"u8","preset":256}],"root":0,"commands":[]}"#,
-        r#"{"entry":0,"fault":"Unchecked","rule":6}"#,
-    ),
-    (
-        "an option whose default is something",
-        r#"{"shapes":[
-            {"name":"u","def":"u8"},
-            {"name":"o","def":{"option":0},"preset":{"s":1}}
-        ],"root":0,"commands":[]}"#,
-        r#"{"entry":1,"fault":"Unchecked","rule":9}"#,
-    ),
-    (
-        "an id past the shapes in a set",
-        r#"{"shapes":[{"name":"a","def":"u32"}],"root":0,"commands":[["end"],["set",1,0]]}"#,
-        r#"{"command":1,"fault":"Invalid"}"#,
-    ),
-];
+/// Documents at fault, with what is reported on each; and one that is at a limit.
+const FAULTS: &str = r#"
+    # no bytes
 
-/// The status, and what the sink took.
-fn run_on(
-    alloc: Global,
-    word: &str,
-    input: &[u8],
-    sink_piece: usize,
-    sink_fails: Items<u64>,
-) -> Result<(u8, Vec<u8>), Fail>
-    requires { 0 < sink_piece }
-{
-    let mut source = MemSource::new(
-        Items::from_vec(input.to_vec(alloc)?),
-        PIECE,
-        Items::new(alloc),
+    = 2 {"fault":"NotJson"}
+    # a float
+    {"shapes":[],"root":1.5,"commands":[]}
+    = 2 {"fault":"HasFloat"}
+    # no object
+    []
+    = 2 {"fault":"BadForm","place":"document"}
+    # an unknown key
+    {"shapes":[],"root":0,"commands":[],"x":0}
+    = 2 {"fault":"BadForm","place":"document"}
+    # shapes that are no array
+    {"shapes":0,"root":0,"commands":[]}
+    = 2 {"fault":"BadForm","place":"shapes"}
+    # a shape that is broken, behind one that breaks a rule
+    {"shapes":[{"name":"a","def":"u32","convert":0},{"name":"b","def":0}],"root":0,"commands":[]}
+    = 2 {"fault":"BadForm","place":"shape 1"}
+    # a root past the shapes
+    {"shapes":[],"root":0,"commands":[]}
+    = 2 {"fault":"BadForm","place":"root"}
+    # a negative number of tokens
+    {"shapes":[{"name":"a","def":"u32"}],"root":0,"tokens":-1,"commands":[]}
+    = 2 {"fault":"BadForm","place":"tokens"}
+    # commands that are no array
+    {"shapes":[{"name":"a","def":"u32"}],"root":0,"commands":{}}
+    = 2 {"fault":"BadForm","place":"commands"}
+    # the first of three broken commands
+    {"shapes":[
+        {"name":"a","def":"u32"}
+    ],"root":0,"commands":[["end"],["init_list_with_capacity",-1],["ends"],["end",0]]}
+    = 2 {"fault":"BadForm","place":"command 1"}
+    # a byte beyond 255
+    {"shapes":[
+        {"name":"a","def":"u32"}
+    ],"root":0,"commands":[["parse_from_bytes",[0,255]],["parse_from_bytes",[0,256]]]}
+    = 2 {"fault":"BadForm","place":"command 1"}
+    # as many tokens as there may be
+    {"shapes":[{"name":"b","def":"u32"}],"root":0,"tokens":1000000,"commands":[]}
+    = 1 {"error":{"command":0,"detail":"b","kind":"UninitializedValue","path":""},"released":[]}
+    # too many tokens
+    {"shapes":[{"name":"a","def":"u32"}],"root":0,"tokens":1000001,"commands":[]}
+    = 2 {"fault":"TooLarge","what":"tokens"}
+    # an id past the shapes
+    {"shapes":[{"name":"a","def":{"list":5}}],"root":0,"commands":[]}
+    = 2 {"entry":0,"fault":"Unchecked","rule":1}
+    # two shapes of one name
+    {"shapes":[{"name":"a","def":"u32"},{"name":"a","def":"u32"}],"root":0,"commands":[]}
+    = 2 {"entry":1,"fault":"Unchecked","rule":2}
+    # a default that doesn't fit its shape
+    {"shapes":[{"name":"u","def":"u8","preset":256}],"root":0,"commands":[]}
+    = 2 {"entry":0,"fault":"Unchecked","rule":6}
+    # an option whose default is something
+    {"shapes":[
+        {"name":"u","def":"u8"},
+        {"name":"o","def":{"option":0},"preset":{"s":1}}
+    ],"root":0,"commands":[]}
+    = 2 {"entry":1,"fault":"Unchecked","rule":9}
+    # an id past the shapes in a set
+    {"shapes":[{"name":"a","def":"u32"}],"root":0,"commands":[["end"],["set",1,0]]}
+    = 2 {"command":1,"fault":"Invalid"}
+"#;
+
+#[test]
+fn scripts_and_faults_of_documents_are_reported(rt: HostRuntime) {
+    let tables = [
+        (NESTED, 1, NESTED_BUILT),
+        (CELLS, 14, SCRIPTS),
+        ("", 18, FAULTS),
+    ];
+    check_tables(&rt, &tables);
+}
+
+#[test]
+fn other_words_cut_texts_and_failing_devices_are_told(rt: HostRuntime) {
+    let usage = "usage: build | plan | gen N\n";
+    check_run(&rt, ("other words", "bild"), b"", (0, PIECE, 0), (3, usage));
+    let input = NESTED.as_bytes();
+    let Some((_, front)) = input.split_last() else {
+        panic!(rt; "no bytes");
+    };
+    let cut = "{\"fault\":\"NotJson\"}\n";
+    check_run(
+        &rt,
+        ("a text that is cut", "build"),
+        front,
+        (0, PIECE, 0),
+        (2, cut),
     );
-    let mut sink = MemSink::new(alloc, sink_piece, sink_fails);
-    let words = vec![in alloc; String::from_str(alloc, word)?]?;
-    let status = run(alloc, words.as_slice(), &mut source, &mut sink);
-    Ok((status, sink.taken().to_vec(alloc)?))
-}
-
-/// The one line of a report that is laid out over lines.
-fn unfolded(alloc: Global, report: &str) -> Result<String, Fail> {
-    let mut line = String::new(alloc);
-    for part in report.lines() {
-        line.push_str(part.trim_start())?;
-    }
-    line.push_str("\n")?;
-    Ok(line)
-}
-
-/// Runs `build` and compares the status and the report, which `want` may lay out over lines.
-pub(crate) fn check(
-    rt: &(impl Abort + AllocGlobal),
-    name: &str,
-    input: &[u8],
-    status: u8,
-    want: &str,
-) -> Result<(), Fail> {
-    check_under(rt, "build", name, input, status, want)
-}
-
-/// The same under a word.
-pub(crate) fn check_under(
-    rt: &(impl Abort + AllocGlobal),
-    word: &str,
-    name: &str,
-    input: &[u8],
-    status: u8,
-    want: &str,
-) -> Result<(), Fail> {
-    let alloc = rt.alloc();
-    let (ended, taken) = run_on(alloc, word, input, PIECE, Items::new(alloc))?;
-    let line = unfolded(alloc, want)?;
-    assert!(rt;
-        ended == status && taken.as_slice() == line.as_bytes(),
-        "{name}"
+    check_run(
+        &rt,
+        ("a sink that fails", "build"),
+        input,
+        (0, 4, 2),
+        (5, "{\"ok"),
     );
-    Ok(())
-}
-
-#[test]
-fn a_nested_struct_is_built(rt: HostRuntime) -> Result<(), Fail> {
-    let alloc = rt.alloc();
-    let (ended, taken) = run_on(alloc, "build", NESTED.as_bytes(), PIECE, Items::new(alloc))?;
-    assert!(rt; ended == 0);
-    assert!(rt; taken.as_slice() == NESTED_REPORT.as_bytes());
-    Ok(())
-}
-
-#[test]
-fn scripts_over_cells_are_reported(rt: HostRuntime) -> Result<(), Fail> {
-    check_each(&rt, CELLS, 13, SCRIPTS)
-}
-
-#[test]
-fn faults_of_documents_are_told(rt: HostRuntime) -> Result<(), Fail> {
-    for (name, document, want) in FAULTS {
-        check(&rt, name, document.as_bytes(), 2, want)?;
-    }
-    Ok(())
-}
-
-#[test]
-fn a_text_that_is_cut_is_not_json(rt: HostRuntime) -> Result<(), Fail> {
-    let bytes = NESTED.as_bytes();
-    if let Some((_, front)) = bytes.split_last() {
-        check(&rt, "cut", front, 2, r#"{"fault":"NotJson"}"#)?;
-    }
-    Ok(())
-}
-
-#[test]
-fn other_words_get_the_usage_line(rt: HostRuntime) -> Result<(), Fail> {
-    let alloc = rt.alloc();
-    let (ended, taken) = run_on(alloc, "bild", b"", PIECE, Items::new(alloc))?;
-    assert!(rt; ended == 3);
-    assert!(rt; taken.as_slice() == b"usage: build | plan | gen N\n".as_slice());
-    Ok(())
-}
-
-#[test]
-fn a_sink_that_fails_ends_with_status_5(rt: HostRuntime) -> Result<(), Fail> {
-    let alloc = rt.alloc();
-    let fails = Items::from_vec(vec![in alloc; 2u64]?);
-    let (ended, taken) = run_on(alloc, "build", NESTED.as_bytes(), 4, fails)?;
-    assert!(rt; ended == 5);
-    assert!(rt; taken.as_slice() == b"{\"ok".as_slice());
-    Ok(())
-}
-
-#[test]
-fn a_source_that_fails_ends_with_status_4(rt: HostRuntime) -> Result<(), Fail> {
-    let alloc = rt.alloc();
-    let fails = Items::from_vec(vec![in alloc; 1u64]?);
-    let mut source = MemSource::new(
-        Items::from_vec(NESTED.as_bytes().to_vec(alloc)?),
-        PIECE,
-        fails,
+    check_run(
+        &rt,
+        ("a source that fails", "build"),
+        input,
+        (1, PIECE, 0),
+        (4, ""),
     );
-    let mut sink = MemSink::new(alloc, PIECE, Items::new(alloc));
-    let words = vec![in alloc; String::from_str(alloc, "build")?]?;
-    let status = run(alloc, words.as_slice(), &mut source, &mut sink);
-    assert!(rt; status == 4);
-    assert!(rt; sink.taken().len() == 0);
-    Ok(())
 }

@@ -1,11 +1,11 @@
 //! Each text that an error can have today, printed once.
-use crate::cases::check_each;
-use std::test::Fail;
+use crate::documents::check_tables;
 
 /// The shapes 0 u32, 1 String, 2 opaque, 3 an enum, 4 undefined, 5 a pointer, 6 an array of three,
 /// 7 an option, 8 a struct of an array and a u32, 9 a shape that can't be planned, 10 one without a
 /// size, 11 an array that can't be entered, 12 a struct whose field is marked to take a default
-/// that there isn't.
+/// that there isn't, 13 a pointer to nothing known, 14 an enum whose layout has a niche, 15 a
+/// wrapper without a hook.
 const SHAPES: &str = r#"{"shapes":[
     {"name":"u32","def":"u32"},
     {"name":"String","def":"String"},
@@ -21,7 +21,12 @@ const SHAPES: &str = r#"{"shapes":[
     {"name":"Odd","def":"other"},
     {"name":"str","def":"str"},
     {"name":"Many","def":{"array":[0,4097]}},
-    {"name":"Marked","def":{"struct":[{"name":"a","shape":0,"default":"trait"}]}}
+    {"name":"Marked","def":{"struct":[{"name":"a","shape":0,"default":"trait"}]}},
+    {"name":"Loose","def":{"pointer":{"known":"Box"}}},
+    {"name":"Niche","def":{"enum":{"repr":"RustNPO","variants":[
+        {"name":"A","fields":[],"discriminant":0}
+    ]}}},
+    {"name":"Wrapper","def":"other","inner":0}
 ],"#;
 
 const REFUSED: &str = r#"
@@ -123,6 +128,18 @@ const REFUSED: &str = r#"
     # a shape without a size
     "root":10,"commands":[]}
     = 1 {"error":{"command":0,"detail":"type is not sized","kind":"Alloc","path":""},"released":[]}
+    # a wrapper that nothing converts to
+    "root":15,"commands":[]}
+    = 1 {"error":{"command":0,"detail":"transparent wrapper requires try_from for deserialization",
+        "kind":"Alloc","path":""},"released":[]}
+    # what a pointer to nothing known points to
+    "root":13,"commands":[["begin_smart_ptr"]]}
+    = 1 {"error":{"command":0,"detail":"Smart pointer must have a pointee shape",
+        "kind":"OperationFailed","path":""},"released":[]}
+    # a variant of an enum whose layout has a niche
+    "root":14,"commands":[["select_nth_variant",0]]}
+    = 1 {"error":{"command":0,"detail":"RustNPO enums are not supported for incremental building",
+        "kind":"OperationFailed","path":""},"released":[]}
     # a number that isn't set
     "root":0,"commands":[]}
     = 1 {"error":{"command":0,"detail":"u32","kind":"UninitializedValue","path":""},"released":[]}
@@ -135,6 +152,7 @@ const REFUSED: &str = r#"
 "#;
 
 #[test]
-fn each_text_is_printed(rt: HostRuntime) -> Result<(), Fail> {
-    check_each(&rt, SHAPES, 30, REFUSED)
+fn each_text_is_printed(rt: HostRuntime) {
+    let tables = [(SHAPES, 33, REFUSED)];
+    check_tables(&rt, &tables);
 }

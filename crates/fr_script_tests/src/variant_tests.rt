@@ -1,7 +1,6 @@
 //! Enums in documents: variants are selected, switched and gone on with; and fields that are set to
 //! their defaults.
-use crate::cases::check_each;
-use std::test::Fail;
+use crate::documents::check_tables;
 
 /// The shapes u32, Res (opaque) and FooBar (an enum of Foo, which has no fields, and of Bar),
 /// before the root.
@@ -227,21 +226,12 @@ const DEFAULTED: &str = r#"
 "#;
 
 #[test]
-fn a_variant_keeps_its_fields_until_another_is_selected(rt: HostRuntime) -> Result<(), Fail> {
-    check_each(&rt, FOO_BAR, 11, SELECTED)
-}
-
-#[test]
-fn a_variant_is_told_by_number_name_or_discriminant(rt: HostRuntime) -> Result<(), Fail> {
-    check_each(&rt, LEVELS, 11, TOLD)
-}
-
-#[test]
-fn a_variant_is_told_among_many(rt: HostRuntime) -> Result<(), Fail> {
-    check_each(&rt, WIDE, 13, AMONG_MANY)
-}
-
-#[test]
-fn fields_are_set_to_their_defaults(rt: HostRuntime) -> Result<(), Fail> {
-    check_each(&rt, DEFAULTS, 5, DEFAULTED)
+fn variants_are_selected_and_fields_set_to_defaults(rt: HostRuntime) {
+    let tables = [
+        (FOO_BAR, 11, SELECTED),
+        (LEVELS, 11, TOLD),
+        (WIDE, 13, AMONG_MANY),
+        (DEFAULTS, 5, DEFAULTED),
+    ];
+    check_tables(&rt, &tables);
 }

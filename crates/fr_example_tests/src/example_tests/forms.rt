@@ -17,8 +17,22 @@ const SERVER: &str = r#"[
     ]}}
 ]"#;
 
+/// What is filled in at a form, and what its user sees.
+const FORMS: [(&str, &str); 5] = [
+    ("port=8080 host=example.org", r#"["example.org",8080,4]"#),
+    // The last of a name wins.
+    ("port=80 host=a workers=9 port=8080", r#"["a",8080,9]"#),
+    // Each bad field is named.
+    (
+        "port=70000 host=a colour=red workers=many",
+        "port: not a u16\ncolour: no such field\nworkers: not a u8",
+    ),
+    ("port=8080", "host is missing"),
+    ("port=80 host=a", "port: must be >= 1024, got 80"),
+];
+
 /// Ends the test where a user of the form sees something else.
-fn check_form(rt: &(impl Abort + AllocGlobal), fields: &[(&str, &str)], want: &str) {
+fn check_form(rt: &(impl Abort + AllocGlobal), fields: &str, want: &str) {
     let table = table_of(rt, SERVER);
     let mut ledger = no_tokens(rt, rt.alloc());
     let fields = pairs_of(rt, rt.alloc(), fields);
@@ -41,52 +55,8 @@ fn check_form(rt: &(impl Abort + AllocGlobal), fields: &[(&str, &str)], want: &s
 }
 
 #[test]
-fn builds(rt: HostRuntime) {
-    check_form(
-        &rt,
-        &[("port", "8080"), ("host", "example.org")],
-        r#"["example.org",8080,4]"#,
-    );
-}
-
-#[test]
-fn last_of_a_name_wins(rt: HostRuntime) {
-    check_form(
-        &rt,
-        &[
-            ("port", "80"),
-            ("host", "a"),
-            ("workers", "9"),
-            ("port", "8080"),
-        ],
-        r#"["a",8080,9]"#,
-    );
-}
-
-#[test]
-fn names_every_bad_field(rt: HostRuntime) {
-    check_form(
-        &rt,
-        &[
-            ("port", "70000"),
-            ("host", "a"),
-            ("colour", "red"),
-            ("workers", "many"),
-        ],
-        "port: not a u16\ncolour: no such field\nworkers: not a u8",
-    );
-}
-
-#[test]
-fn tells_what_is_missing(rt: HostRuntime) {
-    check_form(&rt, &[("port", "8080")], "host is missing");
-}
-
-#[test]
-fn tells_what_is_not_valid(rt: HostRuntime) {
-    check_form(
-        &rt,
-        &[("port", "80"), ("host", "a")],
-        "port: must be >= 1024, got 80",
-    );
+fn a_form_builds_or_says_what_is_wrong(rt: HostRuntime) {
+    for (fields, want) in FORMS {
+        check_form(&rt, fields, want);
+    }
 }

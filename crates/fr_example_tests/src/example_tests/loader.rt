@@ -1,11 +1,7 @@
 //! The loader of lines, and what whoever wrote the lines is told.
-ghost use Rattle.fr_shape.specs.Checked.{IsChecked};
-ghost use Rattle.fr_shape.specs.Numbered.{IsNumbered};
-
 use super::texts::{check_text, check_value, no_tokens, table_of};
-use fr_example::{LoadError, load};
-use fr_partial::Built;
-use fr_shape::{NoHooks, ShapeId, ShapeTable};
+use fr_example::load;
+use fr_shape::{NoHooks, ShapeId};
 use std::process::Abort;
 
 /// A service: a name, a database in a group, and a listener with a group for certificates.
@@ -32,44 +28,10 @@ const SERVICE: &str = r#"[
     ]}}
 ]"#;
 
-fn loaded(
-    rt: &(impl Abort + AllocGlobal),
-    table: &ShapeTable,
-    text: &str,
-) -> Result<Built, LoadError>
-    requires checked { IsChecked table.now }
-    requires numbered { IsNumbered table.now }
-{
-    let mut ledger = no_tokens(rt, rt.alloc());
-    assert!(rt; 6 < table.len());
-    load(rt.alloc(), table, ShapeId(6), &NoHooks, text, &mut ledger)
-}
-
-/// Ends the test where the service of these lines is printed otherwise.
-fn check_service(rt: &(impl Abort + AllocGlobal), text: &str, want: &str) {
-    let table = table_of(rt, SERVICE);
-    match loaded(rt, &table, text) {
-        Ok(built) => check_value(rt, built.value(), want),
-        Err(_) => panic!(rt; "refused"),
-    }
-}
-
-/// Ends the test where these lines make a service, or the error is told in other words.
-fn check_words(rt: &(impl Abort + AllocGlobal), text: &str, want: &str) {
-    let table = table_of(rt, SERVICE);
-    let Err(error) = loaded(rt, &table, text) else {
-        panic!(rt; "loaded");
-    };
-    match error.in_words(rt.alloc(), &table, ShapeId(6), text) {
-        Ok(words) => check_text(rt, words.as_str(), want),
-        Err(_) => panic!(rt; "no memory"),
-    }
-}
-
-#[test]
-fn groups_are_come_back_to(rt: HostRuntime) {
-    check_service(
-        &rt,
+/// Lines, and the service that they make or what is told of them.
+const LINES: [(&str, &str); 8] = [
+    // Groups are come back to.
+    (
         "\
 # where it listens
 listen.port = 443
@@ -81,48 +43,47 @@ name = search
 db.pool=8
 ",
         r#"["search",["postgres://db/main",8],[443,["/etc/cert.pem",true]]]"#,
-    );
-}
-
-#[test]
-fn a_later_line_takes_the_place_of_an_earlier_one(rt: HostRuntime) {
-    check_service(
-        &rt,
+    ),
+    // A later line takes the place of an earlier one.
+    (
         "name = a\r\nname = b = c\r\ndb.url = \r\nlisten.port = 80\r\nlisten.tls.cert = x",
         r#"["b = c",["",4],[80,["x",true]]]"#,
-    );
-}
-
-#[test]
-fn a_missing_field_is_told(rt: HostRuntime) {
-    check_words(
-        &rt,
+    ),
+    // A missing field is told.
+    (
         "name = search\ndb.url = u\nlisten.port = 443\nlisten.tls.strict = false",
         "missing: listen.tls.cert",
-    );
-    check_words(&rt, "name = search", "missing: db");
-}
-
-#[test]
-fn a_line_that_is_refused_is_told(rt: HostRuntime) {
-    check_words(
-        &rt,
-        "name = search\ndb.uri = u",
-        "line 2: db: no such field",
-    );
-    check_words(
-        &rt,
-        "\n\nlisten.port = many",
-        "line 3: listen.port: not a u16",
-    );
-    check_words(
-        &rt,
+    ),
+    ("name = search", "missing: db"),
+    // A line that is refused is told.
+    ("name = search\ndb.uri = u", "line 2: db: no such field"),
+    ("\n\nlisten.port = many", "line 3: listen.port: not a u16"),
+    (
         "name.first = a",
         "line 1: name: cannot select a field from a primitive type",
-    );
+    ),
+    // A line that is none is told first.
+    ("nmae = search\nname", "line 2: no `key = value`"),
+];
+
+/// Ends the test where the service of these lines is printed otherwise, or the error is told in
+/// other words.
+fn check_load(rt: &(impl Abort + AllocGlobal), text: &str, want: &str) {
+    let table = table_of(rt, SERVICE);
+    let mut ledger = no_tokens(rt, rt.alloc());
+    assert!(rt; 6 < table.len());
+    match load(rt.alloc(), &table, ShapeId(6), &NoHooks, text, &mut ledger) {
+        Ok(built) => check_value(rt, built.value(), want),
+        Err(error) => match error.in_words(rt.alloc(), &table, ShapeId(6), text) {
+            Ok(words) => check_text(rt, words.as_str(), want),
+            Err(_) => panic!(rt; "no memory"),
+        },
+    }
 }
 
 #[test]
-fn a_line_that_is_none_is_told_first(rt: HostRuntime) {
-    check_words(&rt, "nmae = search\nname", "line 2: no `key = value`");
+fn lines_are_loaded_or_it_is_told_what_is_wrong(rt: HostRuntime) {
+    for (text, want) in LINES {
+        check_load(&rt, text, want);
+    }
 }

@@ -4,14 +4,14 @@ ghost use Rattle.std.specs.Prelude.{◌≡◌, true};
 ghost use Rattle.fr_shape.specs.declared.shape.Def.{Def};
 ghost use Rattle.fr_shape.specs.declared.shape.ScalarKind.{ScalarKind};
 ghost use Rattle.fr_shape.specs.Look.{def_of};
+ghost use Rattle.fr_shape.specs.Checked.{IsChecked};
+ghost use Rattle.fr_shape.specs.Numbered.{IsNumbered};
 ghost use Rattle.fr_example.specs.Meant.{is_struct};
 
-use super::texts::{check_text, check_value, no_tokens, table_of};
+use super::texts::{check_kind, check_value, no_tokens, table_of};
 use fr_example::{Pair, record_of};
 use fr_partial::{Built, ReflectError};
-use fr_shape::{
-    Def, FieldRef, Items, NoHooks, ReflectErrorKind, ScalarKind, ShapeId, ShapeTable, Text,
-};
+use fr_shape::{Def, Items, NoHooks, ScalarKind, ShapeId, ShapeTable, Text};
 use std::alloc::Global;
 use std::process::Abort;
 
@@ -46,13 +46,19 @@ fn has_fields(table: &ShapeTable, id: ShapeId) -> bool
 }
 
 /// The person of these pairs.
-fn person(rt: &(impl Abort + AllocGlobal), pairs: Items<Pair>) -> Result<Built, ReflectError> {
-    let table = table_of(rt, PERSON);
+fn person(
+    rt: &(impl Abort + AllocGlobal),
+    table: &ShapeTable,
+    pairs: Items<Pair>,
+) -> Result<Built, ReflectError>
+    requires checked { IsChecked table.now }
+    requires numbered { IsNumbered table.now }
+{
     let mut ledger = no_tokens(rt, rt.alloc());
-    assert!(rt; has_fields(&table, ShapeId(2)) && is_string(&table, ShapeId(0)));
+    assert!(rt; has_fields(table, ShapeId(2)) && is_string(table, ShapeId(0)));
     record_of(
         rt.alloc(),
-        &table,
+        table,
         ShapeId(2),
         ShapeId(0),
         &NoHooks,
@@ -68,13 +74,16 @@ fn text(rt: &impl Abort, alloc: Global, s: &str) -> Text {
     }
 }
 
-/// These pairs of a field's name and a text.
-pub fn pairs_of(rt: &impl Abort, alloc: Global, pairs: &[(&str, &str)]) -> Items<Pair> {
+/// The pairs of a field's name and a text that words like `name=Ana` stand for.
+pub fn pairs_of(rt: &impl Abort, alloc: Global, pairs: &str) -> Items<Pair> {
     let mut items = Items::new(alloc);
-    for (name, said) in pairs {
+    for word in pairs.split(' ') {
+        let Some((name, said)) = word.split_once('=') else {
+            panic!(rt; "no pair");
+        };
         let pair = Pair {
-            name: text(rt, alloc, *name),
-            text: text(rt, alloc, *said),
+            name: text(rt, alloc, name),
+            text: text(rt, alloc, said),
         };
         let pushed = items.push(pair);
         assert!(rt; pushed.is_ok());
@@ -82,75 +91,37 @@ pub fn pairs_of(rt: &impl Abort, alloc: Global, pairs: &[(&str, &str)]) -> Items
     items
 }
 
-/// Ends the test where the person of these pairs is printed otherwise.
-fn check_person(rt: &(impl Abort + AllocGlobal), pairs: &[(&str, &str)], want: &str) {
-    match person(rt, pairs_of(rt, rt.alloc(), pairs)) {
-        Ok(built) => check_value(rt, built.value(), want),
-        Err(_) => panic!(rt; "refused"),
-    }
-}
-
-/// Why there is no person of these pairs.
-fn refusal_of(rt: &(impl Abort + AllocGlobal), pairs: &[(&str, &str)]) -> ReflectErrorKind {
-    match person(rt, pairs_of(rt, rt.alloc(), pairs)) {
-        Ok(_) => panic!(rt; "not refused"),
-        Err(error) => error.kind,
-    }
-}
-
-#[test]
-fn builds_out_of_order(rt: HostRuntime) {
-    check_person(
-        &rt,
-        &[("email", "ana@example.org"), ("name", "Ana")],
+/// Pairs, and the person that they make or why there is none. The first that is refused is told.
+const PERSONS: [(&str, &str); 6] = [
+    // In another order than that of the fields.
+    (
+        "email=ana@example.org name=Ana",
         r#"["Ana","ana@example.org",30]"#,
-    );
-}
-
-#[test]
-fn last_of_a_name_wins(rt: HostRuntime) {
-    check_person(
-        &rt,
-        &[
-            ("name", "Ana"),
-            ("email", "ana@example.org"),
-            ("name", "Eva"),
-        ],
+    ),
+    // The last of a name wins.
+    (
+        "name=Ana email=ana@example.org name=Eva",
         r#"["Eva","ana@example.org",30]"#,
-    );
+    ),
+    ("nam=?", "no such field"),
+    ("age=?", "not a u8"),
+    ("name=?", "email is missing"),
+    ("email=ana name=Ana", "email: 'ana' does not contain '@'"),
+];
+
+/// Ends the test where the person of these pairs is printed otherwise, or the refusal is told in
+/// other words.
+fn check_person(rt: &(impl Abort + AllocGlobal), pairs: &str, want: &str) {
+    let table = table_of(rt, PERSON);
+    match person(rt, &table, pairs_of(rt, rt.alloc(), pairs)) {
+        Ok(built) => check_value(rt, built.value(), want),
+        Err(error) => check_kind(rt, &table, &error.kind, want),
+    }
 }
 
 #[test]
-fn refuses(rt: HostRuntime) {
-    let kind = refusal_of(&rt, &[("nam", "?")]);
-    assert!(rt; matches!(kind, ReflectErrorKind::FieldError { shape: ShapeId(2) }));
-    let kind = refusal_of(&rt, &[("age", "?")]);
-    assert!(rt;
-        matches!(
-            kind,
-            ReflectErrorKind::WrongShape {
-                expected: ShapeId(1),
-                actual: ShapeId(0)
-            }
-        )
-    );
-    let kind = refusal_of(&rt, &[("name", "?")]);
-    assert!(rt;
-        matches!(
-            kind,
-            ReflectErrorKind::UninitializedField {
-                field: FieldRef {
-                    shape: ShapeId(2),
-                    variant: None,
-                    index: 1
-                },
-            }
-        )
-    );
-    match refusal_of(&rt, &[("email", "ana"), ("name", "Ana")]) {
-        ReflectErrorKind::ValidationFailed { message, .. } => {
-            check_text(&rt, message.as_str(), "'ana' does not contain '@'")
-        }
-        _ => panic!(rt; "another refusal"),
+fn a_person_is_built_or_it_is_told_why_not(rt: HostRuntime) {
+    for (pairs, want) in PERSONS {
+        check_person(&rt, pairs, want);
     }
 }

@@ -1,31 +1,18 @@
 //! A struct of the caller's own, by its type.
-use super::texts::{check_text, no_tokens};
-use fr_example::{Server, Unbuilt, build_server, server_table, write_kind};
-use fr_partial::{Facet, ReflectError};
-use fr_shape::{Items, OutOfMemory, ScalarKind, Shape, ShapeId, ShapeTable};
+use super::texts::{check_kind, no_tokens, table_of};
+use fr_example::{Server, Unbuilt, build_server, server_table};
+use fr_partial::Facet;
+use fr_shape::ShapeId;
 use std::alloc::Global;
 use std::process::Abort;
 
 /// The table of a server, but for the order of its fields.
-fn turned_round(alloc: Global) -> Result<ShapeTable, OutOfMemory> {
-    let (host, port, ports) = (ShapeId(0), ShapeId(1), ShapeId(2));
-    let fields = [("ports", ports), ("host", host)];
-    let mut shapes = Items::new(alloc);
-    shapes.push(Shape::scalar(alloc, ScalarKind::String)?)?;
-    shapes.push(Shape::scalar(alloc, ScalarKind::U16)?)?;
-    shapes.push(Shape::list_of(alloc, "Vec<u16>", port)?)?;
-    shapes.push(Shape::struct_of(alloc, "Server", &fields)?)?;
-    Ok(ShapeTable::new(alloc, shapes))
-}
-
-#[test]
-fn a_server_has_its_fields_in_order(rt: HostRuntime) {
-    let (Ok(own), Ok(other)) = (server_table(rt.alloc()), turned_round(rt.alloc())) else {
-        panic!(rt; "no memory");
-    };
-    assert!(rt; Server::find(&own) == Some(ShapeId(3)));
-    assert!(rt; Server::find(&other).is_none());
-}
+const TURNED_ROUND: &str = r#"[
+    {"name":"String","def":"String"},
+    {"name":"u16","def":"u16"},
+    {"name":"Vec<u16>","def":{"list":1}},
+    {"name":"Server","def":{"struct":[{"name":"ports","shape":2},{"name":"host","shape":0}]}}
+]"#;
 
 /// A text of the program's own.
 fn text(rt: &impl Abort, alloc: Global, letters: &str) -> String {
@@ -45,20 +32,8 @@ fn served(rt: &(impl Abort + AllocGlobal), host: Option<&str>) -> Result<Server,
     build_server(rt.alloc(), host, (80, 8080), &mut ledger)
 }
 
-/// Ends the test where a user is told something else.
-fn check_told(rt: &(impl Abort + AllocGlobal), error: &ReflectError, want: &str) {
-    let Ok(table) = server_table(rt.alloc()) else {
-        panic!(rt; "no memory");
-    };
-    let mut words = String::new(rt.alloc());
-    match write_kind(&mut words, &table, &error.kind) {
-        Ok(()) => check_text(rt, words.as_str(), want),
-        Err(_) => panic!(rt; "no memory"),
-    }
-}
-
 #[test]
-fn a_server_is_built_by_its_type(rt: HostRuntime) {
+fn a_server_is_built_by_its_type_and_has_its_fields_in_order(rt: HostRuntime) {
     let Ok(server) = served(&rt, Some("example.org")) else {
         panic!(rt; "not built");
     };
@@ -68,5 +43,11 @@ fn a_server_is_built_by_its_type(rt: HostRuntime) {
         panic!(rt; "not refused");
     };
     assert!(rt; error.path.is_empty());
-    check_told(&rt, &error, "host is missing");
+    let Ok(own) = server_table(rt.alloc()) else {
+        panic!(rt; "no memory");
+    };
+    check_kind(&rt, &own, &error.kind, "host is missing");
+    assert!(rt; Server::find(&own) == Some(ShapeId(3)));
+    let other = table_of(&rt, TURNED_ROUND);
+    assert!(rt; Server::find(&other).is_none());
 }

@@ -4,7 +4,8 @@ ghost use Rattle.fr_shape.specs.Checked.{IsChecked};
 ghost use Rattle.fr_shape.specs.Numbered.{IsNumbered};
 
 use fr_doc::{json_of, shapes_of};
-use fr_shape::{Ledger, ShapeTable, Value};
+use fr_example::write_kind;
+use fr_shape::{Ledger, ReflectErrorKind, ShapeTable, Value};
 use serde_json::Value as Json;
 use std::alloc::Global;
 use std::process::Abort;
@@ -50,4 +51,18 @@ pub fn check_value(rt: &(impl Abort + AllocGlobal), value: &Value, want: &str) {
 /// Ends the test where a text is another than is wanted.
 pub fn check_text(rt: &impl Abort, text: &str, want: &str) {
     assert!(rt; text == want, "{text}");
+}
+
+/// Ends the test where a refusal is told in other words.
+pub fn check_kind(
+    rt: &(impl Abort + AllocGlobal),
+    table: &ShapeTable,
+    kind: &ReflectErrorKind,
+    want: &str,
+) {
+    let mut words = String::new(rt.alloc());
+    match write_kind(&mut words, table, kind) {
+        Ok(()) => check_text(rt, words.as_str(), want),
+        Err(_) => panic!(rt; "no memory"),
+    }
 }

@@ -1,7 +1,7 @@
 //! Documents in which a place is converted: by which proxy of a field or of a shape, what is entered
 //! again as it is and what afresh, where a mode may end, which of several failures is told, and what
 //! is then begun as something else.
-use super::documents::check_each;
+use super::documents::check_tables;
 
 /// The shapes u32, Pair (two of them), First (the first number of a Pair), Record, Kind (a variant
 /// with a proxied field) and Firsts (a list of First), before the root. Of a Record's fields a to d
@@ -345,26 +345,13 @@ const BEGUN_OTHERWISE: &str = r#"
 "#;
 
 #[test]
-fn a_field_is_converted_by_format(rt: HostRuntime) {
-    check_each(&rt, FIELDS, 14, BY_FORMAT);
-}
-
-#[test]
-fn a_place_that_is_converted_is_begun_again(rt: HostRuntime) {
-    check_each(&rt, WAYS, 8, BEGUN_AGAIN);
-}
-
-#[test]
-fn a_mode_ends_at_a_conversion_or_at_its_source(rt: HostRuntime) {
-    check_each(&rt, WAYS, 6, MODES_ENDED);
-}
-
-#[test]
-fn a_refused_source_is_told_by_its_own_path(rt: HostRuntime) {
-    check_each(&rt, FAILING, 5, TOLD_FIRST);
-}
-
-#[test]
-fn a_conversion_is_begun_as_something_else(rt: HostRuntime) {
-    check_each(&rt, REBEGUN, 13, BEGUN_OTHERWISE);
+fn places_are_converted_and_begun_again_and_refusals_told(rt: HostRuntime) {
+    let tables = [
+        (FIELDS, 14, BY_FORMAT),
+        (WAYS, 8, BEGUN_AGAIN),
+        (WAYS, 6, MODES_ENDED),
+        (FAILING, 5, TOLD_FIRST),
+        (REBEGUN, 13, BEGUN_OTHERWISE),
+    ];
+    check_tables(&rt, &tables);
 }

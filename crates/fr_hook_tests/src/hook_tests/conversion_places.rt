@@ -1,7 +1,6 @@
 //! Wrappers and proxies wherever a place may stand, and one in another.
-use super::documents::{check_each, check_report};
+use super::documents::{check_report, check_tables};
 use std::process::Abort;
-use std::test::Fail;
 
 /// The shapes u32, Res (opaque), Src (two of them), P (the first field of a Src), what holds Ps (a
 /// list, maps to and from them, a set, a struct, a set of these, an option, a pointer, an array),
@@ -159,34 +158,24 @@ const NOT_WRAPPED: &str = r#"
 "#;
 
 /// Runs a script in strict mode, and then all of it in deferred mode.
-fn check_in_both_modes(
+fn check_in_both_modes<'a>(
     rt: &(impl Abort + AllocGlobal),
-    front: &str,
-    commands: &str,
+    (shapes, front, commands): (&'a str, &'a str, &'a str),
     want: &str,
-) -> Result<(), Fail> {
-    let alloc = rt.alloc();
-    let strict = format!(in alloc; "{front}\"commands\":[{commands}]}}")?;
-    check_report(rt, "strict", strict.as_str(), 0, want);
-    let deferred = format!(in alloc;
-        "{front}\"commands\":[[\"begin_deferred\"],{commands},[\"finish_deferred\"]]}}"
-    )?;
-    check_report(rt, "deferred", deferred.as_str(), 0, want);
-    Ok(())
+) {
+    let strict = [shapes, front, commands, "]}"];
+    check_report(rt, "strict", &strict, 0, want);
+    let (begin, finish) = (r#"["begin_deferred"],"#, r#",["finish_deferred"]]}"#);
+    let deferred = [shapes, front, begin, commands, finish];
+    check_report(rt, "deferred", &deferred, 0, want);
 }
 
 #[test]
-fn a_place_is_converted_wherever_it_stands(rt: HostRuntime) -> Result<(), Fail> {
-    let front = format!(in rt.alloc(); "{PLACES}\"root\":15,\"tokens\":19,")?;
-    check_in_both_modes(&rt, front.as_str(), EVERYWHERE, ALL_OF_THEM)?;
-    check_each(&rt, PLACES, 3, REFUSED_THERE);
-    Ok(())
-}
-
-#[test]
-fn wrappers_and_proxies_stand_in_one_another(rt: HostRuntime) -> Result<(), Fail> {
-    let front = format!(in rt.alloc(); "{NESTED}\"root\":12,\"tokens\":6,")?;
-    check_in_both_modes(&rt, front.as_str(), IN_ONE_ANOTHER, ALL_NESTED)?;
-    check_each(&rt, NESTED, 8, NOT_WRAPPED);
-    Ok(())
+fn a_place_is_converted_wherever_it_stands_and_in_another(rt: HostRuntime) {
+    let front = r#""root":15,"tokens":19,"commands":["#;
+    check_in_both_modes(&rt, (PLACES, front, EVERYWHERE), ALL_OF_THEM);
+    let front = r#""root":12,"tokens":6,"commands":["#;
+    check_in_both_modes(&rt, (NESTED, front, IN_ONE_ANOTHER), ALL_NESTED);
+    let tables = [(PLACES, 3, REFUSED_THERE), (NESTED, 8, NOT_WRAPPED)];
+    check_tables(&rt, &tables);
 }

@@ -1,4 +1,5 @@
-//! Whole documents, run from their texts to their reports.
+//! Whole documents, run from their texts to their reports. Where a run ends otherwise than is
+//! wanted the test ends, with the name of the case.
 use fr_script::{MemSink, MemSource, run};
 use fr_shape::Items;
 use std::alloc::Global;
@@ -6,15 +7,15 @@ use std::process::Abort;
 
 const PIECE: usize = 4096;
 
-/// A document of shapes and the rest.
-pub fn joined(rt: &impl Abort, alloc: Global, shapes: &str, rest: &str) -> String {
-    let Ok(mut document) = String::from_str(alloc, shapes) else {
-        panic!(rt; "no memory");
-    };
-    if document.push_str(rest).is_err() {
-        panic!(rt; "no memory");
+/// These parts behind one another.
+pub fn joined(rt: &impl Abort, alloc: Global, parts: &[&str]) -> String {
+    let mut text = String::new(alloc);
+    for part in parts {
+        if text.push_str(*part).is_err() {
+            panic!(rt; "no memory");
+        }
     }
-    document
+    text
 }
 
 /// The one line of a report that is laid out over lines.
@@ -25,19 +26,20 @@ fn unfolded(rt: &impl Abort, alloc: Global, report: &str) -> String {
             panic!(rt; "no memory");
         }
     }
-    joined(rt, alloc, line.as_str(), "\n")
+    joined(rt, alloc, &[line.as_str(), "\n"])
 }
 
-/// Ends the test where the word `build` ends with another status on a document, or writes another
-/// report, which `want` may lay out over lines.
+/// Ends the test where the word `build` ends with another status on a document of these parts, or
+/// writes another report, which `want` may lay out over lines.
 pub fn check_report(
     rt: &(impl Abort + AllocGlobal),
     name: &str,
-    document: &str,
+    document: &[&str],
     status: u8,
     want: &str,
 ) {
     let alloc = rt.alloc();
+    let document = joined(rt, alloc, document);
     let Ok(input) = document.as_bytes().to_vec(alloc) else {
         panic!(rt; "no memory");
     };
@@ -59,7 +61,7 @@ pub fn check_report(
 
 /// Checks so many cases over a table of shapes: of each a line `# NAME`, the rest of the document,
 /// and behind `= ` the status and the report.
-pub fn check_each(rt: &(impl Abort + AllocGlobal), shapes: &str, count: usize, cases: &str) {
+fn check_each(rt: &(impl Abort + AllocGlobal), shapes: &str, count: usize, cases: &str) {
     let mut found = 0usize;
     for case in cases.split("\n    # ") {
         let Some((name, case)) = case.split_once('\n') else {
@@ -74,9 +76,15 @@ pub fn check_each(rt: &(impl Abort + AllocGlobal), shapes: &str, count: usize, c
             Some(("2", report)) => (2, report),
             _ => panic!(rt; "a case without a status"),
         };
-        let document = joined(rt, rt.alloc(), shapes, rest);
-        check_report(rt, name, document.as_str(), status, report);
+        check_report(rt, name, &[shapes, rest], status, report);
         found = found.saturating_add(1);
     }
     assert!(rt; found == count);
+}
+
+/// The same over several tables of shapes.
+pub fn check_tables(rt: &(impl Abort + AllocGlobal), tables: &[(&str, usize, &str)]) {
+    for (shapes, count, cases) in tables {
+        check_each(rt, *shapes, *count, *cases);
+    }
 }

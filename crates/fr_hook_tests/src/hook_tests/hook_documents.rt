@@ -1,6 +1,6 @@
 //! Validators and invariants in documents: which values are asked, when, and what is told of one
 //! that doesn't pass.
-use super::documents::check_each;
+use super::documents::check_tables;
 
 /// The shapes u64, i32, String, CowStr, Levels (a list of i32), Res (opaque), Site (a validator of
 /// each kind), Checked (validators that ask hooks) and Never (one that nothing passes), before the
@@ -421,23 +421,14 @@ const REFUSED: &str = r#"
 "#;
 
 #[test]
-fn each_validator_passes_or_says_what_is_wrong(rt: HostRuntime) {
-    check_each(&rt, VALIDATED, 16, EACH_VALIDATOR);
-}
-
-#[test]
-fn validators_are_asked_as_a_struct_completes(rt: HostRuntime) {
-    check_each(&rt, BOUNDED, 12, ASKED_AT_ENDS);
-    check_each(&rt, BOUNDED, 10, ASKED_AT_THE_END);
-}
-
-#[test]
-fn invariants_of_structs_are_asked_at_build(rt: HostRuntime) {
-    check_each(&rt, KEPT, 21, ASKED_AT_BUILD);
-    check_each(&rt, UNASKED, 1, NOT_ASKED);
-}
-
-#[test]
-fn documents_are_refused_for_their_hooks(rt: HostRuntime) {
-    check_each(&rt, r#"{"shapes":["#, 3, REFUSED);
+fn validators_and_invariants_are_asked_and_hooks_checked(rt: HostRuntime) {
+    let tables = [
+        (VALIDATED, 16, EACH_VALIDATOR),
+        (BOUNDED, 12, ASKED_AT_ENDS),
+        (BOUNDED, 10, ASKED_AT_THE_END),
+        (KEPT, 21, ASKED_AT_BUILD),
+        (UNASKED, 1, NOT_ASKED),
+        (r#"{"shapes":["#, 3, REFUSED),
+    ];
+    check_tables(&rt, &tables);
 }

@@ -50,27 +50,22 @@ fn script(
     }
 }
 
-/// Ends the test where a script comes to something else than the row says, or another number of
-/// calls, or releases one of its two tokens another number of times.
-fn check_two(
-    rt: &(impl Abort + AllocGlobal),
-    script: &str,
-    calls: u32,
-    want: &str,
-    (first, second): (u32, u32),
-) {
-    check_counted(rt, SHAPES, script, calls, want, &[first, second]);
-}
-
 /// In strict mode as the source ends, in deferred mode as that mode does.
 #[test]
 fn scripts_convert_by_hooks(rt: HostRuntime) {
-    for (root, call, calls, want, counts) in CONVERTED {
+    for (root, call, calls, want, (first, second)) in CONVERTED {
         let strict = script(&rt, rt.alloc(), (root, call), ("", ""));
-        check_two(&rt, strict.as_str(), calls, want, counts);
+        check_counted(&rt, SHAPES, strict.as_str(), calls, want, &[first, second]);
         let modes = (r#"["begin_deferred"],"#, r#",["finish_deferred"]"#);
         let deferred = script(&rt, rt.alloc(), (root, call), modes);
         let calls = calls.saturating_add(2);
-        check_two(&rt, deferred.as_str(), calls, want, counts);
+        check_counted(
+            &rt,
+            SHAPES,
+            deferred.as_str(),
+            calls,
+            want,
+            &[first, second],
+        );
     }
 }

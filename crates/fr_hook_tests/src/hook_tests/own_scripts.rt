@@ -131,20 +131,8 @@ fn run_bytes(
     }
 }
 
-/// Ends the test where a script of one token is refused, or built, after another number of calls,
-/// comes to something else, or leaves the token released another number of times.
-fn check_script(
-    rt: &(impl Abort + AllocGlobal),
-    shapes: &str,
-    rest: &str,
-    calls: u32,
-    want: &str,
-    released: u32,
-) {
-    check_counted(rt, shapes, rest, calls, want, &[released]);
-}
-
-/// The same of a script of more tokens.
+/// Ends the test where a script is refused, or built, after another number of calls, comes to
+/// something else, or leaves one of its tokens released another number of times.
 pub fn check_counted(
     rt: &(impl Abort + AllocGlobal),
     shapes: &str,
@@ -153,7 +141,7 @@ pub fn check_counted(
     want: &str,
     released: &[u32],
 ) {
-    let document = joined(rt, rt.alloc(), shapes, rest);
+    let document = joined(rt, rt.alloc(), &[shapes, rest]);
     let (outcome, ledger) = run_bytes(rt, rt.alloc(), document.as_bytes());
     match outcome {
         Ok(built) => {
@@ -168,20 +156,28 @@ pub fn check_counted(
     check_counts(rt, &ledger, released);
 }
 
-/// With ample memory it isn't out of memory.
-#[test]
-fn a_script_is_built(rt: HostRuntime) {
-    let rest = r#""root":3,"tokens":1,"commands":[
-        ["begin_field","r"],["set",1,{"t":0}],["end"],
-        ["begin_field","digit"],["begin_field","n"],["set",0,9],["end"],["end"],
-        ["begin_field","n"],["set",0,8],["end"]
-    ]}"#;
-    check_script(&rt, CHECKED, rest, 11, r#"[{"t":0},[9],8]"#, 0);
-}
-
-/// A call that is refused, or gives an empty option, lets go of the token.
-const PARSES: [(&str, u32, &str, u32); 8] = [
+/// Scripts of one token: the shapes and the rest of the document, how many calls there are up to the
+/// end or to the refusal, what comes of them, and how often the token is released.
+///
+/// A script with ample memory isn't out of memory. A parse that is refused, or gives an empty
+/// option, lets go of the token. A struct that is set whole isn't validated; an item of a set is as
+/// it ends, in either mode.
+const SCRIPTS: [(&str, &str, u32, &str, u32); 20] = [
+    // A script is built.
     (
+        CHECKED,
+        r#""root":3,"tokens":1,"commands":[
+            ["begin_field","r"],["set",1,{"t":0}],["end"],
+            ["begin_field","digit"],["begin_field","n"],["set",0,9],["end"],["end"],
+            ["begin_field","n"],["set",0,8],["end"]
+        ]}"#,
+        11,
+        r#"[{"t":0},[9],8]"#,
+        0,
+    ),
+    // Texts and bytes are parsed.
+    (
+        PARSED,
         r#""root":3,"tokens":1,"commands":[
             ["begin_some"],["set",1,{"t":0}],["end"],["parse_from_str","x"]
         ]}"#,
@@ -190,6 +186,7 @@ const PARSES: [(&str, u32, &str, u32); 8] = [
         1,
     ),
     (
+        PARSED,
         r#""root":3,"tokens":1,"commands":[
             ["begin_some"],["set",1,{"t":0}],["end"],["parse_from_bytes",[0,255]]
         ]}"#,
@@ -198,6 +195,7 @@ const PARSES: [(&str, u32, &str, u32); 8] = [
         1,
     ),
     (
+        PARSED,
         r#""root":7,"tokens":1,"commands":[
             ["begin_field","r"],["set",1,{"t":0}],["end"],
             ["begin_field","refused"],["parse_from_str","7"]
@@ -207,6 +205,7 @@ const PARSES: [(&str, u32, &str, u32); 8] = [
         1,
     ),
     (
+        PARSED,
         r#""root":7,"tokens":1,"commands":[
             ["begin_field","refused"],["parse_from_bytes",[]],["set",1,{"t":0}]
         ]}"#,
@@ -215,6 +214,7 @@ const PARSES: [(&str, u32, &str, u32); 8] = [
         1,
     ),
     (
+        PARSED,
         r#""root":7,"tokens":1,"commands":[
             ["begin_field","starved"],["parse_from_str","7"],["set",1,{"t":0}]
         ]}"#,
@@ -223,6 +223,7 @@ const PARSES: [(&str, u32, &str, u32); 8] = [
         1,
     ),
     (
+        PARSED,
         r#""root":7,"tokens":1,"commands":[
             ["begin_field","r"],["set",1,{"t":0}],["end"],
             ["begin_field","starved"],["parse_from_bytes",[7]]
@@ -232,6 +233,7 @@ const PARSES: [(&str, u32, &str, u32); 8] = [
         1,
     ),
     (
+        PARSED,
         r#""root":7,"tokens":1,"commands":[
             ["begin_field","unparsed"],["parse_from_str","7"],["set",1,{"t":0}]
         ]}"#,
@@ -240,23 +242,15 @@ const PARSES: [(&str, u32, &str, u32); 8] = [
         1,
     ),
     (
+        PARSED,
         r#""root":1,"tokens":1,"commands":[["set",1,{"t":0}],["parse_from_bytes",[7]]]}"#,
         1,
         NO_PARSING_OF_BYTES,
         1,
     ),
-];
-
-#[test]
-fn scripts_parse_by_hooks(rt: HostRuntime) {
-    for (rest, calls, want, released) in PARSES {
-        check_script(&rt, PARSED, rest, calls, want, released);
-    }
-}
-
-/// A struct that is set whole isn't asked. An item of a set is asked as it ends, in either mode.
-const VALIDATIONS: [(&str, u32, &str, u32); 6] = [
+    // Values are validated.
     (
+        CHECKED,
         r#""root":3,"tokens":1,"commands":[
             ["begin_field","r"],["set",1,{"t":0}],["end"],
             ["begin_field","digit"],["begin_field","n"],["set",0,10],["end"],["end"]
@@ -266,6 +260,7 @@ const VALIDATIONS: [(&str, u32, &str, u32); 6] = [
         1,
     ),
     (
+        CHECKED,
         r#""root":3,"tokens":1,"commands":[
             ["begin_field","r"],["set",1,{"t":0}],["end"],
             ["begin_field","digit"],["set",2,[10]],["end"],
@@ -276,6 +271,7 @@ const VALIDATIONS: [(&str, u32, &str, u32); 6] = [
         1,
     ),
     (
+        CHECKED,
         r#""root":3,"tokens":1,"commands":[
             ["begin_deferred"],["begin_field","r"],["set",1,{"t":0}],["end"],
             ["begin_field","digit"],["begin_field","n"],["set",0,10],["end"],["end"],
@@ -286,6 +282,7 @@ const VALIDATIONS: [(&str, u32, &str, u32); 6] = [
         1,
     ),
     (
+        CHECKED,
         r#""root":3,"tokens":1,"commands":[
             ["begin_deferred"],["begin_field","r"],["set",1,{"t":0}],["end"],
             ["begin_field","digit"],["set",2,[10]],["end"],["finish_deferred"]
@@ -295,6 +292,7 @@ const VALIDATIONS: [(&str, u32, &str, u32); 6] = [
         0,
     ),
     (
+        CHECKED,
         r#""root":4,"tokens":1,"commands":[
             ["init_set"],["begin_set_item"],["begin_field","n"],["set",0,10],["end"],
             ["end"],["set",1,{"t":0}]
@@ -304,6 +302,7 @@ const VALIDATIONS: [(&str, u32, &str, u32); 6] = [
         1,
     ),
     (
+        CHECKED,
         r#""root":4,"tokens":1,"commands":[
             ["begin_deferred"],["init_set"],["begin_set_item"],["begin_field","n"],
             ["set",0,10],["end"],["end"],["finish_deferred"],["set",1,{"t":0}]
@@ -312,17 +311,9 @@ const VALIDATIONS: [(&str, u32, &str, u32); 6] = [
         "ValidationFailed",
         1,
     ),
-];
-
-#[test]
-fn scripts_are_validated_by_hooks(rt: HostRuntime) {
-    for (rest, calls, want, released) in VALIDATIONS {
-        check_script(&rt, CHECKED, rest, calls, want, released);
-    }
-}
-
-const INVARIANTS: [(&str, u32, &str, u32); 5] = [
+    // Invariants are kept.
     (
+        CHECKED,
         r#""root":6,"tokens":1,"commands":[
             ["begin_some"],["begin_field","r"],["set",1,{"t":0}],["end"],["end"]
         ]}"#,
@@ -331,12 +322,14 @@ const INVARIANTS: [(&str, u32, &str, u32); 5] = [
         1,
     ),
     (
+        CHECKED,
         r#""root":6,"tokens":1,"commands":[["set",6,null]]}"#,
         1,
         "null",
         0,
     ),
     (
+        CHECKED,
         r#""root":7,"tokens":1,"commands":[
             ["init_map"],["begin_key"],["set",5,[{"t":0}]],["end"],
             ["begin_value"],["set",0,7],["end"]
@@ -346,12 +339,14 @@ const INVARIANTS: [(&str, u32, &str, u32); 5] = [
         1,
     ),
     (
+        CHECKED,
         r#""root":8,"tokens":1,"commands":[["set",8,[{"t":0}]]]}"#,
         1,
         r#"[{"t":0}]"#,
         0,
     ),
     (
+        CHECKED,
         r#""root":9,"tokens":1,"commands":[["set",9,7]]}"#,
         1,
         "7",
@@ -360,8 +355,8 @@ const INVARIANTS: [(&str, u32, &str, u32); 5] = [
 ];
 
 #[test]
-fn scripts_keep_invariants_by_hooks(rt: HostRuntime) {
-    for (rest, calls, want, released) in INVARIANTS {
-        check_script(&rt, CHECKED, rest, calls, want, released);
+fn scripts_are_built_by_hooks(rt: HostRuntime) {
+    for (shapes, rest, calls, want, released) in SCRIPTS {
+        check_counted(&rt, shapes, rest, calls, want, &[released]);
     }
 }

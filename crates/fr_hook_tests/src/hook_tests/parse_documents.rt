@@ -1,7 +1,6 @@
 //! What texts and bytes are parsed to in documents, with a hook and without one, and two documents
 //! as a loader makes them.
-use super::documents::{check_each, check_report};
-use std::alloc::Global;
+use super::documents::{check_report, check_tables, joined};
 use std::process::Abort;
 
 /// The shapes u32, i8, u64, i128, u128, bool, char, String, CowStr, str, a pointer to it, what
@@ -288,10 +287,33 @@ const LOADED: &str = r#"
     ["end"],["end"],["begin_field","version"],["set",3,1],["end"],["finish_deferred"]]}
     = 0 {"ok":["demo",8080,true,{"l":["a","b"]},null,3,["info",{"s":"out.log"}],["https://db",4],
         {"e":[]},{"m":[["cpu",2]]},null,1],"released":[]}
+    # its second and its third line in the other order
+    ["begin_field","name"],["set",0,"demo"],["end"],["begin_field","port"],["set",1,8080],["end"],
+    ["begin_field","db"],["begin_field","url"],["set",0,"https://db"],["end"],["end"],
+    ["begin_field","log"],["begin_field","level"],["set",0,"info"],["end"],["end"],
+    ["begin_field","hosts"],["init_list"],["begin_list_item"],["set",0,"a"],["end"],
+    ["begin_list_item"],["set",0,"b"],["end"],["end"],
+    ["begin_field","db"],["begin_field","pool"],["set",3,4],["end"],["end"],
+    ["begin_field","debug"],["set",2,true],["end"],
+    ["begin_field","limits"],["init_map"],["begin_key"],["set",0,"cpu"],["end"],
+    ["begin_value"],["set",3,2],["end"],["end"],
+    ["begin_field","log"],["begin_field","file"],["begin_some"],["set",0,"out.log"],["end"],
+    ["end"],["end"],["begin_field","version"],["set",3,1],["end"],["finish_deferred"]]}
+    = 0 {"ok":["demo",8080,true,{"l":["a","b"]},null,3,["info",{"s":"out.log"}],["https://db",4],
+        {"e":[]},{"m":[["cpu",2]]},null,1],"released":[]}
     # a group whose URL is none
     ["begin_field","db"],["set",11,["db",4]],["begin_field","url"],["end"],["end"],
     ["finish_deferred"]]}
     = 1 {"error":{"command":6,"detail":"'db' is not a valid URL","kind":"ValidationFailed","path":""},"released":[]}
+    # the same behind another line
+    ["begin_field","name"],["set",0,"demo"],["end"],
+    ["begin_field","db"],["set",11,["db",4]],["begin_field","url"],["end"],["end"],
+    ["finish_deferred"]]}
+    = 1 {"error":{"command":9,"detail":"'db' is not a valid URL","kind":"ValidationFailed","path":""},"released":[]}
+    # and before it
+    ["begin_field","db"],["set",11,["db",4]],["begin_field","url"],["end"],["end"],
+    ["begin_field","name"],["set",0,"demo"],["end"],["finish_deferred"]]}
+    = 1 {"error":{"command":9,"detail":"'db' is not a valid URL","kind":"ValidationFailed","path":""},"released":[]}
 "#;
 
 /// A service and its endpoint, as examples/endpoint.json has them, up to its port.
@@ -319,37 +341,25 @@ const PORTS: &str = r#"
     = 1 {"error":{"command":8,"detail":"u16","kind":"ParseFailed","path":"endpoint.port"},"released":[]}
 "#;
 
-#[test]
-fn texts_are_parsed_as_scalars(rt: HostRuntime) {
-    check_each(&rt, SCALARS, 28, WRITTEN);
-}
-
-/// A document that parses a text as a kind of integer.
-fn integer_document(rt: &impl Abort, alloc: Global, kind: &str, text: &str) -> String {
-    match format!(in alloc;
-        "{{\"shapes\":[{{\"name\":\"Integer\",\"def\":\"{kind}\"}}],\"root\":0,\"commands\":[[\"parse_from_str\",\"{text}\"]]}}"
-    ) {
-        Ok(document) => document,
-        Err(_) => panic!(rt; "no memory"),
-    }
-}
-
-/// What is reported where this value is built.
-fn report_of_value(rt: &impl Abort, alloc: Global, value: &str) -> String {
-    match format!(in alloc; "{{\"ok\":{value},\"released\":[]}}") {
-        Ok(report) => report,
-        Err(_) => panic!(rt; "no memory"),
-    }
-}
-
 /// Ends the test where a text comes to something else at a kind of integer than the row says.
-fn check_integer(rt: &(impl Abort + AllocGlobal), row: &str, kind: &str, text: &str, want: &str) {
-    let document = integer_document(rt, rt.alloc(), kind, text);
+fn check_integer<'a>(
+    rt: &(impl Abort + AllocGlobal),
+    row: &str,
+    (kind, text): (&'a str, &'a str),
+    want: &str,
+) {
+    let document = [
+        r#"{"shapes":[{"name":"Integer","def":""#,
+        kind,
+        r#""}],"root":0,"commands":[["parse_from_str",""#,
+        text,
+        r#""]]}"#,
+    ];
     if want == "refused" {
-        check_report(rt, row, document.as_str(), 1, REFUSED_INTEGER);
+        check_report(rt, row, &document, 1, REFUSED_INTEGER);
     } else {
-        let report = report_of_value(rt, rt.alloc(), want);
-        check_report(rt, row, document.as_str(), 0, report.as_str());
+        let report = joined(rt, rt.alloc(), &[r#"{"ok":"#, want, r#","released":[]}"#]);
+        check_report(rt, row, &document, 0, report.as_str());
     }
 }
 
@@ -363,19 +373,19 @@ fn each_kind_of_integer_is_parsed_in_its_range(rt: HostRuntime) {
         let Some((text, want)) = rest.split_once(' ') else {
             panic!(&rt; "half a row");
         };
-        check_integer(&rt, row, kind, text, want);
+        check_integer(&rt, row, (kind, text), want);
         found = found.saturating_add(1);
     }
     assert!(rt; found == 48);
 }
 
 #[test]
-fn hooks_parse_texts_and_bytes(rt: HostRuntime) {
-    check_each(&rt, HOOKED, 13, PARSED);
-}
-
-#[test]
-fn a_loader_reads_what_lines_say(rt: HostRuntime) {
-    check_each(&rt, SETTINGS, 2, LOADED);
-    check_each(&rt, ENDPOINT, 3, PORTS);
+fn texts_and_bytes_are_parsed_with_a_hook_and_without(rt: HostRuntime) {
+    let tables = [
+        (SCALARS, 28, WRITTEN),
+        (HOOKED, 13, PARSED),
+        (SETTINGS, 5, LOADED),
+        (ENDPOINT, 3, PORTS),
+    ];
+    check_tables(&rt, &tables);
 }

@@ -1,7 +1,7 @@
 //! Documents over two tables of samples: a shape for which another stands in, and one that is
 //! refused so; and a table with a slice, texts, a wrapper, a dynamic value, results and a shape
 //! that can't be planned.
-use super::documents::check_each;
+use super::documents::check_tables;
 
 /// The shapes Res (opaque), Src (two of them), P (the first field of a Src) and Q (which refuses
 /// every Src), before the root.
@@ -126,31 +126,14 @@ const SIDES: &str = r#"
 "#;
 
 #[test]
-fn a_shape_is_converted_from_what_stands_in_for_it(rt: HostRuntime) {
-    check_each(&rt, PROXIED, 3, CONVERTED);
-}
-
-#[test]
-fn a_source_that_was_left_is_entered_again(rt: HostRuntime) {
-    check_each(&rt, PROXIED, 1, ENTERED_AGAIN);
-}
-
-#[test]
-fn slices_texts_wrappers_and_numbers_are_built(rt: HostRuntime) {
-    check_each(&rt, MIXED, 7, WRAPPED);
-}
-
-#[test]
-fn dynamic_values_and_results_are_built(rt: HostRuntime) {
-    check_each(&rt, MIXED, 2, DYNAMIC_AND_EITHER);
-}
-
-#[test]
-fn a_root_that_cannot_be_planned_has_no_builder(rt: HostRuntime) {
-    check_each(&rt, MIXED, 2, UNPLANNED);
-}
-
-#[test]
-fn a_side_that_was_left_is_entered_again(rt: HostRuntime) {
-    check_each(&rt, MIXED, 1, SIDES);
+fn documents_over_the_samples_are_reported(rt: HostRuntime) {
+    let tables = [
+        (PROXIED, 3, CONVERTED),
+        (PROXIED, 1, ENTERED_AGAIN),
+        (MIXED, 7, WRAPPED),
+        (MIXED, 2, DYNAMIC_AND_EITHER),
+        (MIXED, 2, UNPLANNED),
+        (MIXED, 1, SIDES),
+    ];
+    check_tables(&rt, &tables);
 }
