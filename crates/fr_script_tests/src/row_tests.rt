@@ -193,6 +193,49 @@ const WHOLES_SET: &str = r#"
         "kind":"OperationFailed","path":"link"},"released":[]}
 "#;
 
+/// Whole documents: what a hole is filled with by `skip`, by `default_attr` and as a unit, and keys
+/// that decide nothing here.
+const FILLS: &str = r#"
+    # a field that is skipped takes its shape's default
+    {"shapes":[
+        {"name":"u8","def":"u8","preset":2},
+        {"name":"S","def":{"struct":[{"name":"a","shape":0},{"name":"b","shape":0,"skip":true}]}}
+    ],"root":1,"commands":[["begin_field","a"],["set",0,1],["end"]]}
+    = 0 {"ok":[1,2],"released":[]}
+    # and is missing where that has none
+    {"shapes":[
+        {"name":"u8","def":"u8"},
+        {"name":"S","def":{"struct":[{"name":"a","shape":0},{"name":"b","shape":0,"skip":true}]}}
+    ],"root":1,"commands":[["begin_field","a"],["set",0,1],["end"]]}
+    = 1 {"error":{"command":3,"detail":"b","kind":"UninitializedField","path":""},"released":[]}
+    # the mark of a struct fills as deferred mode ends
+    {"shapes":[
+        {"name":"u8","def":"u8","preset":2},
+        {"name":"S","def":{"struct":[{"name":"a","shape":0},{"name":"b","shape":0}]},"default_attr":true}
+    ],"root":1,"commands":[["begin_deferred"],["begin_field","a"],["set",0,1],["end"],["finish_deferred"]]}
+    = 0 {"ok":[1,2],"released":[]}
+    # and not in strict mode
+    {"shapes":[
+        {"name":"u8","def":"u8","preset":2},
+        {"name":"S","def":{"struct":[{"name":"a","shape":0},{"name":"b","shape":0}]},"default_attr":true}
+    ],"root":1,"commands":[["begin_field","a"],["set",0,1],["end"]]}
+    = 1 {"error":{"command":3,"detail":"b","kind":"UninitializedField","path":""},"released":[]}
+    # a unit that has a default is filled as deferred mode ends
+    {"shapes":[
+        {"name":"u8","def":"u8"},
+        {"name":"()","def":{"tuple":[]},"preset":[]},
+        {"name":"S","def":{"struct":[{"name":"a","shape":0},{"name":"b","shape":1}]}}
+    ],"root":2,"commands":[["begin_deferred"],["begin_field","a"],["set",0,1],["end"],["finish_deferred"]]}
+    = 0 {"ok":[1,[]],"released":[]}
+    # keys that decide nothing here
+    {"shapes":[
+        {"name":"u8","def":"u8"},
+        {"name":"S","def":{"struct":[{"name":"x","shape":0,"flatten":true}]},
+            "metadata":true,"deny_unknown":true,"transparent":true}
+    ],"root":1,"commands":[["begin_field","x"],["set",0,7],["end"]]}
+    = 0 {"ok":[7],"released":[]}
+"#;
+
 #[test]
 fn what_is_missing_is_filled_and_elements_come_in_any_order(rt: HostRuntime) {
     let tables = [
@@ -201,6 +244,7 @@ fn what_is_missing_is_filled_and_elements_come_in_any_order(rt: HostRuntime) {
         (ARRAYS, 8, ARRAYS_BUILT),
         (ARRAYS, 2, DESCENDING),
         (WHOLES, 4, WHOLES_SET),
+        ("", 6, FILLS),
     ];
     check_tables(&rt, &tables);
 }

@@ -344,6 +344,28 @@ const BEGUN_OTHERWISE: &str = r#"
     = 0 {"ok":{"s":2},"released":[]}
 "#;
 
+/// The shapes u32, Pair (two of them), and three that are made of a value of these: by its first
+/// child, by itself, and by itself where it isn't zero.
+const MADE: &str = r#"{"shapes":[
+    {"name":"u32","def":"u32"},
+    {"name":"Pair","def":{"struct":[{"name":"x","shape":0},{"name":"y","shape":0}]}},
+    {"name":"First","def":"u8","proxy":{"source":1,"convert":0}},
+    {"name":"Same","def":"u8","proxy":{"source":0,"convert":1}},
+    {"name":"NotZero","def":"u8","proxy":{"source":0,"convert":3}}
+],"#;
+
+const MISFITS: &str = r#"
+    # the first child doesn't fit
+    "root":2,"commands":[["begin_custom_deserialization_from_shape"],["set",1,[256,9]],["end"]]}
+    = 1 {"error":{"command":2,"detail":"","kind":"CustomDeserializationError","path":"::proxy"},"released":[]}
+    # the value itself doesn't
+    "root":3,"commands":[["begin_custom_deserialization_from_shape"],["set",0,256],["end"]]}
+    = 1 {"error":{"command":2,"detail":"","kind":"CustomDeserializationError","path":"::proxy"},"released":[]}
+    # nor does one that isn't zero
+    "root":4,"commands":[["begin_custom_deserialization_from_shape"],["set",0,256],["end"]]}
+    = 1 {"error":{"command":2,"detail":"","kind":"CustomDeserializationError","path":"::proxy"},"released":[]}
+"#;
+
 #[test]
 fn places_are_converted_and_begun_again_and_refusals_told(rt: HostRuntime) {
     let tables = [
@@ -352,6 +374,7 @@ fn places_are_converted_and_begun_again_and_refusals_told(rt: HostRuntime) {
         (WAYS, 6, MODES_ENDED),
         (FAILING, 5, TOLD_FIRST),
         (REBEGUN, 13, BEGUN_OTHERWISE),
+        (MADE, 3, MISFITS),
     ];
     check_tables(&rt, &tables);
 }
