@@ -51,7 +51,7 @@ calls_read line key value key_read value_read says has key_is value_is key_trimm
 -- no call leaves the builder as it is
 pub no_steps : {H : Type 0} (hooks : Meanings) (before : Builder H) (line : List ℕ) → calls_of_line line ≡ []
     → AreSteps hooks before (calls_of_line line) (Ok before)
-no_steps hooks before line e = same_calls hooks before [] (calls_of_line line) (Ok before) (sym e) (refl, refl, refl, refl)
+no_steps hooks before line e = same_calls hooks before [] (calls_of_line line) (Ok before) (sym e) (refl, refl, refl, refl, refl)
 
 -- The whole
 

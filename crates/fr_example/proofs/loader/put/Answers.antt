@@ -18,6 +18,7 @@ loop-name-init g c =
     let pattern : split_pattern c.into_iter-name-iterator.result ≡ 46 = cc in
     record {
       over = over_itself c.args.partial;
+      plan = refl;
       left = record {
         rest = slice_split (λ b. b == 46) c.args.key.now;
         yields = (YieldsList-from_str_split 46 c.args.key.now (lit< tt) text more pattern).runs;
@@ -62,6 +63,7 @@ loop-name-preserved g c =
       over =
           over_after g.H.Hooks.means first.shapes first.root first.hooks c.loop-name.partial c.in_ok-partial.partial
           (Call.BeginField c.in-Some.name.now) _ _ c.loop-name.invariant.over c.in_ok-partial.ensures.call;
+      plan = c.in_ok-partial.ensures.call.step.4 ∙ c.loop-name.invariant.plan;
       left = record {
         rest = after.rest;
         yields = after.yields;
@@ -111,6 +113,7 @@ loop-name-2-init g c =
       over =
           over_after g.H.Hooks.means first.shapes first.root first.hooks c.loop-name.partial c.in_ok-partial-2.partial
           (Call.ParseFromStr c.args.value.now) _ _ c.loop-name.invariant.over c.in_ok-partial-2.ensures.call;
+      plan = c.in_ok-partial-2.ensures.call.step.4 ∙ c.loop-name.invariant.plan;
       left = record {
         rest = names;
         yields = (YieldsList-from_str_split 46 c.args.key.now (lit< tt) text more pattern).runs;
@@ -159,6 +162,7 @@ loop-name-2-preserved g c =
       over =
           over_after g.H.Hooks.means first.shapes first.root first.hooks c.loop-name-2.partial c.in_ok-partial-3.partial
           Call.End _ _ c.loop-name-2.invariant.over c.in_ok-partial-3.ensures.call;
+      plan = c.in_ok-partial-3.ensures.call.step.4 ∙ c.loop-name-2.invariant.plan;
       left = record {
         rest = after.rest;
         yields = after.yields;
@@ -185,5 +189,6 @@ returns-clause-steps g c =
       c.loop-name-2.invariant.over.shapes,
       c.loop-name-2.invariant.over.root,
       c.loop-name-2.invariant.over.hooks,
+      c.loop-name-2.invariant.plan,
     ) in
     search rules

@@ -12,6 +12,7 @@ abbrev pub invariant-loop-name : goal.invariant-loop-name
 invariant-loop-name g l =
     record {
       over : IsOver l.fn.partial.shapes l.fn.partial.root l.fn.partial.hooks l.partial;
+      plan : l.partial.plan ≡ l.fn.partial.plan;
       left :
           IsLeft (split_steps FindsChar (λ a b. b ≡ a)) (λ x. x.now) l.name-iterator
           (IsThrough (g.H.Hooks.means l.fn.partial.hooks) l.fn.partial.shapes l.fn.partial.root l.fn.partial.state entering
@@ -25,6 +26,7 @@ abbrev pub invariant-loop-name-2 : goal.invariant-loop-name-2
 invariant-loop-name-2 g l =
     record {
       over : IsOver l.fn.partial.shapes l.fn.partial.root l.fn.partial.hooks l.partial;
+      plan : l.partial.plan ≡ l.fn.partial.plan;
       left :
           IsLeft (split_steps FindsChar (λ a b. b ≡ a)) (λ x. x.now) l._name-iterator
           (IsThrough (g.H.Hooks.means l.fn.partial.hooks) l.fn.partial.shapes l.fn.partial.root l.fn.partial.state
