@@ -1,5 +1,5 @@
 //! Lookups of each form, with ample memory. What finds no memory ends the test.
-use crate::texts::table_of;
+use crate::texts::{cut, number, table_of};
 use fr_rules::*;
 use fr_shape::{Def, ShapeId, ShapeTable};
 use std::alloc::Global;
@@ -81,55 +81,42 @@ const MORE: &str = r#"[{"name":"S","def":{"struct":[
     {"name":"i","shape":0},{"name":"identified","shape":0}
 ]}}]"#;
 
+/// Of each table the length of its prefixes, and names, each with the number of its field or none.
 /// More than eight entries make buckets, of prefixes of 4 bytes or of 8.
-const FIELDS: [(&str, Option<usize>, &str, Option<usize>); 41] = [
-    (THREE, None, "foo", Some(0)),
-    (THREE, None, "bar", Some(1)),
-    (THREE, None, "baz", Some(2)),
-    (THREE, None, "qux", None),
-    (EIGHT, None, "h", Some(7)),
-    (EIGHT, None, "i", None),
-    (ALIAS, Some(4), "a", Some(0)),
-    (ALIAS, Some(4), "b", Some(1)),
-    (ALIAS, Some(4), "h", Some(7)),
-    (ALIAS, Some(4), "alias", Some(7)),
-    (ALIAS, Some(4), "ali", None),
-    (SECOND_NAME, Some(4), "b", Some(1)),
-    (SECOND_NAME, Some(4), "h", Some(7)),
-    (SECOND_NAME, Some(4), "i", Some(8)),
-    (SECOND_NAME, Some(4), "j", None),
-    (HALF, Some(4), "x", Some(0)),
-    (HALF, Some(4), "identifier_b", Some(1)),
-    (HALF, Some(4), "identifier_a", Some(2)),
-    (HALF, Some(4), "identifi", Some(3)),
-    (HALF, Some(4), "identity", Some(4)),
-    (HALF, Some(4), "iden", Some(5)),
-    (HALF, Some(4), "id", Some(6)),
-    (HALF, Some(4), "i", Some(7)),
-    (HALF, Some(4), "ident", Some(8)),
-    (HALF, Some(4), "id\0\0", None),
-    (HALF, Some(4), "identifier", None),
-    (HALF, Some(4), "", None),
-    (HALF, Some(4), "ide", None),
-    (MORE, Some(8), "x", Some(0)),
-    (MORE, Some(8), "identifier_b", Some(1)),
-    (MORE, Some(8), "identifier_a", Some(2)),
-    (MORE, Some(8), "identifi", Some(3)),
-    (MORE, Some(8), "identity", Some(4)),
-    (MORE, Some(8), "iden", Some(5)),
-    (MORE, Some(8), "id", Some(6)),
-    (MORE, Some(8), "i", Some(7)),
-    (MORE, Some(8), "identified", Some(8)),
-    (MORE, Some(8), "id\0\0", None),
-    (MORE, Some(8), "identifier", None),
-    (MORE, Some(8), "", None),
-    (MORE, Some(8), "ide", None),
+const FIELDS: [(&str, Option<usize>, &str); 6] = [
+    (THREE, None, "foo=0 bar=1 baz=2 qux=-"),
+    (EIGHT, None, "h=7 i=-"),
+    (ALIAS, Some(4), "a=0 b=1 h=7 alias=7 ali=-"),
+    (SECOND_NAME, Some(4), "b=1 h=7 i=8 j=-"),
+    (
+        HALF,
+        Some(4),
+        "x=0 identifier_b=1 identifier_a=2 identifi=3 identity=4 iden=5 id=6 i=7 ident=8 id\0\0=- identifier=- =- ide=-",
+    ),
+    (
+        MORE,
+        Some(8),
+        "x=0 identifier_b=1 identifier_a=2 identifi=3 identity=4 iden=5 id=6 i=7 identified=8 id\0\0=- identifier=- =- ide=-",
+    ),
 ];
+
+/// Ends the test where one of these names leads to another field than is wanted.
+fn check_fields(rt: &impl Abort, alloc: Global, shapes: &str, prefix: Option<usize>, names: &str) {
+    for word in names.split(' ') {
+        let (name, want) = cut(rt, word, "=");
+        let want = if want == "-" {
+            None
+        } else {
+            Some(number(rt, want) as usize)
+        };
+        check_field(rt, alloc, shapes, prefix, (name, want));
+    }
+}
 
 #[test]
 fn lookups_find_fields(rt: HostRuntime) {
-    for (shapes, prefix, name, want) in FIELDS {
-        check_field(&rt, rt.alloc(), shapes, prefix, (name, want));
+    for (shapes, prefix, names) in FIELDS {
+        check_fields(&rt, rt.alloc(), shapes, prefix, names);
     }
 }
 

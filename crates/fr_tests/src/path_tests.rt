@@ -1,5 +1,5 @@
 //! The text of paths over one table of shapes. What finds no memory ends the test.
-use crate::texts::table_of;
+use crate::texts::{cut, number, table_of};
 use fr_path::{Path, PathStep};
 use fr_shape::{ShapeId, ShapeTable, Text};
 use std::alloc::Global;
@@ -42,85 +42,71 @@ const SHAPES: &str = r#"[
     {"name":"22","def":{"array":[0,4097]}}
 ]"#;
 
-/// A step, in short: what it leads to, and its number. The letters f, i, k and v lead to a field, an
-/// index, a map's key and its value.
-type Step = (char, u32);
+/// Of each row the root, the steps, and the path's text. The letters f, i, k and v lead to a field, an
+/// index, a map's key and its value of a number, and `entry` to that of the key `a b`. First each kind
+/// of step, from a place that can have it: the shape after it shows in the field's name. Then a
+/// variant's field, a field that isn't there, a proxy, and steps that the place can't have, after which
+/// fields are numbered.
+const ROWS: &str = r#"
+    0; ;
+    0; f:1 i:2 some; xs[2]::some
+    3; some f:1; ::some.xs
+    5; i:3 f:0; [3].id
+    6; ok f:0; ::ok.id
+    6; err some f:0; ::err::some.id
+    7; k:4 f:1; [key 4].xs
+    7; v:5 some f:1; [value 5]::some.xs
+    8; item f:0; [item].id
+    9; deref f:1; ::deref.xs
+    10; i:7 f:1; [7].xs
+    12; entry i:0; [a b][0]
+    15; inner f:1; ::inner.xs
+    16; inner f:1; ::inner.xs
+    17; some f:1; ::some.xs
+    20; i:1 f:1; [1].xs
+    21; i:4096 f:1; [4096].xs
+    4; f:0 f:1; 0.1
+    0; f:2 f:1; 2.1
+    0; f:0 f:1 f:0; id.1.0
+    0; proxy f:1; ::proxy.1
+    0; deref f:1; ::deref.1
+    5; item f:1; [item].1
+    9; i:0 f:1; [0].1
+    10; deref i:0 f:1; ::deref[0].1
+    13; deref f:1; ::deref.1
+    14; i:0 f:1; [0].1
+    17; inner f:1; ::inner.1
+    18; inner f:1; ::inner.1
+    19; i:0 f:1; [0].1
+    22; i:0 f:1; [0].1
+"#;
 
-const SOME: Step = ('s', 0);
+const ROW_COUNT: usize = 31;
 
-const OK: Step = ('o', 0);
-
-const ERR: Step = ('e', 0);
-
-const ITEM: Step = ('t', 0);
-
-const DEREF: Step = ('d', 0);
-
-const INNER: Step = ('n', 0);
-
-const PROXY: Step = ('p', 0);
-
-/// The entry of the key `a b`.
-const ENTRY: Step = ('a', 0);
-
-/// There is no further step.
-const END: Step = ('.', 0);
-
-/// Each kind of step, from a place that can have it: the shape after it shows in the field's name.
-/// Then a variant's field, a field that isn't there, a proxy, and steps that the place can't have,
-/// after which fields are numbered.
-const ROWS: [(u32, [Step; 3], &str); 31] = [
-    (0, [END, END, END], ""),
-    (0, [('f', 1), ('i', 2), SOME], "xs[2]::some"),
-    (3, [SOME, ('f', 1), END], "::some.xs"),
-    (5, [('i', 3), ('f', 0), END], "[3].id"),
-    (6, [OK, ('f', 0), END], "::ok.id"),
-    (6, [ERR, SOME, ('f', 0)], "::err::some.id"),
-    (7, [('k', 4), ('f', 1), END], "[key 4].xs"),
-    (7, [('v', 5), SOME, ('f', 1)], "[value 5]::some.xs"),
-    (8, [ITEM, ('f', 0), END], "[item].id"),
-    (9, [DEREF, ('f', 1), END], "::deref.xs"),
-    (10, [('i', 7), ('f', 1), END], "[7].xs"),
-    (12, [ENTRY, ('i', 0), END], "[a b][0]"),
-    (15, [INNER, ('f', 1), END], "::inner.xs"),
-    (16, [INNER, ('f', 1), END], "::inner.xs"),
-    (17, [SOME, ('f', 1), END], "::some.xs"),
-    (20, [('i', 1), ('f', 1), END], "[1].xs"),
-    (21, [('i', 4096), ('f', 1), END], "[4096].xs"),
-    (4, [('f', 0), ('f', 1), END], "0.1"),
-    (0, [('f', 2), ('f', 1), END], "2.1"),
-    (0, [('f', 0), ('f', 1), ('f', 0)], "id.1.0"),
-    (0, [PROXY, ('f', 1), END], "::proxy.1"),
-    (0, [DEREF, ('f', 1), END], "::deref.1"),
-    (5, [ITEM, ('f', 1), END], "[item].1"),
-    (9, [('i', 0), ('f', 1), END], "[0].1"),
-    (10, [DEREF, ('i', 0), ('f', 1)], "::deref[0].1"),
-    (13, [DEREF, ('f', 1), END], "::deref.1"),
-    (14, [('i', 0), ('f', 1), END], "[0].1"),
-    (17, [INNER, ('f', 1), END], "::inner.1"),
-    (18, [INNER, ('f', 1), END], "::inner.1"),
-    (19, [('i', 0), ('f', 1), END], "[0].1"),
-    (22, [('i', 0), ('f', 1), END], "[0].1"),
-];
-
-/// The step of this letter, and of this number where it has one.
-fn step_of(rt: &impl Abort, alloc: Global, (letter, number): Step) -> PathStep {
-    match letter {
-        'f' => PathStep::Field(number),
-        'i' => PathStep::Index(number),
-        'k' => PathStep::MapKey(number),
-        'v' => PathStep::MapValue(number),
-        's' => PathStep::OptionSome,
-        'o' => PathStep::ResultOk,
-        'e' => PathStep::ResultErr,
-        't' => PathStep::SetItem,
-        'd' => PathStep::Deref,
-        'n' => PathStep::Inner,
-        'p' => PathStep::Proxy,
-        _ => match Text::new(alloc, "a b") {
-            Ok(key) => PathStep::Entry(key),
+/// The step that a word tells.
+fn step_of(rt: &impl Abort, alloc: Global, word: &str) -> PathStep {
+    match word {
+        "some" => return PathStep::OptionSome,
+        "ok" => return PathStep::ResultOk,
+        "err" => return PathStep::ResultErr,
+        "item" => return PathStep::SetItem,
+        "deref" => return PathStep::Deref,
+        "inner" => return PathStep::Inner,
+        "proxy" => return PathStep::Proxy,
+        "entry" => match Text::new(alloc, "a b") {
+            Ok(key) => return PathStep::Entry(key),
             Err(_) => panic!(rt; "no memory"),
         },
+        _ => (),
+    }
+    let (letter, given) = cut(rt, word, ":");
+    let number = number(rt, given);
+    match letter {
+        "f" => PathStep::Field(number),
+        "i" => PathStep::Index(number),
+        "k" => PathStep::MapKey(number),
+        "v" => PathStep::MapValue(number),
+        _ => panic!(rt; "no step: {word}"),
     }
 }
 
@@ -129,20 +115,17 @@ fn push(rt: &impl Abort, path: &mut Path, step: PathStep) {
     assert!(rt; pushed.is_ok());
 }
 
-/// Ends the test where the path of these steps has another text than is wanted.
-fn check(
-    rt: &impl Abort,
-    alloc: Global,
-    table: &ShapeTable,
-    (root, steps, want): (u32, [Step; 3], &str),
-) {
+/// Ends the test where the path of a row has another text than is wanted.
+fn check_row(rt: &impl Abort, alloc: Global, table: &ShapeTable, row: &str) {
+    let (root, row) = cut(rt, row, ";");
+    let (steps, want) = cut(rt, row, ";");
     let mut path = Path::new(alloc);
-    for step in steps {
-        if step.0 != END.0 {
-            push(rt, &mut path, step_of(rt, alloc, step));
+    for word in steps.split(' ') {
+        if !word.is_empty() {
+            push(rt, &mut path, step_of(rt, alloc, word));
         }
     }
-    match path.format_with_shape(alloc, table, ShapeId(root)) {
+    match path.format_with_shape(alloc, table, ShapeId(number(rt, root))) {
         Ok(text) => assert!(rt; text.as_str() == want, "{want} at shape {root}"),
         Err(_) => panic!(rt; "no memory"),
     }
@@ -152,7 +135,10 @@ fn check(
 fn fields_have_names_while_shapes_are_known(rt: HostRuntime) {
     let table = table_of(&rt, rt.alloc(), SHAPES);
     assert!(rt; table.len() == 23);
-    for row in ROWS {
-        check(&rt, rt.alloc(), &table, row);
+    let mut found = 0usize;
+    for row in ROWS.trim().lines() {
+        check_row(&rt, rt.alloc(), &table, row.trim());
+        found = found.saturating_add(1);
     }
+    assert!(rt; found == ROW_COUNT);
 }

@@ -7,7 +7,9 @@ ghost use Rattle.fr_frame.specs.Completing.{shape_of};
 use crate::texts::{planned, table_of};
 use fr_frame::{FrameOwner, Slots, Tracker};
 use fr_plan::{NodeId, TypePlanCore};
-use fr_shape::{NoHooks, ReflectErrorKind, ShapeTable, Value};
+use fr_shape::{FieldRef, NoHooks, ReflectErrorKind, ShapeTable, Text, Value};
+use std::alloc::Global;
+use std::process::Abort;
 
 /// A number and a struct with one of them, which is at least 5 and takes the default 7.
 const RECORD: &str = r#"[{"name":"u64","def":"u64"},{"name":"Record","def":{"struct":[
@@ -37,26 +39,35 @@ fn is_empty(table: &ShapeTable, plan: &TypePlanCore, node: NodeId) -> bool
     }
 }
 
-#[test]
-fn a_value_that_fails_is_refused(rt: HostRuntime) {
-    let table = table_of(&rt, rt.alloc(), RECORD);
-    let plan = planned(&rt, rt.alloc(), &table);
-    let mut slots = Slots::new(rt.alloc());
+/// What running the validators of the struct ends in whose field is there with this value.
+fn validated(rt: &impl Abort, alloc: Global, value: u128) -> Result<(), ReflectErrorKind> {
+    let table = table_of(rt, alloc, RECORD);
+    let plan = planned(rt, alloc, &table);
+    let mut slots = Slots::new(alloc);
     let Ok(id) = slots.enter(&table, &plan, plan.root_id(), FrameOwner::Root) else {
-        panic!(&rt; "no memory");
+        panic!(rt; "no memory");
     };
     if is_empty(&table, &plan, plan.root_id()) {
-        panic!(&rt; "no field");
+        panic!(rt; "no field");
     }
     if id.begin(&mut slots, Tracker::Fields(None), 1).is_err() {
-        panic!(&rt; "no memory");
+        panic!(rt; "no memory");
     }
-    id.put_child(&mut slots, 0, Value::Nat(1));
-    match id.run_validators(&slots, &plan, &NoHooks) {
-        Err(ReflectErrorKind::ValidationFailed { field, message }) => {
-            assert!(&rt; field.shape.0 == 1 && field.variant.is_none() && field.index == 0);
-            assert!(&rt; message.as_str() == "must be >= 5, got 1");
-        }
-        _ => panic!(&rt; "not refused by a validator"),
+    id.put_child(&mut slots, 0, Value::Nat(value));
+    id.run_validators(&slots, &plan, &NoHooks)
+}
+
+/// The field of which a value was refused, and what is said of it.
+fn refused(rt: &impl Abort, outcome: Result<(), ReflectErrorKind>) -> (FieldRef, Text) {
+    match outcome {
+        Err(ReflectErrorKind::ValidationFailed { field, message }) => (field, message),
+        _ => panic!(rt; "not refused by a validator"),
     }
+}
+
+#[test]
+fn a_value_that_fails_is_refused(rt: HostRuntime) {
+    let (field, message) = refused(&rt, validated(&rt, rt.alloc(), 1));
+    assert!(&rt; field.shape.0 == 1 && field.variant.is_none() && field.index == 0);
+    assert!(&rt; message.as_str() == "must be >= 5, got 1");
 }

@@ -114,3 +114,19 @@ pub fn check_fit(
         "{text} at shape {id}"
     );
 }
+
+/// What a row has before this and behind it.
+pub fn cut<'a>(rt: &impl Abort, row: &'a str, at: &str) -> (&'a str, &'a str) {
+    match row.split_once(at) {
+        Some((before, behind)) => (before.trim(), behind.trim()),
+        None => panic!(rt; "a row that ends early: {row}"),
+    }
+}
+
+/// The number that is given in a row.
+pub fn number(rt: &impl Abort, given: &str) -> u32 {
+    match given.parse::<u32>() {
+        Ok(number) => number,
+        Err(_) => panic!(rt; "no number: {given}"),
+    }
+}

@@ -1,6 +1,6 @@
 //! Values that pass and values that fail, with what is said of them. What finds no memory ends the
 //! test.
-use crate::texts::value_of;
+use crate::texts::{cut, number, value_of};
 use fr_doc::DocHooks;
 use fr_rules::*;
 use fr_shape::{FieldRef, HookId, ReflectErrorKind, ScalarKind, ShapeId, Text};
@@ -24,270 +24,152 @@ fn check(rt: &impl Abort, alloc: Global, kind: ValidatorKind, value: &str, said:
     }
 }
 
-/// Bounds, each of them the least or else the most that a kind of number may be, with numbers at
-/// their edge and beyond, and what is said of those. A u64 above the greatest i64 passes every least
-/// bound and fails every greatest; numbers of the machine's width and of 128 bits pass all.
-const BOUNDS: [(bool, i64, ScalarKind, &str, Option<&str>); 46] = [
-    (true, -128, ScalarKind::I8, r#"{"i":-128}"#, None),
-    (
-        true,
-        -127,
-        ScalarKind::I8,
-        r#"{"i":-128}"#,
-        Some("must be >= -127, got -128"),
-    ),
-    (true, -32768, ScalarKind::I16, r#"{"i":-32768}"#, None),
-    (
-        true,
-        -32767,
-        ScalarKind::I16,
-        r#"{"i":-32768}"#,
-        Some("must be >= -32767, got -32768"),
-    ),
-    (
-        true,
-        -2147483648,
-        ScalarKind::I32,
-        r#"{"i":-2147483648}"#,
-        None,
-    ),
-    (
-        true,
-        -2147483647,
-        ScalarKind::I32,
-        r#"{"i":-2147483648}"#,
-        Some("must be >= -2147483647, got -2147483648"),
-    ),
-    (
-        true,
-        -9223372036854775808,
-        ScalarKind::I64,
-        r#"{"i":-9223372036854775808}"#,
-        None,
-    ),
-    (
-        true,
-        -9223372036854775807,
-        ScalarKind::I64,
-        r#"{"i":-9223372036854775808}"#,
-        Some("must be >= -9223372036854775807, got -9223372036854775808"),
-    ),
-    (false, 127, ScalarKind::I8, r#"{"i":127}"#, None),
-    (
-        false,
-        126,
-        ScalarKind::I8,
-        r#"{"i":127}"#,
-        Some("must be <= 126, got 127"),
-    ),
-    (false, 32767, ScalarKind::I16, r#"{"i":32767}"#, None),
-    (
-        false,
-        32766,
-        ScalarKind::I16,
-        r#"{"i":32767}"#,
-        Some("must be <= 32766, got 32767"),
-    ),
-    (
-        false,
-        2147483647,
-        ScalarKind::I32,
-        r#"{"i":2147483647}"#,
-        None,
-    ),
-    (
-        false,
-        2147483646,
-        ScalarKind::I32,
-        r#"{"i":2147483647}"#,
-        Some("must be <= 2147483646, got 2147483647"),
-    ),
-    (
-        false,
-        9223372036854775807,
-        ScalarKind::I64,
-        r#"{"i":9223372036854775807}"#,
-        None,
-    ),
-    (
-        false,
-        9223372036854775806,
-        ScalarKind::I64,
-        r#"{"i":9223372036854775807}"#,
-        Some("must be <= 9223372036854775806, got 9223372036854775807"),
-    ),
-    (true, 0, ScalarKind::U8, "0", None),
-    (true, 1, ScalarKind::U8, "0", Some("must be >= 1, got 0")),
-    (true, -1, ScalarKind::U8, "0", None),
-    (
-        true,
-        256,
-        ScalarKind::U8,
-        "255",
-        Some("must be >= 256, got 255"),
-    ),
-    (true, 0, ScalarKind::U16, "0", None),
-    (true, 1, ScalarKind::U16, "0", Some("must be >= 1, got 0")),
-    (true, 0, ScalarKind::U32, "0", None),
-    (true, 1, ScalarKind::U32, "0", Some("must be >= 1, got 0")),
-    (true, 0, ScalarKind::U64, "0", None),
-    (true, 1, ScalarKind::U64, "0", Some("must be >= 1, got 0")),
-    (
-        true,
-        9223372036854775807,
-        ScalarKind::U64,
-        "9223372036854775808",
-        None,
-    ),
-    (
-        true,
-        9223372036854775807,
-        ScalarKind::U64,
-        "18446744073709551615",
-        None,
-    ),
-    (false, 255, ScalarKind::U8, "255", None),
-    (
-        false,
-        254,
-        ScalarKind::U8,
-        "255",
-        Some("must be <= 254, got 255"),
-    ),
-    (false, -1, ScalarKind::U8, "0", Some("must be <= -1, got 0")),
-    (false, 65535, ScalarKind::U16, "65535", None),
-    (
-        false,
-        65534,
-        ScalarKind::U16,
-        "65535",
-        Some("must be <= 65534, got 65535"),
-    ),
-    (false, 4294967295, ScalarKind::U32, "4294967295", None),
-    (
-        false,
-        4294967294,
-        ScalarKind::U32,
-        "4294967295",
-        Some("must be <= 4294967294, got 4294967295"),
-    ),
-    (
-        false,
-        9223372036854775807,
-        ScalarKind::U64,
-        "9223372036854775807",
-        None,
-    ),
-    (
-        false,
-        9223372036854775807,
-        ScalarKind::U64,
-        "9223372036854775808",
-        Some("must be <= 9223372036854775807, got 9223372036854775808"),
-    ),
-    (
-        false,
-        9223372036854775807,
-        ScalarKind::U64,
-        "18446744073709551615",
-        Some("must be <= 9223372036854775807, got 18446744073709551615"),
-    ),
-    (true, 5, ScalarKind::ISize, r#"{"i":4}"#, None),
-    (false, 5, ScalarKind::ISize, r#"{"i":6}"#, None),
-    (true, 5, ScalarKind::I128, r#"{"i":4}"#, None),
-    (false, 5, ScalarKind::I128, r#"{"i":6}"#, None),
-    (true, 5, ScalarKind::USize, "4", None),
-    (false, 5, ScalarKind::USize, "6", None),
-    (true, 5, ScalarKind::U128, "4", None),
-    (false, 5, ScalarKind::U128, "6", None),
-];
+/// Of each row the validator, the kind that it tests, what it asks, and a value; and behind a bar what
+/// is said where the value fails. Numbers stand at their kind's edge and beyond: a U64 above the
+/// greatest I64 passes every least bound and fails every greatest, and numbers of the machine's width
+/// and of 128 bits pass all. Of the hooks of documents 2 refuses each value, and 4 is none.
+const ROWS: &str = r#"
+    min I8 -128 {"i":-128}
+    min I8 -127 {"i":-128} | must be >= -127, got -128
+    min I16 -32768 {"i":-32768}
+    min I16 -32767 {"i":-32768} | must be >= -32767, got -32768
+    min I32 -2147483648 {"i":-2147483648}
+    min I32 -2147483647 {"i":-2147483648} | must be >= -2147483647, got -2147483648
+    min I64 -9223372036854775808 {"i":-9223372036854775808}
+    min I64 -9223372036854775807 {"i":-9223372036854775808} | must be >= -9223372036854775807, got -9223372036854775808
+    max I8 127 {"i":127}
+    max I8 126 {"i":127} | must be <= 126, got 127
+    max I16 32767 {"i":32767}
+    max I16 32766 {"i":32767} | must be <= 32766, got 32767
+    max I32 2147483647 {"i":2147483647}
+    max I32 2147483646 {"i":2147483647} | must be <= 2147483646, got 2147483647
+    max I64 9223372036854775807 {"i":9223372036854775807}
+    max I64 9223372036854775806 {"i":9223372036854775807} | must be <= 9223372036854775806, got 9223372036854775807
+    min U8 0 0
+    min U8 1 0 | must be >= 1, got 0
+    min U8 -1 0
+    min U8 256 255 | must be >= 256, got 255
+    min U16 0 0
+    min U16 1 0 | must be >= 1, got 0
+    min U32 0 0
+    min U32 1 0 | must be >= 1, got 0
+    min U64 0 0
+    min U64 1 0 | must be >= 1, got 0
+    min U64 9223372036854775807 9223372036854775808
+    min U64 9223372036854775807 18446744073709551615
+    max U8 255 255
+    max U8 254 255 | must be <= 254, got 255
+    max U8 -1 0 | must be <= -1, got 0
+    max U16 65535 65535
+    max U16 65534 65535 | must be <= 65534, got 65535
+    max U32 4294967295 4294967295
+    max U32 4294967294 4294967295 | must be <= 4294967294, got 4294967295
+    max U64 9223372036854775807 9223372036854775807
+    max U64 9223372036854775807 9223372036854775808 | must be <= 9223372036854775807, got 9223372036854775808
+    max U64 9223372036854775807 18446744073709551615 | must be <= 9223372036854775807, got 18446744073709551615
+    min ISize 5 {"i":4}
+    max ISize 5 {"i":6}
+    min I128 5 {"i":4}
+    max I128 5 {"i":6}
+    min USize 5 4
+    max USize 5 6
+    min U128 5 4
+    max U128 5 6
+    min_length String 6 "héllo"
+    min_length String 7 "héllo" | length must be >= 7, got 6
+    max_length CowStr 6 "héllo"
+    max_length CowStr 5 "héllo" | length must be <= 5, got 6
+    url String - "http://"
+    url String - "https://a.b"
+    url String - "ftp://a.b" | 'ftp://a.b' is not a valid URL
+    regex String ab "aab"
+    contains CowStr ab "aab"
+    regex String '' ""
+    contains CowStr '' ""
+    regex String a.b "aab" | 'aab' does not match pattern 'a.b'
+    contains CowStr a.b "aab" | 'aab' does not contain 'a.b'
+    custom String 4 true
+    custom String 2 true | custom validation failed
+"#;
+
+const ROW_COUNT: usize = 61;
+
+fn scalar_of(rt: &impl Abort, name: &str) -> ScalarKind {
+    match name {
+        "I8" => ScalarKind::I8,
+        "I16" => ScalarKind::I16,
+        "I32" => ScalarKind::I32,
+        "I64" => ScalarKind::I64,
+        "ISize" => ScalarKind::ISize,
+        "I128" => ScalarKind::I128,
+        "U8" => ScalarKind::U8,
+        "U16" => ScalarKind::U16,
+        "U32" => ScalarKind::U32,
+        "U64" => ScalarKind::U64,
+        "USize" => ScalarKind::USize,
+        "U128" => ScalarKind::U128,
+        "String" => ScalarKind::String,
+        "CowStr" => ScalarKind::CowStr,
+        _ => panic!(rt; "no kind: {name}"),
+    }
+}
+
+/// The bound that is given in a row.
+fn bound(rt: &impl Abort, given: &str) -> i64 {
+    match given.parse::<i64>() {
+        Ok(bound) => bound,
+        Err(_) => panic!(rt; "no bound: {given}"),
+    }
+}
+
+/// The part of a text that is given in a row: nothing, if it is a pair of quotes.
+fn part(rt: &impl Abort, alloc: Global, given: &str) -> Text {
+    let part = if given == "''" { "" } else { given };
+    match Text::new(alloc, part) {
+        Ok(text) => text,
+        Err(_) => panic!(rt; "no memory"),
+    }
+}
+
+/// The validator that asks this of values of this kind.
+fn validator(
+    rt: &impl Abort,
+    alloc: Global,
+    name: &str,
+    kind: ScalarKind,
+    given: &str,
+) -> ValidatorKind {
+    match name {
+        "min" => ValidatorKind::Min(bound(rt, given), kind),
+        "max" => ValidatorKind::Max(bound(rt, given), kind),
+        "min_length" => ValidatorKind::MinLength(u64::from(number(rt, given)), kind),
+        "max_length" => ValidatorKind::MaxLength(u64::from(number(rt, given)), kind),
+        "url" => ValidatorKind::Url(kind),
+        "regex" => ValidatorKind::Regex(part(rt, alloc, given), kind),
+        "contains" => ValidatorKind::Contains(part(rt, alloc, given), kind),
+        "custom" => ValidatorKind::Custom(HookId(number(rt, given))),
+        _ => panic!(rt; "no validator: {name}"),
+    }
+}
+
+/// Runs the validator of a row over its value.
+fn check_row(rt: &impl Abort, alloc: Global, row: &str) {
+    let (name, row) = cut(rt, row, " ");
+    let (kind, row) = cut(rt, row, " ");
+    let (given, row) = cut(rt, row, " ");
+    let kind = validator(rt, alloc, name, scalar_of(rt, kind), given);
+    match row.split_once(" | ") {
+        Some((value, said)) => check(rt, alloc, kind, value, Some(said)),
+        None => check(rt, alloc, kind, row, None),
+    }
+}
 
 #[test]
-fn numbers_keep_to_bounds(rt: HostRuntime) {
-    for (is_least, bound, kind, value, said) in BOUNDS {
-        let kind = if is_least {
-            ValidatorKind::Min(bound, kind)
-        } else {
-            ValidatorKind::Max(bound, kind)
-        };
-        check(&rt, rt.alloc(), kind, value, said);
+fn values_pass_or_fail(rt: HostRuntime) {
+    let mut found = 0usize;
+    for row in ROWS.trim().lines() {
+        check_row(&rt, rt.alloc(), row.trim());
+        found = found.saturating_add(1);
     }
-}
-
-/// What is asked of other values, parts of texts aside.
-#[derive(Clone, Copy)]
-enum Asked {
-    Least(u64),
-    Most(u64),
-    Url,
-    Regex,
-    Contains,
-    Hook(u32),
-}
-
-/// The validator that asks this, of this part where it looks for one.
-fn asking(rt: &impl Abort, alloc: Global, asked: Asked, part: &str) -> ValidatorKind {
-    let Ok(part) = Text::new(alloc, part) else {
-        panic!(rt; "no memory");
-    };
-    match asked {
-        Asked::Least(length) => ValidatorKind::MinLength(length, ScalarKind::String),
-        Asked::Most(length) => ValidatorKind::MaxLength(length, ScalarKind::CowStr),
-        Asked::Url => ValidatorKind::Url(ScalarKind::String),
-        Asked::Regex => ValidatorKind::Regex(part, ScalarKind::String),
-        Asked::Contains => ValidatorKind::Contains(part, ScalarKind::CowStr),
-        Asked::Hook(hook) => ValidatorKind::Custom(HookId(hook)),
-    }
-}
-
-/// Of the hooks of documents 2 refuses each value, and 4 is none.
-const OTHERS: [(Asked, &str, &str, Option<&str>); 15] = [
-    (Asked::Least(6), "", r#""héllo""#, None),
-    (
-        Asked::Least(7),
-        "",
-        r#""héllo""#,
-        Some("length must be >= 7, got 6"),
-    ),
-    (Asked::Most(6), "", r#""héllo""#, None),
-    (
-        Asked::Most(5),
-        "",
-        r#""héllo""#,
-        Some("length must be <= 5, got 6"),
-    ),
-    (Asked::Url, "", r#""http://""#, None),
-    (Asked::Url, "", r#""https://a.b""#, None),
-    (
-        Asked::Url,
-        "",
-        r#""ftp://a.b""#,
-        Some("'ftp://a.b' is not a valid URL"),
-    ),
-    (Asked::Regex, "ab", r#""aab""#, None),
-    (Asked::Contains, "ab", r#""aab""#, None),
-    (Asked::Regex, "", r#""""#, None),
-    (Asked::Contains, "", r#""""#, None),
-    (
-        Asked::Regex,
-        "a.b",
-        r#""aab""#,
-        Some("'aab' does not match pattern 'a.b'"),
-    ),
-    (
-        Asked::Contains,
-        "a.b",
-        r#""aab""#,
-        Some("'aab' does not contain 'a.b'"),
-    ),
-    (Asked::Hook(4), "", "true", None),
-    (Asked::Hook(2), "", "true", Some("custom validation failed")),
-];
-
-#[test]
-fn texts_and_other_values_pass_or_fail(rt: HostRuntime) {
-    for (asked, part, value, said) in OTHERS {
-        let kind = asking(&rt, rt.alloc(), asked, part);
-        check(&rt, rt.alloc(), kind, value, said);
-    }
+    assert!(rt; found == ROW_COUNT);
 }

@@ -1,6 +1,8 @@
 //! For each definition values that fit it and values that don't.
-use crate::texts::{check_fit, table_of};
-use fr_shape::{ShapeId, Value, fits};
+use crate::texts::{cut, number, table_of, value_of};
+use fr_shape::{ShapeId, ShapeTable, Value, fits};
+use std::alloc::Global;
+use std::process::Abort;
 
 /// The shapes 0 to 13: the scalars, what holds a text or a token, and three wrappers, of which one
 /// leads to u8, one ends and one comes round. The shapes 14 to 23: a struct of u8 and bool, an enum
@@ -35,91 +37,100 @@ const SHAPES: &str = r#"[
     {"name":"23","def":{"pointer":{"pointee":2}}}
 ]"#;
 
-/// Which values fit which shapes.
-const ROWS: [(u32, &str, bool); 71] = [
-    (0, "true", true),
-    (0, "1", false),
-    (1, r#"{"i":-129}"#, false),
-    (1, r#"{"i":-128}"#, true),
-    (1, r#"{"i":127}"#, true),
-    (1, r#"{"i":128}"#, false),
-    (1, "0", false),
-    (2, "0", true),
-    (2, "255", true),
-    (2, "256", false),
-    (2, r#"{"i":0}"#, false),
-    (3, r#""word""#, true),
-    (3, r#"{"c":"a"}"#, false),
-    (4, r#""word""#, true),
-    (4, "true", false),
-    (5, r#"{"t":1}"#, true),
-    (5, "0", false),
-    (6, r#"{"t":1}"#, true),
-    (6, r#"{"p":7}"#, false),
-    (7, "0", true),
-    (7, "255", true),
-    (7, "256", false),
-    (8, "0", false),
-    (8, r#"{"t":1}"#, false),
-    (9, "0", false),
-    (10, r#"{"c":"a"}"#, true),
-    (10, r#""a""#, false),
-    (11, r#""word""#, true),
-    (11, "null", false),
-    (12, r#"{"t":1}"#, true),
-    (12, "0", false),
-    (13, r#"{"d":{"o":[["a",null],["b",null]]}}"#, true),
-    (
-        13,
-        r#"{"d":{"o":[["a",null],["b",null],["a",null]]}}"#,
-        false,
-    ),
-    (13, "null", false),
-    (14, "[7,true]", true),
-    (14, "[7,7]", false),
-    (14, "[7]", false),
-    (15, r#"{"v":[0,[]]}"#, true),
-    (15, r#"{"v":[1,[7]]}"#, true),
-    (15, r#"{"v":[0,[7]]}"#, false),
-    (15, r#"{"v":[2,[]]}"#, false),
-    (16, "null", true),
-    (16, r#"{"s":7}"#, true),
-    (16, r#"{"s":256}"#, false),
-    (16, r#"{"ok":7}"#, false),
-    (17, r#"{"ok":7}"#, true),
-    (17, r#"{"ok":true}"#, false),
-    (17, r#"{"err":true}"#, true),
-    (17, r#"{"err":7}"#, false),
-    (17, "null", false),
-    (18, r#"{"l":[7,7]}"#, true),
-    (18, r#"{"l":[7,256]}"#, false),
-    (18, r#"{"e":[7]}"#, false),
-    (19, r#"{"l":[7,7]}"#, true),
-    (19, r#"{"l":[256]}"#, false),
-    (20, r#"{"e":[7,8]}"#, true),
-    (20, r#"{"e":[7,8,7]}"#, false),
-    (21, r#"{"m":[[7,true],[8,true]]}"#, true),
-    (21, r#"{"m":[[7,true],[7,true]]}"#, false),
-    (21, r#"{"m":[[256,true]]}"#, false),
-    (22, "[7,8]", true),
-    (22, "[7,8,9]", false),
-    (22, "[7,256]", false),
-    (23, r#"{"p":7}"#, true),
-    (23, r#"{"p":256}"#, false),
-    (23, r#"{"t":1}"#, false),
-    (24, "0", false),
-    (24, "true", false),
-    (24, r#""word""#, false),
-    (24, r#"{"t":1}"#, false),
-    (24, "null", false),
-];
+/// Of each row a shape's number, and a value that fits it or doesn't.
+const ROWS: &str = r#"
+    0 is true
+    0 not 1
+    1 not {"i":-129}
+    1 is {"i":-128}
+    1 is {"i":127}
+    1 not {"i":128}
+    1 not 0
+    2 is 0
+    2 is 255
+    2 not 256
+    2 not {"i":0}
+    3 is "word"
+    3 not {"c":"a"}
+    4 is "word"
+    4 not true
+    5 is {"t":1}
+    5 not 0
+    6 is {"t":1}
+    6 not {"p":7}
+    7 is 0
+    7 is 255
+    7 not 256
+    8 not 0
+    8 not {"t":1}
+    9 not 0
+    10 is {"c":"a"}
+    10 not "a"
+    11 is "word"
+    11 not null
+    12 is {"t":1}
+    12 not 0
+    13 is {"d":{"o":[["a",null],["b",null]]}}
+    13 not {"d":{"o":[["a",null],["b",null],["a",null]]}}
+    13 not null
+    14 is [7,true]
+    14 not [7,7]
+    14 not [7]
+    15 is {"v":[0,[]]}
+    15 is {"v":[1,[7]]}
+    15 not {"v":[0,[7]]}
+    15 not {"v":[2,[]]}
+    16 is null
+    16 is {"s":7}
+    16 not {"s":256}
+    16 not {"ok":7}
+    17 is {"ok":7}
+    17 not {"ok":true}
+    17 is {"err":true}
+    17 not {"err":7}
+    17 not null
+    18 is {"l":[7,7]}
+    18 not {"l":[7,256]}
+    18 not {"e":[7]}
+    19 is {"l":[7,7]}
+    19 not {"l":[256]}
+    20 is {"e":[7,8]}
+    20 not {"e":[7,8,7]}
+    21 is {"m":[[7,true],[8,true]]}
+    21 not {"m":[[7,true],[7,true]]}
+    21 not {"m":[[256,true]]}
+    22 is [7,8]
+    22 not [7,8,9]
+    22 not [7,256]
+    23 is {"p":7}
+    23 not {"p":256}
+    23 not {"t":1}
+    24 not 0
+    24 not true
+    24 not "word"
+    24 not {"t":1}
+    24 not null
+"#;
+
+const ROW_COUNT: usize = 71;
+
+/// Ends the test where the value of a row fits the shape otherwise than is wanted.
+fn check_row(rt: &impl Abort, alloc: Global, table: &ShapeTable, row: &str) {
+    let (id, row) = cut(rt, row, " ");
+    let (is, text) = cut(rt, row, " ");
+    let fit = fits(table, ShapeId(number(rt, id)), &value_of(rt, alloc, text));
+    assert!(rt; fit == (is == "is"), "{text} at shape {id}");
+}
 
 /// The placeholder fits none.
 #[test]
 fn values_fit_their_shapes(rt: HostRuntime) {
     let table = table_of(&rt, rt.alloc(), SHAPES);
     assert!(rt; table.len() == 24 && !fits(&table, ShapeId(0), &Value::Unit));
-    for row in ROWS {
-        check_fit(&rt, rt.alloc(), &table, row);
+    let mut found = 0usize;
+    for row in ROWS.trim().lines() {
+        check_row(&rt, rt.alloc(), &table, row.trim());
+        found = found.saturating_add(1);
     }
+    assert!(rt; found == ROW_COUNT);
 }
