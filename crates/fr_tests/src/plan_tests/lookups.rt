@@ -267,7 +267,7 @@ const PROXIES: &str = r#"[
 ]"#;
 
 #[test]
-fn a_format_takes_its_own_proxy_that_of_all_or_none(rt: HostRuntime) {
+fn a_format_takes_its_own_proxy_or_that_of_all(rt: HostRuntime) {
     let table = table_of(&rt, rt.alloc(), PROXIES);
     let plan = planned(&rt, rt.alloc(), &table);
     let proxies = &plan.root().proxies;
@@ -280,6 +280,12 @@ fn a_format_takes_its_own_proxy_that_of_all_or_none(rt: HostRuntime) {
         assert!(rt; shape_at(&plan, proxies.node_for(format)) == Some(shape));
     }
     assert!(rt; proxies.has_any() && !proxies.is_empty());
+}
+
+#[test]
+fn a_format_without_a_proxy_has_no_node(rt: HostRuntime) {
+    let table = table_of(&rt, rt.alloc(), PROXIES);
+    let plan = planned(&rt, rt.alloc(), &table);
     let Some(field) = plan.struct_field_node(plan.root(), 0) else {
         panic!(rt; "no field");
     };
