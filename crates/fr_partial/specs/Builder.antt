@@ -23,7 +23,7 @@ use Rattle.fr_work.specs.ParseHooks.{parses_by_hook}
 use Rattle.fr_moves.specs.Sites.{Site, site_code}
 use Rattle.fr_work.specs.declared.reflect_error.ReflectError.{ReflectError}
 
--- the table that its shapes come from, the hooks, the root's shape, the plan of that, and the state
+-- the table that its shapes come from, the hooks, the root's shape, the plan by which it is built, and the state
 pub record Builder (H : Type 0) : Type 0 where
   pub shapes : Table
   pub hooks : H

@@ -1,6 +1,6 @@
 //! The builder.
 ghost use Rattle.std.specs.Prelude.{◌+◌, ◌≡◌};
-ghost use Rattle.fr_partial.specs.Common.{Call, ConversionsSuit, IfOk, IsCall, IsChecked, IsInOrder, IsMeant, IsNotOutOfMemory, IsNumbered, IsPlanOf, List, NeedsNone, None, RestsAround, Room, RoseBy, cursor_tree, holds, path_of, ℕ};
+ghost use Rattle.fr_partial.specs.Common.{Call, ConversionsSuit, IfOk, IsCall, IsChecked, IsIn, IsInOrder, IsMeant, IsNotOutOfMemory, IsNumbered, IsPlanOf, List, NeedsNone, None, RestsAround, Room, RoseBy, cursor_tree, holds, path_of, ℕ};
 ghost use Rattle.fr_partial.specs.Builder.{meaning, site_of};
 ghost use Rattle.fr_moves.specs.CompletedPlaces.{PassesValidators};
 ghost use Rattle.fr_work.specs.Deciding.{carries, DecidesBy, NeedsMessageAlone, WasDecided};
@@ -38,11 +38,13 @@ impl<'t, H> Model for Partial<'t, H> {
 
 impl<'t, H: Hooks> Partial<'t, H> {
     /// Does nothing: its contract is what is true of every builder, whoever made it. With it the
-    /// laws of fr_model apply to a builder that one was handed: its state is well but for its
-    /// tokens. That these are distinct follows from the caller's own premises, by `law_well`.
+    /// laws of fr_plan apply to the plan of a builder that one was handed, which is a plan of its
+    /// root, and those of fr_model to the builder: its state is well but for its tokens. That these
+    /// are distinct follows from the caller's own premises, by `law_well`.
     pub fn law_in_order(&self)
         ensures numbered { IsNumbered self.now.shapes }
         ensures checked { IsChecked self.now.shapes }
+        ensures inside { IsIn self.now.shapes self.now.root }
         ensures plan { IsPlanOf self.now.shapes (record { 0 = self.now.root }) self.now.plan }
         ensures in_order { IsInOrder self.now.shapes self.now.root self.now.state }
         ensures rests { RestsAround self.now.state.cursor self.now.state.tree }

@@ -28,6 +28,7 @@ impl<'t, H: Hooks> Partial<'t, H> {
         ensures shapes { IfOk result (λ p. p.shapes ≡ table.now) }
         ensures hooks { IfOk result (λ p. p.hooks ≡ hooks.now) }
         ensures root { IfOk result (λ p. p.root ≡ id.0) }
+        ensures plan { IfOk result (λ p. IsPlanOf table.now id p.plan) }
         ensures state { IfOk result (λ p. p.state ≡ initial table.now id.0) }
         ensures refused { RefusedWith (alloc_refusal table.now id.0) result }
     {
@@ -54,6 +55,7 @@ impl<'t, H: Hooks> Partial<'t, H> {
         ensures shapes { IfOk result (λ p. p.shapes ≡ table.now) }
         ensures hooks { IfOk result (λ p. p.hooks ≡ hooks.now) }
         ensures root { IfOk result (λ p. p.root ≡ id.0) }
+        ensures plan { IfOk result (λ p. IsPlanOf table.now id p.plan) }
         ensures state { IfOk result (λ p. p.state ≡ initial table.now id.0) }
         ensures refused { RefusedWith (alloc_refusal table.now id.0) result }
     {

@@ -2,14 +2,14 @@
 //! of a value.
 ghost use Rattle.std.specs.Prelude.{◌+◌, ◌∷◌, ◌≡◌};
 ghost use Rattle.fr_facet.specs.Facets.{IsReadIf};
-ghost use Rattle.fr_partial.specs.Common.{Call, IfOk, IsChecked, IsIn, IsNotOutOfMemory, IsNumbered, OnErr, OnOk, Room, RoseBy, [], false, fits, holds, occurs, true, view};
+ghost use Rattle.fr_partial.specs.Common.{Call, IfOk, IsChecked, IsIn, IsNotOutOfMemory, IsNumbered, IsPlanOf, OnErr, OnOk, Room, RoseBy, [], false, fits, holds, occurs, true, view};
 ghost use Rattle.fr_refusals.specs.SettingDynamic.{copies_at};
 ghost use Rattle.fr_model.specs.Run.{alloc_refusal};
 ghost use Rattle.fr_model.specs.Tree.{initial};
 ghost use Rattle.fr_partial.specs.Builder.{IsCall, here};
 ghost use Rattle.fr_partial.specs.Several.{AreCalls};
 ghost use Rattle.fr_work.specs.Starting.{RefusedWith};
-ghost use Rattle.fr_partial.specs.Typed.{HasShape, own_number};
+ghost use Rattle.fr_partial.specs.Typed.{HasShape, own_number, own_shape};
 
 use crate::{Partial, ReflectError};
 use fr_facet::{Facet, FacetFault, law_facet};
@@ -82,6 +82,8 @@ impl<'t, H: Hooks> Partial<'t, H> {
         ensures shapes { IfOk result (λ p. p.shapes ≡ table.now) }
         ensures hooks { IfOk result (λ p. p.hooks ≡ hooks.now) }
         ensures root { IfOk result (λ p. p.root ≡ own_number T.is_own table.now) }
+        ensures plan { IfOk result (λ p.
+            IsPlanOf table.now (own_shape T.is_own table.now) p.plan) }
         ensures state { IfOk result (λ p.
             p.state ≡ initial table.now (own_number T.is_own table.now)) }
         ensures refused { RefusedWith (alloc_refusal table.now (own_number T.is_own table.now))
@@ -102,6 +104,8 @@ impl<'t, H: Hooks> Partial<'t, H> {
         ensures shapes { IfOk result (λ p. p.shapes ≡ table.now) }
         ensures hooks { IfOk result (λ p. p.hooks ≡ hooks.now) }
         ensures root { IfOk result (λ p. p.root ≡ own_number T.is_own table.now) }
+        ensures plan { IfOk result (λ p.
+            IsPlanOf table.now (own_shape T.is_own table.now) p.plan) }
         ensures state { IfOk result (λ p.
             p.state ≡ initial table.now (own_number T.is_own table.now)) }
         ensures refused { RefusedWith (alloc_refusal table.now (own_number T.is_own table.now))

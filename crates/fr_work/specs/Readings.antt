@@ -137,7 +137,8 @@ abbrev pub node_of_child : Plan → NodeId → ℕ → Tree → NodeId
 node_of_child plan node i (begun tracker children) = child_node plan node tracker i
 node_of_child plan node i _ = node
 
--- the plan's node of the place that lies so in a tree whose top is of this node: lookup by lookup
+-- the plan's node of the place that lies so in a tree whose top is of this node, child by child: what the plan's lookup has; of a source the own
+-- node of its shape; and of a part of a dynamic value the same node
 abbrev pub node_down : Plan → NodeId → Place → Tree → NodeId
 node_down plan node [] t = node
 node_down plan node (i ∷ place) t = node_down plan (node_of_child plan node i t) place (child_tree i t)

@@ -1,7 +1,7 @@
 //! What a builder works with, and its moves as a whole: what is decided is made, or all is
 //! released.
 ghost use Rattle.std.specs.Prelude.{◌+◌, ◌≡◌};
-ghost use Rattle.fr_work.specs.Common.{Conserved, ConversionsSuit, IfErr, IsChecked, IsErr, IsInOrder, IsMeant, IsNotOutOfMemory, IsNumbered, IsPlanOf, None, RestsAround, Room, RoseBy, Sees, body_of, carried, false, held_at, held_in, is_map, lacks_last, lacks_value, length, meant_by, mode_of, own_tree, path_of, strict, true};
+ghost use Rattle.fr_work.specs.Common.{Conserved, ConversionsSuit, IfErr, IsChecked, IsErr, IsIn, IsInOrder, IsMeant, IsNotOutOfMemory, IsNumbered, IsPlanOf, None, RestsAround, Room, RoseBy, Sees, body_of, carried, false, held_at, held_in, is_map, lacks_last, lacks_value, length, meant_by, mode_of, own_tree, path_of, strict, true};
 ghost use Rattle.fr_model.specs.Step.{begin_deferred};
 ghost use Rattle.fr_work.specs.Making.{left_at, IsMoved};
 ghost use Rattle.fr_moves.specs.CompletedPlaces.{PassesValidators};
@@ -64,6 +64,7 @@ impl<'t> Work<'t> {
     pub fn law_sound(&self)
         ensures numbered { IsNumbered self.now.shapes }
         ensures checked { IsChecked self.now.shapes }
+        ensures inside { IsIn self.now.shapes self.now.root }
         ensures plan { IsPlanOf self.now.shapes (record { 0 = self.now.root }) self.now.plan }
         ensures in_order { IsInOrder self.now.shapes self.now.root self.now.state }
         ensures rests { RestsAround self.now.state.cursor self.now.state.tree }
