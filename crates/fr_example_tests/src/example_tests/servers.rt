@@ -1,8 +1,12 @@
 //! A struct of the caller's own, by its type.
-use super::texts::{check_kind, no_tokens, table_of};
+ghost use Rattle.std.specs.Prelude.{◌≡◌, ℕ};
+ghost use Rattle.fr_shape.specs.Tokens.{occurs};
+ghost use Rattle.fr_shape.specs.View.{view};
+
+use super::texts::{check_kind, check_value, no_tokens, table_of};
 use fr_example::{Server, Unbuilt, build_server, server_table};
 use fr_partial::Facet;
-use fr_shape::ShapeId;
+use fr_shape::{Items, ShapeId, Text, Value};
 use std::alloc::Global;
 use std::process::Abort;
 
@@ -50,4 +54,34 @@ fn a_server_is_built_by_its_type_and_has_its_fields_in_order(rt: HostRuntime) {
     assert!(rt; Server::find(&own) == Some(ShapeId(3)));
     let other = table_of(&rt, TURNED_ROUND);
     assert!(rt; Server::find(&other).is_none());
+}
+
+/// Ends the test unless the value is an element of the type, and that has this value again.
+fn check_element<T: Facet>(rt: &(impl Abort + AllocGlobal), value: Value, want: &str)
+    requires no_token { (t : ℕ) → occurs (view value) t ≡ 0 }
+{
+    let mut ledger = no_tokens(rt, rt.alloc());
+    let Ok(element) = T::from_value(rt.alloc(), value, &mut ledger) else {
+        panic!(rt; "not read");
+    };
+    match element.into_value(rt.alloc(), &mut ledger) {
+        Ok(value) => check_value(rt, &value, want),
+        Err(_) => panic!(rt; "no memory"),
+    }
+}
+
+#[test]
+fn a_server_goes_in_and_comes_out_as_a_value(rt: HostRuntime) {
+    let Ok(ports) = vec![in rt.alloc(); Value::Nat(80), Value::Nat(8080)] else {
+        panic!(rt; "no memory");
+    };
+    let ports = Value::List(Items::from_vec(ports));
+    let Ok(host) = Text::new(rt.alloc(), "a") else {
+        panic!(rt; "no memory");
+    };
+    let Ok(fields) = vec![in rt.alloc(); Value::Text(host), ports] else {
+        panic!(rt; "no memory");
+    };
+    let server = Value::Product(Items::from_vec(fields));
+    check_element::<Server>(&rt, server, r#"["a",{"l":[80,8080]}]"#);
 }
