@@ -2,6 +2,7 @@ pub mod Apart
 pub mod Faults
 pub mod FewParts
 pub mod FieldsKept
+pub mod FirstDeclared
 pub mod InTurn
 pub mod KeysApart
 pub mod NoneTwice

@@ -56,9 +56,12 @@ abbrev pub named_fields : Fields → List Field
 named_fields = map (λ field. plain_field field.0.now field.1.0)
 
 -- a struct of these fields, in their order
+abbrev pub struct_with : (name : List ℕ) → (fields : List Field) → Shape
+struct_with name fields = plain_shape name (Def.Struct (record { kind = StructKind.Struct; fields = fields }))
+
+-- a struct of fields of which nothing is said but their names and shapes
 abbrev pub struct_shape : (name : List ℕ) → Fields → Shape
-struct_shape name fields =
-    plain_shape name (Def.Struct (record { kind = StructKind.Struct; fields = named_fields fields }))
+struct_shape name fields = struct_with name (named_fields fields)
 
 -- for each shape a field that is named by its number, counted from i
 abbrev pub numbered_fields : (i : ℕ) → List ShapeId → List Field

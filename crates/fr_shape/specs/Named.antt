@@ -1,9 +1,11 @@
 -- The names of fields and variants.
 use Rattle.std.specs.Prelude.{ℕ, suc, List, [], ◌∷◌, Option, Some, None, unwrap_or, if◌then◌else◌}
+use Rattle.std.specs.Option.{option_and_then}
 use Rattle.std.specs.Str.{bytes_eq}
 use Rattle.fr_shape.specs.declared.shape.Def.{Def}
 use Rattle.fr_shape.specs.declared.shape.Field.{Field}
 use Rattle.fr_shape.specs.declared.shape.VariantDef.{VariantDef}
+use Rattle.fr_shape.specs.Look.{Table, def_of, field_in}
 
 -- the name that a rename gives, else the declared one
 abbrev pub effective_name : (rename : Option (List ℕ)) → (name : List ℕ) → List ℕ
@@ -36,3 +38,8 @@ field_named name (Def.Slice t) = None
 field_named name Def.Dynamic = None
 field_named name Def.Undefined = None
 field_named name Def.Other = None
+
+-- the first field of a struct shape that is declared under this name; another shape has none
+abbrev pub named_field : Table → (shape : ℕ) → (name : List ℕ) → Option Field
+named_field table shape name =
+    option_and_then (field_in (def_of table shape) None) (field_named name (def_of table shape))

@@ -1,7 +1,7 @@
 //! Shapes of which nothing is said but what their types say: a line for each type of a table.
 ghost use Rattle.std.specs.Prelude.{◌≡◌, IfOk, Some};
-ghost use Rattle.fr_shape.specs.Describing.{scalar_name, scalar_shape, opaque_shape, struct_shape, tuple_shape, enum_shape, option_shape, result_shape, list_shape, map_shape, set_shape, array_shape, box_shape, dynamic_shape, named_fields, numbered_fields, variant_kind, numbered_variants};
-ghost use Rattle.fr_shape.specs.Plain.{plain_shape};
+ghost use Rattle.fr_shape.specs.Describing.{scalar_name, scalar_shape, opaque_shape, struct_shape, struct_with, tuple_shape, enum_shape, option_shape, result_shape, list_shape, map_shape, set_shape, array_shape, box_shape, dynamic_shape, named_fields, numbered_fields, variant_kind, numbered_variants};
+ghost use Rattle.fr_shape.specs.Plain.{plain_field, plain_shape};
 
 use crate::{
     Def, DefaultSource, EnumDef, EnumRepr, Field, Items, KnownPointer, OutOfMemory, PointerDef,
@@ -32,8 +32,18 @@ impl Shape {
     ) -> Result<Shape, OutOfMemory>
         ensures described { IfOk result (λ shape. shape ≡ struct_shape name.now fields.now) }
     {
+        Shape::struct_with(alloc, name, named_fields(alloc, fields)?)
+    }
+
+    /// A struct of these fields, whatever is said of each: so fields with defaults are made in code.
+    pub fn struct_with(
+        alloc: Global,
+        name: &str,
+        fields: Items<Field>,
+    ) -> Result<Shape, OutOfMemory>
+        ensures described { IfOk result (λ shape. shape ≡ struct_with name.now fields) }
+    {
         let kind = StructKind::Struct;
-        let fields = named_fields(alloc, fields)?;
         named(alloc, name, Def::Struct(StructDef { kind, fields }))
     }
 
@@ -148,6 +158,13 @@ impl Shape {
 }
 
 impl Field {
+    /// A field of this name and shape, of which nothing else is said.
+    pub fn of(alloc: Global, name: &str, shape: ShapeId) -> Result<Field, OutOfMemory>
+        ensures described { IfOk result (λ field. field ≡ plain_field name.now shape.0) }
+    {
+        Ok(Field::new(alloc, Text::new(alloc, name)?, shape))
+    }
+
     /// The same field, marked with this default.
     pub fn with_default(self, default: DefaultSource) -> Field
         ensures default { result ≡ record self { default = Some default } }
@@ -193,7 +210,7 @@ fn named_fields(alloc: Global, fields: &[(&str, ShapeId)]) -> Result<Items<Field
 {
     let mut made = Items::new(alloc);
     for (name, shape) in fields {
-        made.push(Field::new(alloc, Text::new(alloc, *name)?, *shape))?;
+        made.push(Field::of(alloc, *name, *shape)?)?;
     }
     Ok(made)
 }
@@ -204,7 +221,7 @@ fn numbered_fields(alloc: Global, shapes: &[ShapeId]) -> Result<Items<Field>, Ou
     let mut made = Items::new(alloc);
     for (i, shape) in shapes.iter().enumerate() {
         let name = format!(in alloc; "{i}")?;
-        made.push(Field::new(alloc, Text::new(alloc, name.as_str())?, *shape))?;
+        made.push(Field::of(alloc, name.as_str(), *shape)?)?;
     }
     Ok(made)
 }

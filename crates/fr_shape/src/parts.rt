@@ -2,11 +2,8 @@
 ghost use Rattle.std.specs.Prelude.{◌≡◌, ◌&&◌, ◌||◌, Bool, [], ◌∷◌, is_some};
 ghost use Rattle.std.specs.List.{list_all};
 ghost use Rattle.std.specs.Prelude.{option_to_list};
-ghost use Rattle.fr_shape.specs.View.{view, vals_view, entries_view};
-ghost use Rattle.fr_shape.specs.Tokens.{tokens, vals_tokens, entries_tokens};
 ghost use Rattle.fr_shape.specs.Look.{def_of};
 ghost use Rattle.fr_shape.specs.Fits.{signed_bits, unsigned_bits};
-ghost use Rattle.fr_shape.specs.Lists.{is_nil};
 ghost use Rattle.fr_shape.specs.Checked.{is_sized, is_integer, is_string, suits, proxies_of, fields_of, contents_of, custom_hooks, is_template, default_is_template};
 ghost use Rattle.fr_shape.specs.Tests.{part_passes, hook_passes, proxy_passes, field_passes};
 
@@ -260,64 +257,12 @@ fn custom_hooks_pass(validators: &Items<ValidatorDef>) -> bool
     true
 }
 
-#[cycle(holds_no_token)]
-fn holds_no_token(v: &Value) -> bool
-    ensures { result ≡ is_nil (tokens (view v.now)) }
-{
-    match v {
-        Value::Token(_) => false,
-        Value::Product(values) => hold_no_token(values),
-        Value::Variant(_, values) => hold_no_token(values),
-        Value::Some(inner) => holds_no_token(inner),
-        Value::Ok(inner) => holds_no_token(inner),
-        Value::Err(inner) => holds_no_token(inner),
-        Value::List(values) => hold_no_token(values),
-        Value::Map(entries) => entries_hold_no_token(entries),
-        Value::Set(values) => hold_no_token(values),
-        Value::Ptr(inner) => holds_no_token(inner),
-        Value::Unit
-        | Value::Bool(_)
-        | Value::Char(_)
-        | Value::Int(_)
-        | Value::Nat(_)
-        | Value::Text(_)
-        | Value::None
-        | Value::Dyn(_) => true,
-    }
-}
-
-#[cycle(holds_no_token)]
-#[tactic(auto, using(crate::proofs::Faults::is_nil_append))]
-fn hold_no_token(values: &Items<Value>) -> bool
-    ensures { result ≡ is_nil (vals_tokens (vals_view values.now)) }
-{
-    for value in values.as_slice() {
-        if !holds_no_token(value) {
-            return false;
-        }
-    }
-    true
-}
-
-#[cycle(holds_no_token)]
-#[tactic(auto, using(crate::proofs::Faults::is_nil_append))]
-fn entries_hold_no_token(entries: &Items<(Value, Value)>) -> bool
-    ensures { result ≡ is_nil (entries_tokens (entries_view entries.now)) }
-{
-    for entry in entries.as_slice() {
-        if !holds_no_token(&entry.0) || !holds_no_token(&entry.1) {
-            return false;
-        }
-    }
-    true
-}
-
 /// Whether the value fits the shape and holds no token.
 pub(crate) fn is_template(table: &ShapeTable, id: ShapeId, template: &Template) -> bool
     ensures { result ≡ is_template table.now id.0 template.now }
 {
     let v = template.value();
-    fits(table, id, v) && holds_no_token(v)
+    fits(table, id, v) && v.holds_no_token()
 }
 
 fn default_is_template(table: &ShapeTable, id: ShapeId, default: &Option<DefaultSource>) -> bool

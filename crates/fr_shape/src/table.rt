@@ -1,8 +1,9 @@
 //! The table of all shapes, which ids are numbers in.
 ghost use Rattle.std.specs.Prelude.{◌≡◌, ◌↔◌, ◌≤◌, length, slice_get, IsNone, OnSome};
-ghost use Rattle.std.specs.Option.{option_copied};
+ghost use Rattle.std.specs.Option.{option_and_then, option_copied};
 ghost use Rattle.fr_shape.specs.Fills.{preset_of};
 ghost use Rattle.fr_shape.specs.Look.{field_at};
+ghost use Rattle.fr_shape.specs.Named.{first_declared, named_field};
 
 use crate::{Def, Field, FieldRef, Items, Shape, ShapeId, Template};
 use std::alloc::Global;
@@ -104,4 +105,23 @@ impl ShapeTable {
             ) => None,
         }
     }
+    /// A struct's field by the name that it was declared with: the one that `begin_field` of the
+    /// name enters. No field is found by its `rename` or `alias`.
+    pub fn field_named(&self, shape: ShapeId, name: &str) -> Option<&Field>
+        ensures field { option_copied result ≡ named_field self.now shape.0 name.now }
+    {
+        let Def::Struct(described) = &self.get(shape)?.def else {
+            return None;
+        };
+        first_declared(described.fields.as_slice(), name)
+    }
+}
+
+/// The first field that is declared under this name.
+#[tactic(auto, using(crate::proofs::FirstDeclared::first_found))]
+fn first_declared<'a>(fields: &'a [Field], name: &str) -> Option<&'a Field>
+    ensures { option_copied result
+        ≡ option_and_then (slice_get fields.now) (first_declared name.now 0 fields.now) }
+{
+    fields.iter().find(|field| field.name.as_str() == name)
 }

@@ -2,7 +2,7 @@ use Rattle.std.proofs.Common.{◌≡◌, drop}
 use Rattle.fr_shape.specs.View.{vals_view, entries_view}
 use Rattle.fr_shape.specs.Tokens.{vals_tokens, entries_tokens}
 use Rattle.fr_shape.specs.Lists.{is_nil}
-use Rattle.fr_shape.proofs.parts.+holds_no_token.Given as goal
+use Rattle.fr_shape.proofs.value.+holds_no_token.Given as goal
 
 abbrev pub invariant-hold_no_token-loop-value : goal.invariant-hold_no_token-loop-value
 invariant-hold_no_token-loop-value l =
