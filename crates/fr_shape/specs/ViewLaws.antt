@@ -3,9 +3,11 @@ use Rattle.std.specs.Prelude.{◌≡◌, ℕ, ℤ, Bool, List}
 use Rattle.std.specs.declared.alloc.Global.{Global}
 use Rattle.std.specs.declared.boxed.Box.{Box}
 use mathlib.Core.Path.{ap, sym, ◌∙◌}
+use Rattle.fr_shape.specs.declared.value.Value
 use Rattle.fr_shape.specs.declared.value.Value.{Value, fold-roll-Value}
 use Rattle.fr_shape.specs.declared.value.Value.TheVariants.{rolls-Unit, rolls-Bool, rolls-Char, rolls-Int, rolls-Nat, rolls-Text, rolls-Token, rolls-Product, rolls-Variant, rolls-None, rolls-Some, rolls-Ok, rolls-Err, rolls-List, rolls-Map, rolls-Set, rolls-Ptr, rolls-Dyn}
 use Rattle.fr_shape.specs.declared.value.Value.TheOpen.{Value-F}
+use Rattle.fr_shape.specs.declared.value.Dyn
 use Rattle.fr_shape.specs.declared.value.Dyn.{Dyn, fold-roll-Dyn}
 use Rattle.fr_shape.specs.declared.value.Dyn.TheVariants.{rolls-Null as rolls-dyn-Null, rolls-Bool as rolls-dyn-Bool, rolls-Int as rolls-dyn-Int, rolls-Nat as rolls-dyn-Nat, rolls-Text as rolls-dyn-Text, rolls-Bytes as rolls-dyn-Bytes, rolls-Array as rolls-dyn-Array, rolls-Object as rolls-dyn-Object}
 use Rattle.fr_shape.specs.declared.value.Dyn.TheOpen.{Dyn-F}

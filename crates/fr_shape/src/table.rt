@@ -1,9 +1,11 @@
 //! The table of all shapes, which ids are numbers in.
 ghost use Rattle.std.specs.Prelude.{◌≡◌, ◌↔◌, ◌≤◌, length, slice_get, IsNone, OnSome};
-ghost use Rattle.std.specs.Option.{option_and_then, option_copied};
+ghost use Rattle.std.specs.List.{find};
+ghost use Rattle.std.specs.Option.{option_copied};
+ghost use Rattle.std.specs.Str.{bytes_eq};
 ghost use Rattle.fr_shape.specs.Fills.{preset_of};
 ghost use Rattle.fr_shape.specs.Look.{field_at};
-ghost use Rattle.fr_shape.specs.Named.{first_declared, named_field};
+ghost use Rattle.fr_shape.specs.Named.{named_field};
 
 use crate::{Def, Field, FieldRef, Items, Shape, ShapeId, Template};
 use std::alloc::Global;
@@ -118,10 +120,8 @@ impl ShapeTable {
 }
 
 /// The first field that is declared under this name.
-#[tactic(auto, using(crate::proofs::FirstDeclared::first_found))]
 fn first_declared<'a>(fields: &'a [Field], name: &str) -> Option<&'a Field>
-    ensures { option_copied result
-        ≡ option_and_then (slice_get fields.now) (first_declared name.now 0 fields.now) }
+    ensures { option_copied result ≡ find (λ field. bytes_eq field.name name.now) fields.now }
 {
     fields.iter().find(|field| field.name.as_str() == name)
 }
