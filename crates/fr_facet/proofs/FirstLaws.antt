@@ -1,12 +1,17 @@
 -- The first shape that passes a test, by its number in the whole table and as an id can name it.
-use Rattle.std.proofs.Common.{◌≡◌, ℕ, ◌+◌, ◌^◌, suc, zero, min, Bool, true, false, cond, not, [], ◌∷◌, length, take, nat_lt, Some, None, arith}
+use Rattle.std.proofs.Common.{◌≡◌, ℕ, ◌+◌, ◌^◌, suc, zero, min, Bool, true, false, cond, not, [], ◌∷◌, length, take, nat_lt, Option, Some, None, IfSome, sym, arith}
 use Rattle.std.specs.List.{position, prefix_len}
-use Rattle.std.specs.Option.{option_and_then}
+use Rattle.std.specs.Option.{option_and_then, option_map}
 use Rattle.std.proofs.lemmas.Bool.Decides.{nat_tests}
 use Rattle.std.proofs.lemmas.List.{length-take}
+use Rattle.std.proofs.lemmas.List.Quantifiers.{position-Some}
+use Rattle.fr_shape.specs.declared.shape.Def.{Def}
 use Rattle.fr_shape.specs.declared.shape.Shape.{Shape}
-use Rattle.fr_shape.specs.Look.{Table}
-use Rattle.fr_facet.specs.Nameable.{nameable, named_by}
+use Rattle.fr_shape.specs.declared.shape.ShapeId.{ShapeId}
+use Rattle.fr_shape.specs.Look.{IsIn, Table}
+use Rattle.fr_shape.specs.Plain.{plain_shape}
+use Rattle.fr_facet.specs.Facets.{first_own}
+use Rattle.fr_facet.specs.Nameable.{nameable, named_by, within_table}
 
 one_more : (passes : Bool) (all few n : ℕ) → few ≡ min all n
     → cond passes (1 + few) 0 ≡ min (cond passes (1 + all) 0) (suc n)
@@ -33,3 +38,11 @@ first_within p n table =
 pub first_named : (p : Shape → Bool) (table : Table) → option_and_then named_by (position p table) ≡ position p (nameable table)
 unfolding nameable
 first_named p table = first_within p (2 ^ 32) table
+
+-- and it is one of the table
+pub first_inside : (is_own : Table → Def → Bool) (table : Table) (found : Option ShapeId)
+    → option_map (λ (id : ShapeId). id.0) found ≡ first_own is_own table → IfSome found (λ (id : ShapeId). IsIn table id.0)
+first_inside is_own table None is = tt
+first_inside is_own table (Some id) is =
+    let first = position-Some (λ (shape : Shape). is_own table shape.def) (nameable table) id.0 (plain_shape [] Def.Other) (sym is) in
+    within_table table id.0 first.0

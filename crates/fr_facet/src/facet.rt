@@ -1,9 +1,9 @@
 //! The trait of the types that a builder takes and returns.
-ghost use Rattle.std.specs.Prelude.{◌≡◌, ℕ, Bool, true, Some, option_map, IfOk, OnOk, OnErr};
+ghost use Rattle.std.specs.Prelude.{◌≡◌, ℕ, Bool, true, Some, option_map, IfOk, IfSome, OnOk, OnErr};
 ghost use Rattle.fr_shape.specs.declared.shape.Def.{Def};
 ghost use Rattle.fr_shape.specs.declared.shape.ShapeId.{ShapeId as Id};
 ghost use Rattle.fr_shape.specs.Fits.{fits};
-ghost use Rattle.fr_shape.specs.Look.{Table};
+ghost use Rattle.fr_shape.specs.Look.{IsIn, Table};
 ghost use Rattle.fr_shape.specs.Released.{Room, RoseBy};
 ghost use Rattle.fr_shape.specs.Tokens.{occurs};
 ghost use Rattle.fr_shape.specs.Val.{Val};
@@ -53,7 +53,8 @@ pub trait Facet: Sized {
     /// The first shape of the table whose definition is the type's own. It looks through the table
     /// once for the type, and once for each part of the type.
     fn find(table: &ShapeTable) -> Option<ShapeId>
-        ensures first { option_map (λ (id : Id). id.0) result ≡ first_own is_own table.now };
+        ensures first { option_map (λ (id : Id). id.0) result ≡ first_own is_own table.now }
+        ensures inside { IfSome result (λ (id : Id). IsIn table.now id.0) };
 
     /// The value that the element is.
     fn into_value(self, alloc: Global, ledger: &mut Ledger) -> Result<Value, OutOfMemory>

@@ -1,7 +1,8 @@
 //! Looking for a type's own definition in a table.
-ghost use Rattle.std.specs.Prelude.{◌≡◌, ◌||◌, nat_eq, option_map, option_and_then, position, Some, false};
+ghost use Rattle.std.specs.Prelude.{◌≡◌, ◌||◌, nat_eq, option_map, option_and_then, position, IfSome, Some, false};
 ghost use Rattle.fr_shape.specs.declared.shape.Shape.{Shape as OneShape};
 ghost use Rattle.fr_shape.specs.declared.shape.ShapeId.{ShapeId as Id};
+ghost use Rattle.fr_shape.specs.Look.{IsIn};
 ghost use Rattle.fr_facet.specs.Facets.{first_own};
 ghost use Rattle.fr_facet.specs.Nameable.{named_by};
 ghost use Rattle.fr_facet.specs.Own.{is_box, is_box_of, is_list_of, is_opaque, is_option_of, is_result_of, is_scalar_of, is_wanted, kind_number};
@@ -21,8 +22,9 @@ pub(crate) enum Wanted {
 
 /// The first shape of this definition.
 pub(crate) fn find_first(table: &ShapeTable, wanted: Wanted) -> Option<ShapeId>
-    ensures { option_map (λ (id : Id). id.0) result
+    ensures first { option_map (λ (id : Id). id.0) result
         ≡ first_own (λ _ def. is_wanted wanted def) table.now }
+    ensures inside { IfSome result (λ (id : Id). IsIn table.now id.0) }
 {
     id_of(first_wanted(table.as_slice(), wanted))
 }

@@ -1,11 +1,11 @@
 //! Structs of the caller's own: their shape in a table, and the way between their parts and the
 //! value that they are.
-ghost use Rattle.std.specs.Prelude.{◌≡◌, ◌&&◌, ℕ, [], ◌∷◌, List, Option, Bool, true, reverse, IfOk, OnOk, OnErr, option_map, position, ⊤};
+ghost use Rattle.std.specs.Prelude.{◌≡◌, ◌&&◌, ℕ, [], ◌∷◌, List, Option, Bool, true, reverse, IfOk, IfSome, OnOk, OnErr, option_map, position, ⊤};
 ghost use Rattle.fr_shape.specs.declared.shape.Field.{Field as OneField};
 ghost use Rattle.fr_shape.specs.declared.shape.Shape.{Shape as OneShape};
 ghost use Rattle.fr_shape.specs.declared.shape.ShapeId.{ShapeId as Id};
 ghost use Rattle.fr_shape.specs.Fits.{fields_fit};
-ghost use Rattle.fr_shape.specs.Look.{Table};
+ghost use Rattle.fr_shape.specs.Look.{IsIn, Table};
 ghost use Rattle.fr_shape.specs.Released.{Room, RoseBy};
 ghost use Rattle.fr_shape.specs.Tokens.{occurs, vals_occur};
 ghost use Rattle.fr_shape.specs.Val.{Vals, first, no_vals, product};
@@ -28,6 +28,7 @@ use std::alloc::Global;
 pub fn find_struct(table: &ShapeTable, fields: &[(&str, Option<ShapeId>)]) -> Option<ShapeId>
     ensures first { option_map (λ (id : Id). id.0) result
         ≡ first_own (λ _ def. is_struct_of (names_of fields.now) def) table.now }
+    ensures inside { IfSome result (λ (id : Id). IsIn table.now id.0) }
 {
     id_of(first_struct(table.as_slice(), fields))
 }

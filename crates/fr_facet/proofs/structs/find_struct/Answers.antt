@@ -1,10 +1,18 @@
-use Rattle.std.proofs.Common.{rules, sym}
+use Rattle.std.proofs.Common.{◌≡◌, rules, sym}
+use Rattle.std.specs.Option.{option_map}
 use Rattle.fr_shape.specs.declared.shape.Shape.{Shape}
+use Rattle.fr_shape.specs.declared.shape.ShapeId.{ShapeId}
+use Rattle.fr_facet.specs.Facets.{first_own}
 use Rattle.fr_facet.specs.Structs.{is_struct_of, names_of}
-use Rattle.fr_facet.proofs.FirstLaws.{first_named}
+use Rattle.fr_facet.proofs.FirstLaws.{first_inside, first_named}
 use Rattle.fr_facet.proofs.structs.find_struct.Goals as goal
 
 pub returns : goal.returns
 returns c =
     let law = first_named (λ (shape : Shape). is_struct_of (names_of c.args.fields.now) shape.def) c.args.table.now in
-    record { first = rw (sym law) (search rules) }
+    let first : option_map (λ (id : ShapeId). id.0) c.id_of.result ≡ first_own (λ _ def. is_struct_of (names_of c.args.fields.now) def) c.args.table.now =
+    rw (sym law) (search rules) in
+    record {
+      first = first;
+      inside = first_inside (λ _ def. is_struct_of (names_of c.args.fields.now) def) c.args.table.now _ first;
+    }
