@@ -38,12 +38,10 @@ fn byte(alloc: Global) -> Result<Shape, OutOfMemory> {
 
 /// A struct whose field takes the default of its shape where it is left unset.
 fn dimmed(alloc: Global) -> Result<Shape, OutOfMemory> {
-    let level = Field::new(alloc, Text::new(alloc, "level")?, BYTE);
+    let level = Field::of(alloc, "level", BYTE)?;
     let marked = level.with_default(DefaultSource::FromTrait);
     let fields = Items::from_vec(vec![in alloc; marked]?);
-    let kind = StructKind::Struct;
-    let def = Def::Struct(StructDef { kind, fields });
-    Ok(Shape::new(alloc, Text::new(alloc, "Dimmed")?, def))
+    Shape::struct_with(alloc, "Dimmed", fields)
 }
 
 /// A shape by each call, the scalars u8 and char first.
@@ -109,6 +107,10 @@ fn a_table_of_five_lines_passes(rt: HostRuntime) {
         (4, r#"["a.example",443,{"l":[]}]"#, false),
     ] {
         check_fit(&rt, alloc, &table, row);
+    }
+    for (shape, name, below) in [(4, "port", Some(3)), (4, "Port", None), (0, "port", None)] {
+        let found = table.field_named(ShapeId(shape), name);
+        assert!(rt; found.map(|field| field.shape.0) == below);
     }
 }
 
