@@ -107,6 +107,7 @@ impl ShapeTable {
             ) => None,
         }
     }
+
     /// A struct's field by the name that it was declared with: the one that `begin_field` of the
     /// name enters. No field is found by its `rename` or `alias`.
     pub fn field_named(&self, shape: ShapeId, name: &str) -> Option<&Field>
