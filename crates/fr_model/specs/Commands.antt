@@ -1,6 +1,6 @@
 -- Calls of the builder as plain data.
-use Rattle.std.specs.Prelude.{◌∷◌}
-use Rattle.fr_model.specs.Common.{ℕ, ℤ, List, [], map, Option, Val}
+use Rattle.fr_model.specs.Common.{ℕ, ℤ, List, map, Option, Val}
+use Rattle.fr_model.specs.Each.{Each}
 use Rattle.fr_shape.specs.View.{view}
 use Rattle.fr_model.specs.declared.command.Command.{Command}
 
@@ -91,6 +91,6 @@ IsFieldCall Call.BeginDeferred = Unit {0}
 IsFieldCall Call.FinishDeferred = Unit {0}
 IsFieldCall _ = ⊥
 
+-- a field script: each of its calls is one of these
 abbrev pub IsFieldScript : List Call → Type 0
-IsFieldScript [] = Unit {0}
-IsFieldScript (command ∷ commands) = IsFieldCall command × IsFieldScript commands
+IsFieldScript script = Each IsFieldCall script

@@ -12,6 +12,7 @@ pub mod Dropping
 pub mod DueNotes
 pub mod DynamicPlaces
 pub mod Dynamics
+pub mod Each
 pub mod Entering
 pub mod Failing
 pub mod FailingLaws

@@ -2,6 +2,7 @@
 use Rattle.std.specs.Prelude.{◌≡◌, ◌+◌, ◌<◌, ◌≤◌, ◌∷◌}
 use Rattle.fr_model.specs.Common.{ℕ, true, List, [], slice_index, length, Option, Some, None, Table, IsIn, fits, tokens, occurs, Val}
 use Rattle.fr_model.specs.Commands.{Call}
+use Rattle.fr_model.specs.Each.{Each}
 
 -- the value that a call brings, with the shape that it names: `set` brings its value, every other call nothing
 abbrev pub value_brought : Call → Option (ℕ × Val)
@@ -35,13 +36,13 @@ abbrev pub brought : List Call → ℕ → ℕ
 brought [] t = 0
 brought (command ∷ commands) t = brings command t + brought commands t
 
--- a command, or a script, is fitting: what it brings fits the shape that it names
+-- a command is fitting: what it brings fits the shape that it names
 abbrev pub IsFitting : Table → Call → Type 0
 IsFitting table command = FitsIfAny table (value_brought command)
 
+-- each call of a script is fitting
 abbrev pub AllFitting : Table → List Call → Type 0
-AllFitting table [] = Unit {0}
-AllFitting table (command ∷ commands) = IsFitting table command × AllFitting table commands
+AllFitting table script = Each (IsFitting table) script
 
 -- A valid script: every value fits the shape that it names, and each of its tokens is brought once, is one of the
 -- ledger's, and was never released.

@@ -6,6 +6,7 @@ pub mod Kept
 pub mod Led
 pub mod Looks
 pub mod Marks
+pub mod Parts
 pub mod Paths
 pub mod Ranges
 pub mod Reached

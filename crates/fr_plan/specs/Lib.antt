@@ -7,6 +7,7 @@ pub mod LookupLaws
 pub mod Lookups
 pub mod Names
 pub mod Nodes
+pub mod PartLaws
 pub mod PathLaws
 pub mod PlanLaws
 pub mod Plans

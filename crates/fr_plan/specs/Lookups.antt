@@ -1,6 +1,6 @@
 -- What is looked up in a plan. A node that refers back stands for the own node of its shape; a child is looked up by the kind
 -- of the node that is stood for, and there is none where that kind has no such child.
-use Rattle.std.specs.Prelude.{ℕ, Bool, true, false, slice_get, Option, Some, None, unwrap_or, if◌then◌else◌}
+use Rattle.std.specs.Prelude.{ℕ, Bool, true, false, List, slice_get, Option, Some, None, unwrap_or, if◌then◌else◌}
 use Rattle.std.specs.Option.{option_map, option_and_then}
 use Rattle.fr_arena.specs.Ranges.{Range}
 use Rattle.fr_rules.specs.Pools.{part_of}
@@ -167,3 +167,19 @@ result_sides plan parent = both (result_ok plan parent) (result_err plan parent)
 -- the same of a node by its number
 abbrev pub by_id : {X : Type 0} → Plan → (TypePlanNode → Option X) → NodeId → Option X
 by_id plan looks_up id = option_and_then looks_up (node_at plan id)
+
+-- What is read of a struct, or of the variant of an enum that is selected, by the number of its node.
+
+-- the plan of the variant that is selected, if one is
+abbrev pub variant_plan_at : Plan → (selected : Option ℕ) → NodeId → Option VariantPlanMeta
+variant_plan_at plan (Some k) id = by_id plan (λ node. enum_variant plan node k) id
+variant_plan_at plan None id = None
+
+-- where the plans of its fields lie: those of the variant that is selected, or of a struct
+abbrev pub field_range_at : Plan → (selected : Option ℕ) → NodeId → Option Range
+field_range_at plan (Some k) id = option_map (λ (variant : VariantPlanMeta). variant.fields) (variant_plan_at plan (Some k) id)
+field_range_at plan None id = option_map (λ (struct : StructPlan). struct.fields) (by_id plan (struct_plan_at plan) id)
+
+-- the plans of its fields
+abbrev pub field_plans_at : Plan → (selected : Option ℕ) → NodeId → Option (List FieldPlan)
+field_plans_at plan selected id = option_map (part_of plan.lists.fields) (field_range_at plan selected id)

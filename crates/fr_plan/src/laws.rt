@@ -1,5 +1,6 @@
 //! Laws of plans: each is the contract of a function that does nothing.
 ghost use Rattle.fr_plan.specs.LookupLaws.{BackReferencesResolve, LookupPathsAgree, LookupsAgree};
+ghost use Rattle.fr_plan.specs.PartLaws.{PlansHaveOwnNodes, PlansHaveTheirParts};
 ghost use Rattle.fr_plan.specs.PathLaws.{PathsAgree};
 ghost use Rattle.fr_plan.specs.PlanLaws.{PlansAreComplete};
 ghost use Rattle.fr_plan.specs.ReachLaws.{NodesAreReached, ReachedHaveNodes};
@@ -47,4 +48,12 @@ pub fn law_plan_lookups()
 pub fn law_plan_reach()
     ensures reached { NodesAreReached }
     ensures nodes { ReachedHaveNodes }
+{}
+
+/// Over a checked table a plan has all that it lends: ranges of fields, variants and validators
+/// that are read of it lie inside its lists, lookups are of its pool, and nodes are its own. So
+/// they can be handed to `fields`, `variants`, `validators`, `node` and `FieldLookup::find`.
+pub fn law_plan_parts()
+    ensures parts { PlansHaveTheirParts }
+    ensures own { PlansHaveOwnNodes }
 {}

@@ -19,8 +19,8 @@ mod variants;
 mod walking;
 
 pub use laws::{
-    law_first_refusal, law_plan_complete, law_plan_lookups, law_plan_paths, law_plan_reach,
-    law_plan_size,
+    law_first_refusal, law_plan_complete, law_plan_lookups, law_plan_parts, law_plan_paths,
+    law_plan_reach, law_plan_size,
 };
 pub use nodes::{DeserStrategy, NodeId, ProxyNodes, TypePlanNode, TypePlanNodeKind};
 pub use plans::{
